@@ -1,1 +1,9 @@
 pub mod Examples
+pub mod Runs
+pub mod Loops
+pub mod Gaps
+pub mod Sound
+pub mod Turns
+pub mod Complete
+pub mod FaultLemmas
+pub mod Answered

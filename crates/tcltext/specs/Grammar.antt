@@ -5,9 +5,16 @@ use Rattle.tcltext.specs.Tree.{Text, Part, literal, Word, Command, Script}
 
 -- what a comment holds: no newline but behind a backslash, which is passed over with the byte after it
 pub data IsComment : Text → Type 0 where
-  no_more : IsComment []
+  ends : IsComment []
   other : {b : ℕ} {bs : Text} → b ≢ backslash → b ≢ newline → IsComment bs → IsComment (b ∷ bs)
   escaped : {b : ℕ} {bs : Text} → IsComment bs → IsComment (backslash ∷ (b ∷ bs))
+
+-- what a comment holds that no newline ends: here a backslash may be the last byte
+pub data IsOpenComment : Text → Type 0 where
+  no_more : IsOpenComment []
+  other : {b : ℕ} {bs : Text} → b ≢ backslash → b ≢ newline → IsOpenComment bs → IsOpenComment (b ∷ bs)
+  escaped : {b : ℕ} {bs : Text} → IsOpenComment bs → IsOpenComment (backslash ∷ (b ∷ bs))
+  backslash_alone : IsOpenComment (backslash ∷ [])
 
 -- what stands before a command's first word: white space, ends of commands, and comments that end at a newline
 pub data IsGap : Text → Type 0 where
@@ -15,11 +22,10 @@ pub data IsGap : Text → Type 0 where
   space : {b : ℕ} {bs : Text} → is_gap b ≡ true → IsGap bs → IsGap (b ∷ bs)
   comment : {inside bs : Text} → IsComment inside → IsGap bs → IsGap (hash ∷ (inside ++ newline ∷ bs))
 
--- the rest of a text behind its last command: a gap, then maybe a comment up to the text's end, where a backslash may stand alone
+-- what stands behind the last command: a gap, then maybe a comment up to the text's end
 pub data IsLastGap : Text → Type 0 where
   closed : {bs : Text} → IsGap bs → IsLastGap bs
-  open_comment : {gap inside : Text} → IsGap gap → IsComment inside → IsLastGap (gap ++ hash ∷ inside)
-  backslash_at_end : {gap inside : Text} → IsGap gap → IsComment inside → IsLastGap (gap ++ hash ∷ (inside ++ backslash ∷ []))
+  open_comment : {gap inside : Text} → IsGap gap → IsOpenComment inside → IsLastGap (gap ++ hash ∷ inside)
 
 -- the text is a first, a second and a third part
 pub record Parted (bs : Text) (First Second Third : Text → Type 0) : Type 0 where

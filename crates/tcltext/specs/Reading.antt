@@ -1,5 +1,5 @@
 -- The tree or the fault of a text, as a function that computes. The law script_of_grammar ties it to the grammar.
-use Rattle.std.specs.Prelude.{◌≡◌, ℕ, zero, suc, ◌-◌, List, [], ◌∷◌, ◌++◌, length, Bool, true, false, not, ◌||◌, ◌==◌, nat_lt, if◌then◌else◌, Result, Ok, Err}
+use Rattle.std.specs.Prelude.{◌≡◌, ℕ, zero, suc, ◌-◌, List, [], ◌∷◌, ◌++◌, length, Bool, true, false, not, ◌==◌, nat_lt, if◌then◌else◌, Result, Ok, Err}
 use Rattle.tcltext.specs.Bytes.{newline, hash, backslash, is_blank, is_end, is_gap, is_plain}
 use Rattle.tcltext.specs.Tree.{Text, Part, literal, Word, Command, Script}
 use Rattle.tcltext.specs.Faults.{max_bytes}
@@ -42,11 +42,19 @@ abbrev pub back : (ℕ → Bool) → Text → Text
 back p [] = []
 back p (b ∷ bs) = if p b then back p bs else b ∷ bs
 
--- what follows a comment, from behind its first byte; the flag says that the next byte is escaped
+-- in a comment, whether a byte ends it, and whether it escapes the next byte; the flag says that it is escaped itself
+abbrev pub ends_comment : Bool → ℕ → Bool
+ends_comment true b = false
+ends_comment false b = b == newline
+
+abbrev pub escapes_next : Bool → ℕ → Bool
+escapes_next true b = false
+escapes_next false b = b == backslash
+
+-- what follows a comment, from behind its first byte
 abbrev pub after_comment : Bool → Text → Text
 after_comment escaped [] = []
-after_comment true (b ∷ bs) = after_comment false bs
-after_comment false (b ∷ bs) = if b == newline then bs else after_comment (b == backslash) bs
+after_comment escaped (b ∷ bs) = if ends_comment escaped b then bs else after_comment (escapes_next escaped b) bs
 
 -- what follows a gap: white space, ends of commands and comments. The number bounds the comments: one more than the length is enough
 abbrev pub after_hash : (Text → Text) → Text → Text
@@ -57,8 +65,13 @@ abbrev pub gap_at : ℕ → Text → Text
 gap_at zero bs = bs
 gap_at (suc n) bs = after_hash (gap_at n) (back is_gap bs)
 
-abbrev pub after_gap : Text → Text
+unfoldable pub after_gap : Text → Text
 after_gap bs = gap_at (suc (length bs)) bs
+
+-- the first byte is this one
+abbrev pub begins : ℕ → Text → Bool
+begins mark [] = false
+begins mark (b ∷ bs) = b == mark
 
 abbrev pub word_ends : Text → Bool
 word_ends [] = true
@@ -88,7 +101,7 @@ items_step one more bs false = do
   read_map (λ xs. x.0 ∷ xs) (more x.1)
 
 abbrev pub items_at : {X : Type 0} → (Text → Text) → (Text → Bool) → (Text → Read X) → ℕ → Text → Read (List X)
-items_at skip ends one zero bs = Ok ([], bs)
+items_at skip ends one zero bs = Err (marks.BadCharacter 0)
 items_at skip ends one (suc n) bs = items_step one (items_at skip ends one n) (skip bs) (ends (skip bs))
 
 -- a bare word, and what follows it
@@ -104,6 +117,10 @@ command_at bs = items_at (back is_blank) command_ends word_at (suc (length bs)) 
 
 unfoldable pub script_at : Text → Result Script Fault
 script_at bs = items_at after_gap script_ends command_at (suc (length bs)) bs >>= (λ x. Ok x.0)
+
+-- how many bytes there are from the mark on
+abbrev pub left_of : Fault → ℕ
+left_of (marks.BadCharacter left) = left
 
 -- the fault of a text of that length
 abbrev pub placed : ℕ → Fault → TextFault

@@ -8,8 +8,14 @@ ghost use Rattle.tcltext.specs.Faults.{fault_number};
 use std::alloc::{AllocError, AllocFailed};
 use thiserror::Error;
 
+mod bytes;
+mod laws;
+mod reading;
+#[cfg(test)]
+mod tests;
 mod text;
 
+pub use laws::{first_bad_character, one_script, script_of_grammar};
 pub use text::parse_script;
 
 /// A script: its commands, in order.

@@ -4,10 +4,11 @@ ghost use Rattle.tcltext.specs.Tree.{Script as Tree};
 ghost use Rattle.tcltext.specs.View.{script_view};
 ghost use Rattle.tcltext.specs.Grammar.{IsScript};
 ghost use Rattle.tcltext.specs.Faults.{IsTextFault, max_bytes};
-ghost use Rattle.tcltext.specs.Reading.{Reads, script_of};
+ghost use Rattle.tcltext.specs.Reading.{Reads, script_of, left_of, placed};
 ghost use Rattle.tcltext.specs.declared.TextFault.TheVariants.{OutOfMemory};
 
-use crate::{Script, TextFault};
+use crate::reading::read_script;
+use crate::{Fault, ReadError, Script, TextFault};
 use std::alloc::Global;
 
 /// Parses a script by the rules of Tcl(n), as far as commands, comments and bare words go. The tree's parts are slices of
@@ -30,6 +31,22 @@ pub fn parse_script(alloc: Global, text: &str) -> Result<Script<'_>, TextFault>
     // The result is the tree or the fault that the definition computes, unless memory runs out.
     ensures read { Reads result (script_of text.now) }
 {
-    Err(TextFault::OutOfMemory)
+    if text.len() > 1_048_576 {
+        return Err(TextFault::TooLong);
+    }
+    match read_script(alloc, text) {
+        Ok(script) => Ok(script),
+        Err(ReadError::Memory) => Err(TextFault::OutOfMemory),
+        Err(ReadError::Fault(fault)) => Err(place(fault, text.len())),
+    }
 }
 
+// The fault of a text of that length.
+fn place(fault: Fault, len: usize) -> TextFault
+    requires { left_of fault ≤ len }
+    ensures { result ≡ placed len fault }
+{
+    match fault {
+        Fault::BadCharacter(left) => TextFault::BadCharacter(len - left),
+    }
+}

@@ -1,0 +1,84 @@
+use super::*;
+use std::process::Abort;
+use std::test::Fail;
+
+// The number of commands, and the text of one word.
+fn assert_word(
+    rt: &impl Abort,
+    script: &Script,
+    commands: usize,
+    command: usize,
+    word: usize,
+    text: &str,
+) {
+    assert_eq!(rt; script.commands.len(), commands);
+    let parts = script
+        .commands
+        .get(command)
+        .and_then(|c| c.words.get(word))
+        .map(|w| w.parts.as_slice());
+    assert!(rt;
+        matches!(parts, Some([Part::Literal(t)]) if *t == text),
+        "{text}"
+    );
+}
+
+#[test]
+fn commands(rt: HostRuntime) -> Result<(), Fail> {
+    let text = "  #%Module1.0\n;\tset a;# b ;c \\\n d\n  puts b#c\x0b e\r\n# f \\\\\n#g\\";
+    let script = parse_script(rt.alloc(), text)?;
+    assert_word(&rt, &script, 2, 0, 0, "set");
+    assert_word(&rt, &script, 2, 0, 1, "a");
+    assert_word(&rt, &script, 2, 1, 1, "b#c");
+    assert_word(&rt, &script, 2, 1, 2, "e");
+    assert_eq!(rt;
+        script.commands.iter().map(|c| c.words.len()).sum::<usize>(),
+        5
+    );
+    Ok(())
+}
+
+#[test]
+fn comments_and_places(rt: HostRuntime) {
+    assert!(rt;
+        matches!(
+            parse_script(rt.alloc(), "# {\\\n}\nset \u{e9} [x]"),
+            Err(TextFault::BadCharacter(14))
+        )
+    );
+    assert!(rt;
+        matches!(
+            parse_script(rt.alloc(), "# {\\\\\n}"),
+            Err(TextFault::BadCharacter(6))
+        )
+    );
+    assert!(rt;
+        matches!(
+            parse_script(rt.alloc(), "a \\\nb"),
+            Err(TextFault::BadCharacter(2))
+        )
+    );
+    assert!(rt;
+        matches!(
+            parse_script(rt.alloc(), "a #\"b"),
+            Err(TextFault::BadCharacter(3))
+        )
+    );
+    assert_eq!(rt; TextFault::BadCharacter(3).number(), 7);
+}
+
+// 524,288 words, and one byte more than a text may have.
+#[test]
+fn limit(rt: HostRuntime) -> Result<(), Fail> {
+    let mut text = "a ".repeat(rt.alloc(), 524_288)?;
+    assert_eq!(rt;
+        parse_script(rt.alloc(), &text)?
+            .commands
+            .first()
+            .map(|c| c.words.len()),
+        Some(524_288)
+    );
+    text.push('$')?;
+    assert!(rt; matches!(parse_script(rt.alloc(), &text), Err(TextFault::TooLong)));
+    Ok(())
+}
