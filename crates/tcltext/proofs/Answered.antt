@@ -1,14 +1,14 @@
 -- What a text is answered.
-use Rattle.std.proofs.Common.{◌≡◌, ◌≢◌, ◌↔◌, ℕ, zero, suc, ◌+◌, ◌-◌, ◌<◌, ◌≤◌, List, [], ◌∷◌, ◌++◌, length, take, Bool, true, false, nat_lt, if◌then◌else◌, Result, Ok, Err, MatchResult, refl, sym, ap, subst, ◌∙◌, arith, append_assoc, append-nil, length-append, inl, inr}
+use Rattle.std.proofs.Common.{◌≡◌, ◌≢◌, ◌↔◌, ℕ, suc, ◌+◌, ◌-◌, ◌<◌, ◌≤◌, [], ◌∷◌, ◌++◌, length, take, Bool, true, false, nat_lt, Result, Ok, Err, refl, sym, ap, subst, ◌∙◌, arith, append_assoc, append-nil, length-append}
 use Rattle.std.proofs.lemmas.Bool.Decides.{nat_tests}
 use Rattle.std.proofs.Math.Seq.{take-append_seam, take-append-add}
 use Rattle.tcltext.specs.declared.Fault.{Fault}
 use Rattle.tcltext.specs.declared.Fault.TheVariants as marks
 use Rattle.tcltext.specs.declared.TextFault.{TextFault}
 use Rattle.tcltext.specs.declared.TextFault.TheVariants.{OutOfMemory, OpenBrace, OpenQuote, OpenBracket, JoinedToClose, TooDeep, BadCharacter, BadExpression, TooLong}
-use Rattle.tcltext.specs.Bytes.{is_end, is_special, MayBegin, DoesBegin}
-use Rattle.tcltext.specs.Tree.{Text, Command, Script}
-use Rattle.tcltext.specs.Grammar.{IsGap, nothing, IsLastGap, closed, IsCommand, IsScript}
+use Rattle.tcltext.specs.Bytes.{is_end, MayBegin, DoesBegin}
+use Rattle.tcltext.specs.Tree.{Text, Script}
+use Rattle.tcltext.specs.Grammar.{nothing, closed, IsScript}
 use Rattle.tcltext.specs.Faults.{IsOutside, in_gap, in_command, behind, IsBadAt, IsTextFault, max_bytes}
 use Rattle.tcltext.specs.Reading.{script_at, left_of, placed, answer_of, script_of, Reads}
 use Rattle.tcltext.proofs.Sound.{sound}

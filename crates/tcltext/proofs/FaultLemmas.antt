@@ -1,17 +1,17 @@
 -- What is wrong with a text, and what reading says of it.
-use Rattle.std.proofs.Common.{◌≡◌, ◌≢◌, ℕ, zero, suc, ◌+◌, ◌-◌, ◌<◌, ◌≤◌, List, [], ◌∷◌, ◌++◌, length, Bool, true, false, not, ◌||◌, ◌==◌, Result, Ok, Err, refl, sym, ap, ap₂, subst, ◌∙◌, arith, append_assoc, append-nil, length-append, ◌⊎◌, inl, inr}
+use Rattle.std.proofs.Common.{◌≡◌, ℕ, zero, suc, ◌<◌, [], ◌∷◌, ◌++◌, length, Bool, true, false, not, Result, Ok, Err, refl, sym, ap, subst, ◌∙◌, arith, append_assoc, append-nil, length-append, ◌⊎◌, inl, inr}
 use Rattle.std.proofs.lemmas.Bool.Decides.{nat_tests}
 use Rattle.tcltext.specs.declared.Fault.{Fault}
 use Rattle.tcltext.specs.declared.Fault.TheVariants as marks
-use Rattle.tcltext.specs.Bytes.{newline, hash, backslash, is_blank, is_end, is_gap, is_special, is_plain, is_first, AllPass, MayBegin, DoesBegin}
-use Rattle.tcltext.specs.Tree.{Text, Part, literal, Word, Command, Script}
-use Rattle.tcltext.specs.Grammar.{IsGap, IsLastGap, Parted, IsWord, IsWords, IsCommand, IsScript}
-use Rattle.tcltext.specs.Faults.{IsOutside, in_gap, in_command, behind, IsBadAt}
-use Rattle.tcltext.specs.Reading.{◌>>=◌, Read, read_map, front, back, gap_at, after_gap, word_ends, command_ends, script_ends, items_step, items_at, bare_word, word_at, command_at, script_at}
+use Rattle.tcltext.specs.Bytes.{is_blank, is_end, is_gap, is_special, is_plain, is_first, AllPass, MayBegin, DoesBegin}
+use Rattle.tcltext.specs.Tree.{Text, literal, Word, Command, Script}
+use Rattle.tcltext.specs.Grammar.{IsGap, IsWords, IsCommand}
+use Rattle.tcltext.specs.Faults.{IsOutside, in_gap, in_command, behind}
+use Rattle.tcltext.specs.Reading.{◌>>=◌, Read, read_map, front, back, after_gap, word_ends, command_ends, script_ends, items_step, items_at, bare_word, word_at, command_at, script_at}
 use Rattle.tcltext.proofs.Loops.{items-fail, items-more}
 use Rattle.tcltext.proofs.Gaps.{back_no_longer}
 use Rattle.tcltext.proofs.Sound.{is_start, front_back, front_passes, back_fails, free_start, first_of_words, blank_between, word_sound, command_sound, GapTaken, after_gap_taken, gap_before, some_goes_on}
-use Rattle.tcltext.proofs.Complete.{regroup, after_blanks, plain_goes_on, plain_length, word_complete, command_complete, command_starts, start_goes_on, first_length, ends_between, gap_complete, front_run, back_run, complete}
+use Rattle.tcltext.proofs.Complete.{regroup, after_blanks, plain_goes_on, plain_length, word_complete, command_complete, command_starts, start_goes_on, first_length, gap_complete, front_run, back_run}
 
 -- an offending byte, behind a front of which P holds, is the fault
 pub record Offends (P : Text → Type 0) (bs : Text) (f : Fault) : Type 0 where

@@ -1,11 +1,11 @@
 -- Runs of bytes at the front of a text.
-use Rattle.std.proofs.Common.{◌≡◌, ℕ, zero, suc, ◌+◌, ◌-◌, ◌<◌, ◌≤◌, List, [], ◌∷◌, ◌++◌, length, get_or, take, drop, Bool, true, false, cond, refl, sym, ap, ap₂, ◌∙◌, subst, arith, rules, add-one, append_assoc, length-append, ◌⊎◌, inl, inr, append-nil, add-zero}
+use Rattle.std.proofs.Common.{◌≡◌, ℕ, zero, suc, ◌+◌, ◌<◌, ◌≤◌, List, [], ◌∷◌, ◌++◌, length, get_or, take, drop, Bool, true, false, refl, sym, ap, ◌∙◌, arith, add-one, append_assoc, append-nil, add-zero}
 use Rattle.std.proofs.lemmas.List.{drop_more, take_more, length-drop, get_or-drop}
 use Rattle.std.proofs.lemmas.Bool.Decides.{nat_tests}
 use borrow.Author.Count.{below_more}
 use Rattle.std.specs.Str.{IsUtf8, IsCharBoundary}
-use Rattle.std.proofs.lemmas.Str.{IsCharBoundary-start, IsCharBoundary-after_ascii, IsCharBoundary-before_ascii, IsCharBoundary-end, IsUtf8-drop, IsUtf8-take, IsUtf8-nil, IsCharBoundary-at_seam}
-use Rattle.tcltext.specs.Bytes.{is_blank, is_gap}
+use Rattle.std.proofs.lemmas.Str.{IsCharBoundary-start, IsCharBoundary-after_ascii, IsCharBoundary-before_ascii, IsUtf8-drop}
+use Rattle.tcltext.specs.Bytes.{is_blank}
 use Rattle.tcltext.specs.Reading.{front, back, in_class}
 use Rattle.tcltext.specs.declared.Class.{Class}
 use Rattle.tcltext.specs.declared.Class.TheVariants.{Blank, Gap, Plain}

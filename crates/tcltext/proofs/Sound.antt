@@ -1,14 +1,13 @@
 -- What is read is in the grammar.
-use Rattle.std.proofs.Common.{◌≡◌, ◌≢◌, ℕ, zero, suc, ◌+◌, ◌<◌, ◌≤◌, List, [], ◌∷◌, ◌++◌, length, Bool, true, false, not, ◌||◌, ◌==◌, Result, Ok, Err, refl, sym, ap, ap₂, subst, ◌∙◌, arith, append_assoc, append-nil, length-append, ◌⊎◌, inl, inr}
+use Rattle.std.proofs.Common.{◌≡◌, ◌≢◌, ℕ, zero, suc, ◌<◌, ◌≤◌, [], ◌∷◌, ◌++◌, length, Bool, true, false, not, ◌||◌, ◌==◌, Result, Ok, Err, refl, sym, ap, ap₂, subst, ◌∙◌, arith, append_assoc, ◌⊎◌, inl, inr}
 use Rattle.std.proofs.lemmas.Bool.Decides.{nat_tests}
 use Rattle.tcltext.specs.declared.Fault.{Fault}
-use Rattle.tcltext.specs.declared.Fault.TheVariants.{BadCharacter}
-use Rattle.tcltext.specs.Bytes.{newline, hash, backslash, is_blank, is_end, is_gap, is_special, is_plain, is_first, AllPass, MayBegin, DoesBegin}
-use Rattle.tcltext.specs.Tree.{Text, Part, literal, Word, Command, Script}
+use Rattle.tcltext.specs.Bytes.{newline, hash, backslash, is_blank, is_end, is_gap, is_plain, is_first, AllPass, MayBegin, DoesBegin}
+use Rattle.tcltext.specs.Tree.{Text, literal, Word, Command, Script}
 use Rattle.tcltext.specs.Grammar as grammar
 use Rattle.tcltext.specs.Grammar.{IsComment, IsOpenComment, IsGap, nothing, space, comment, IsLastGap, closed, open_comment, Parted, IsWord, IsWords, IsCommand, IsScript}
-use Rattle.tcltext.specs.Reading.{◌>>=◌, Read, read_map, front, back, ends_comment, escapes_next, after_comment, after_hash, gap_at, after_gap, word_ends, command_ends, script_ends, items_step, items_at, bare_word, word_at, command_at, script_at}
-use Rattle.tcltext.proofs.Runs.{front-nil, back-nil, front-cons_true, front-cons_false, back-cons_true, back-cons_false}
+use Rattle.tcltext.specs.Reading.{◌>>=◌, Read, read_map, front, back, after_comment, after_hash, gap_at, after_gap, word_ends, command_ends, script_ends, items_step, items_at, bare_word, word_at, command_at, script_at}
+use Rattle.tcltext.proofs.Runs.{front-cons_true, front-cons_false, back-cons_true, back-cons_false}
 use Rattle.tcltext.proofs.Gaps.{comment-end, comment-more, back_no_longer, comment_no_longer}
 
 -- What a reader took: the front, of which P holds, before a rest of which the test holds.

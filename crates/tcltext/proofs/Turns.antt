@@ -1,13 +1,12 @@
 -- The turns of the loops that read commands and scripts.
-use Rattle.std.proofs.Common.{◌≡◌, ℕ, suc, ◌+◌, ◌<◌, ◌≤◌, List, [], ◌∷◌, ◌++◌, length, Bool, true, false, Ok, Err, refl, sym, ap, subst, ◌∙◌, ◌==◌, arith, length-append, inl, inr}
+use Rattle.std.proofs.Common.{◌≡◌, ℕ, ◌<◌, ◌≤◌, [], ◌∷◌, ◌++◌, length, Bool, true, false, Ok, Err, refl, sym, ap, subst, ◌∙◌, ◌==◌, arith, length-append, inl, inr}
 use Rattle.std.proofs.lemmas.Bool.Decides.{nat_tests}
-use Rattle.tcltext.specs.declared.Fault.{Fault}
 use Rattle.tcltext.specs.declared.ReadError.{ReadError}
 use Rattle.tcltext.specs.declared.ReadError.TheVariants as errors
 use Rattle.tcltext.specs.Bytes.{is_blank, is_plain, is_first, DoesBegin}
 use Rattle.tcltext.specs.Tree.{Text, Word, Command, Script}
-use Rattle.tcltext.specs.Reading.{Fails, back, after_gap, command_ends, script_ends, items_at, word_at, command_at, script_at, ◌>>=◌}
-use Rattle.tcltext.proofs.Loops.{SoFar, so_far-none, so_far-more, so_far-end, so_far-fail}
+use Rattle.tcltext.specs.Reading.{Fails, back, after_gap, command_ends, script_ends, word_at, command_at, script_at, ◌>>=◌}
+use Rattle.tcltext.proofs.Loops.{SoFar, so_far-more, so_far-end, so_far-fail}
 use Rattle.tcltext.proofs.Gaps.{back_no_longer}
 use Rattle.tcltext.proofs.Sound.{back_fails, free_start, word_sound, command_sound, after_gap_taken, gap_before, some_goes_on, GapTaken}
 

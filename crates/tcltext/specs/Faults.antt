@@ -1,8 +1,8 @@
 -- What is wrong with a text. A place is a number of bytes from the front.
-use Rattle.std.specs.Prelude.{◌≡◌, ◌≢◌, ℕ, ◌<◌, ◌≤◌, List, [], ◌∷◌, ◌++◌, length, true}
-use Rattle.tcltext.specs.Bytes.{is_blank, is_end, is_first, is_special, AllPass, MayBegin, DoesBegin}
+use Rattle.std.specs.Prelude.{◌≡◌, ℕ, ◌<◌, ◌≤◌, ◌∷◌, ◌++◌, length, true}
+use Rattle.tcltext.specs.Bytes.{is_end, is_special, DoesBegin}
 use Rattle.tcltext.specs.Tree.{Text, Command}
-use Rattle.tcltext.specs.Grammar.{IsGap, IsWords, IsCommand}
+use Rattle.tcltext.specs.Grammar.{IsGap, IsCommand}
 use Rattle.tcltext.specs.declared.TextFault.{TextFault}
 use Rattle.tcltext.specs.declared.TextFault.TheVariants.{OutOfMemory, OpenBrace, OpenQuote, OpenBracket, JoinedToClose, TooDeep, BadCharacter, BadExpression, TooLong}
 

@@ -1,7 +1,7 @@
 -- The grammar: which texts are scripts, with their trees, by cases on the tree over whole texts (Tcl(n), rules 1, 2 and 10).
-use Rattle.std.specs.Prelude.{◌≡◌, ◌≢◌, ℕ, List, [], ◌∷◌, ◌++◌, true}
+use Rattle.std.specs.Prelude.{◌≡◌, ◌≢◌, ℕ, [], ◌∷◌, ◌++◌, true}
 use Rattle.tcltext.specs.Bytes.{newline, hash, backslash, is_blank, is_end, is_gap, is_plain, is_first, AllPass, MayBegin, DoesBegin}
-use Rattle.tcltext.specs.Tree.{Text, Part, literal, Word, Command, Script}
+use Rattle.tcltext.specs.Tree.{Text, literal, Word, Command, Script}
 
 -- what a comment holds: no newline but behind a backslash, which is passed over with the byte after it
 pub data IsComment : Text → Type 0 where

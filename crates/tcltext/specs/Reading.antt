@@ -1,7 +1,7 @@
 -- The tree or the fault of a text, as a function that computes. The law script_of_grammar ties it to the grammar.
-use Rattle.std.specs.Prelude.{◌≡◌, ℕ, zero, suc, ◌-◌, List, [], ◌∷◌, ◌++◌, length, Bool, true, false, not, ◌==◌, nat_lt, if◌then◌else◌, Result, Ok, Err}
+use Rattle.std.specs.Prelude.{◌≡◌, ℕ, zero, suc, ◌-◌, List, [], ◌∷◌, length, Bool, true, false, ◌==◌, nat_lt, if◌then◌else◌, Result, Ok, Err}
 use Rattle.tcltext.specs.Bytes.{newline, hash, backslash, is_blank, is_end, is_gap, is_plain}
-use Rattle.tcltext.specs.Tree.{Text, Part, literal, Word, Command, Script}
+use Rattle.tcltext.specs.Tree.{Text, literal, Word, Command, Script}
 use Rattle.tcltext.specs.Faults.{max_bytes}
 use Rattle.tcltext.specs.View.{script_view}
 use Rattle.tcltext.specs.declared.Class.{Class}

@@ -31,10 +31,7 @@ fn commands(rt: HostRuntime) -> Result<(), Fail> {
     assert_word(&rt, &script, 2, 0, 1, "a");
     assert_word(&rt, &script, 2, 1, 1, "b#c");
     assert_word(&rt, &script, 2, 1, 2, "e");
-    assert_eq!(rt;
-        script.commands.iter().map(|c| c.words.len()).sum::<usize>(),
-        5
-    );
+    assert_eq!(rt; script.commands.get(1).map(|c| c.words.len()), Some(3));
     Ok(())
 }
 

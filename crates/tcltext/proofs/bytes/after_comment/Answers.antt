@@ -1,6 +1,6 @@
-use Rattle.std.proofs.Common.{◌≡◌, ◌<◌, List, ℕ, length, get_or, sym, ap, subst, ◌∙◌, arith}
+use Rattle.std.proofs.Common.{◌≡◌, List, ℕ, get_or, sym, subst, ◌∙◌, arith}
 use Rattle.tcltext.proofs.Runs.{mark_cut}
-use Rattle.tcltext.proofs.Gaps.{end_is_newline, comment_end_at, comment_more_at}
+use Rattle.tcltext.proofs.Gaps.{end_is_newline}
 use Rattle.tcltext.proofs.bytes.after_comment.Goals as goal
 
 pub split_at-requires-then-ends_comment : goal.split_at-requires-then-ends_comment

@@ -1,7 +1,7 @@
-use Rattle.std.proofs.Common.{◌≡◌, rules, sym, ap, ◌∙◌}
+use Rattle.std.proofs.Common.{rules, ap, ◌∙◌}
 use Rattle.tcltext.specs.Reading.{back}
 use Rattle.tcltext.specs.Bytes.{is_gap}
-use Rattle.tcltext.proofs.Gaps.{GapSoFar, gap-none, gap-more, gap-end, gap_shorter}
+use Rattle.tcltext.proofs.Gaps.{gap-none, gap-more, gap_shorter}
 use Rattle.tcltext.proofs.bytes.after_gap.Goals as goal
 
 pub loop-comment-init : goal.loop-comment-init

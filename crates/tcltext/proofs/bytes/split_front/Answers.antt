@@ -1,4 +1,4 @@
-use Rattle.std.proofs.Common.{◌≡◌, ◌<◌, ◌≤◌, List, length, get_or, take, drop, false, ℕ, ap, sym, ◌∙◌, subst, arith}
+use Rattle.std.proofs.Common.{◌≡◌, ◌<◌, List, length, get_or, take, drop, false, ℕ, sym, ◌∙◌, subst, arith}
 use Rattle.tcltext.specs.Reading.{in_class, front, back}
 use Rattle.tcltext.proofs.Runs.{Passed, passed-more, passed-end, run_cut}
 use Rattle.tcltext.proofs.bytes.split_front.Goals as goal

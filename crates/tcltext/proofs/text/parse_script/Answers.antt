@@ -1,5 +1,5 @@
-use Rattle.std.proofs.Common.{◌≡◌, Err, ap, subst, sym, ◌∙◌, arith, ◌≤◌, length}
-use Rattle.tcltext.specs.Faults.{IsTextFault, max_bytes}
+use Rattle.std.proofs.Common.{Err, ap, subst, sym, ◌∙◌, arith, length}
+use Rattle.tcltext.specs.Faults.{IsTextFault}
 use Rattle.tcltext.specs.Reading.{answer_of, script_of, Reads}
 use Rattle.tcltext.specs.View.{script_view}
 use Rattle.tcltext.proofs.Sound.{sound}
