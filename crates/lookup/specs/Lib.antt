@@ -1,0 +1,5 @@
+pub mod Agreement
+pub mod Answers
+pub mod Contents
+pub mod Search
+pub mod Utf8
