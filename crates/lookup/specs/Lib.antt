@@ -1,5 +1,6 @@
 pub mod Agreement
 pub mod Answers
 pub mod Contents
+pub mod Entries
 pub mod Search
 pub mod Utf8

@@ -27,6 +27,16 @@ pub(crate) fn copy_names(alloc: Global, names: &Vec<String>) -> Result<Vec<Strin
     Ok(copy)
 }
 
+fn own_names(alloc: Global, names: &[&str]) -> Result<Vec<String>, AllocError>
+    ensures { IfOk result (λ copy. map string_bytes (vec_items copy) ≡ map (λ name. name.now) names.now) }
+{
+    let mut copy = Vec::new(alloc);
+    for name in names {
+        copy.push(String::from_str(alloc, *name)?)?;
+    }
+    Ok(copy)
+}
+
 impl MemoryTree {
     /// A tree with no file and no folder.
     pub fn new(alloc: Global) -> MemoryTree
@@ -48,7 +58,10 @@ impl MemoryTree {
         ensures refused { OnErr result ((p : List ℕ) → files_of self.new p ≡ files_of self.old p) }
         ensures folders { (p : List ℕ) → folders_of self.new p ≡ folders_of self.old p }
     {
-        Err(AllocError)
+        let key = String::from_str(self.alloc, path)?;
+        let copy = bytes.to_vec(self.alloc)?;
+        self.files.insert(key, copy)?;
+        Ok(())
     }
 
     /// Puts a folder with these names at the path, in place of one that was there.
@@ -59,7 +72,10 @@ impl MemoryTree {
         ensures refused { OnErr result ((p : List ℕ) → folders_of self.new p ≡ folders_of self.old p) }
         ensures files { (p : List ℕ) → files_of self.new p ≡ files_of self.old p }
     {
-        Err(AllocError)
+        let key = String::from_str(self.alloc, path)?;
+        let copy = own_names(self.alloc, names)?;
+        self.folders.insert(key, copy)?;
+        Ok(())
     }
 }
 

@@ -1,5 +1,5 @@
 //! What a path holds as a modulefile.
-ghost use Rattle.std.specs.Prelude.{◌≡◌, IfOk};
+ghost use Rattle.std.specs.Prelude.{◌≡◌, IfOk, Some};
 ghost use Rattle.lookup.specs.Agreement.{Files, Folders, Shows, HasCause};
 ghost use Rattle.lookup.specs.Answers.{modulefile_view};
 ghost use Rattle.lookup.specs.Search.{modulefile};
@@ -19,6 +19,21 @@ pub enum Modulefile {
     Script(String),
 }
 
+// What every modulefile begins with.
+const COOKIE: &[u8] = b"#%Module";
+
+fn modulefile_of(bytes: Vec<u8>) -> Modulefile
+    ensures { modulefile_view result ≡ modulefile (Some bytes.items) }
+{
+    if !bytes.as_slice().starts_with(COOKIE) {
+        return Modulefile::NoCookie;
+    }
+    match String::from_utf8(bytes) {
+        Ok(text) => Modulefile::Script(text),
+        Err(_) => Modulefile::NotUtf8,
+    }
+}
+
 /// Reads what the path holds as a modulefile.
 ///
 /// It fails as the tree does.
@@ -27,5 +42,8 @@ pub fn read_modulefile<T: Tree>(tree: &mut T, path: &str) -> Result<Modulefile, 
     ensures answer { IfOk result (λ m. Shows (T.agrees tree.new) (λ files folders. modulefile (files path.now) ≡ modulefile_view m)) }
     ensures cause { HasCause (T.failures tree.old) (T.failures tree.new) result }
 {
-    Err(TreeFault::OutOfMemory)
+    match tree.read(path)? {
+        None => Ok(Modulefile::Absent),
+        Some(bytes) => Ok(modulefile_of(bytes)),
+    }
 }

@@ -4,9 +4,13 @@ ghost use Rattle.modulename.specs.ModuleName.{is_module_name};
 ghost use Rattle.lookup.specs.declared.search.FindFault.TheVariants.{OutOfMemory};
 ghost use Rattle.lookup.specs.Agreement.{Files, Folders, Shows};
 ghost use Rattle.lookup.specs.Answers.{IsMissed, find_number, fault_of_tree};
-ghost use Rattle.lookup.specs.Search.{found};
+ghost use Rattle.lookup.specs.Entries.{entry_answer, IsMissedAt};
+ghost use Rattle.lookup.specs.Search.{found, path_of};
+ghost use Rattle.std.specs.Option.{option_map};
 
+use crate::modulefile::{Modulefile, read_modulefile};
 use crate::tree::{Tree, TreeFault};
+use modulename::is_module_name;
 use std::alloc::{AllocError, AllocFailed, Global};
 use thiserror::Error;
 
@@ -85,6 +89,41 @@ impl From<TreeFault> for FindFault {
     }
 }
 
+// The path of a module below a directory.
+fn path_of(alloc: Global, dir: &str, name: &str) -> Result<String, AllocError>
+    ensures { IfOk result (λ path. string_bytes path ≡ path_of dir.now name.now) }
+{
+    let mut path = String::from_str(alloc, dir)?;
+    path.push('/')?;
+    path.push_str(name)?;
+    Ok(path)
+}
+
+// The path of the module of this name below one entry of MODULEPATH, if it is there.
+fn module_below<T: Tree>(
+    alloc: Global,
+    tree: &mut T,
+    dir: &str,
+    name: &str,
+) -> Result<Option<String>, FindFault>
+    ensures before { Shows (T.agrees tree.new) (λ files folders. T.agrees tree.old files folders) }
+    ensures answer { IfOk result (λ r. Shows (T.agrees tree.new) (λ files folders.
+        entry_answer files name.now dir.now ≡ option_map (λ path. Ok (string_bytes path)) r)) }
+    ensures missed { IfErr result (λ e. IsMissedAt (T.agrees tree.new) (T.failures tree.old) (T.failures tree.new) name.now dir.now e) }
+    ensures later { T.failures tree.old ≤ T.failures tree.new }
+{
+    if dir.is_empty() {
+        return Ok(None);
+    }
+    let path = path_of(alloc, dir, name)?;
+    match read_modulefile(tree, path.as_str())? {
+        Modulefile::Absent => Ok(None),
+        Modulefile::NoCookie => Ok(None),
+        Modulefile::NotUtf8 => Err(FindFault::NotUtf8(path)),
+        Modulefile::Script(_) => Ok(Some(path)),
+    }
+}
+
 /// Finds the module of exactly this name: the first directory of MODULEPATH, a list parted by colons, that has a
 /// modulefile at directory, `/`, name. Empty entries of MODULEPATH are skipped.
 ///
@@ -104,5 +143,16 @@ pub fn locate<T: Tree>(
     ensures unread { is_module_name name.now ≡ false → tree.new ≡ tree.old }
     ensures later { T.failures tree.old ≤ T.failures tree.new }
 {
-    Err(FindFault::OutOfMemory)
+    if !is_module_name(name) {
+        return Err(FindFault::BadName(String::from_str(alloc, name)?));
+    }
+    for dir in modulepath.split(':') {
+        if let Some(path) = module_below(alloc, tree, dir, name)? {
+            return Ok(Found {
+                name: String::from_str(alloc, name)?,
+                path,
+            });
+        }
+    }
+    Err(FindFault::NotFound(String::from_str(alloc, name)?))
 }
