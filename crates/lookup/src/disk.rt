@@ -2,6 +2,8 @@
 ghost use Rattle.std.specs.Prelude.{◌≡◌, ℕ, List, map, Some, Option, IfOk, OnOk, IfErr, string_bytes, vec_items};
 ghost use Rattle.std.specs.BTreeMap.{get_by_text};
 ghost use Rattle.lookup.specs.Agreement.{Files, Folders, Shows, HasCause, file_answer, folder_answer, kept, kept-answer};
+ghost use Rattle.std.specs.IoError.{error_kind};
+ghost use Rattle.lookup.specs.Devices.{fault_of_kind, is_absence};
 
 use crate::memory::copy_names;
 use crate::tree::{Tree, TreeFault};
@@ -9,6 +11,7 @@ use std::alloc::{AllocError, Global};
 use std::collections::BTreeMap;
 use std::io::ErrorKind;
 use std::rt::Files;
+use std::fs::Metadata;
 use std::{fs, io};
 
 /// The files and folders of a disk. Each answer is kept, and given again.
@@ -25,33 +28,49 @@ pub struct DiskTree<R: Files + AllocGlobal + Clone + Drop> {
     failures: u64,
 }
 
-fn fault_of(e: &io::Error) -> TreeFault {
-    if e.kind() == ErrorKind::OutOfMemory {
-        TreeFault::OutOfMemory
-    } else {
-        TreeFault::Device
+fn fault_of(e: &io::Error) -> TreeFault
+    ensures { result ≡ fault_of_kind (error_kind e.now) }
+{
+    match e.kind() {
+        ErrorKind::OutOfMemory => TreeFault::OutOfMemory,
+        _ => TreeFault::Device,
     }
 }
 
-// There is nothing at the path, not even a link that leads in a ring.
-fn is_absence(e: &io::Error) -> bool {
-    e.kind() == ErrorKind::NotFound || e.kind() == ErrorKind::NotADirectory
+// No name leads to anything there, or the text has a NUL, so that it is no name.
+fn is_absence(e: &io::Error) -> bool
+    ensures { result ≡ is_absence (error_kind e.now) }
+{
+    match e.kind() {
+        ErrorKind::NotFound => true,
+        ErrorKind::NotADirectory => true,
+        ErrorKind::InvalidInput => true,
+        _ => false,
+    }
 }
 
-// Looks at what is there before it opens it, since opening a pipe or a device waits or reads without end.
-fn load_file<R: Files + AllocGlobal>(rt: &R, path: &str) -> Result<Option<Vec<u8>>, TreeFault> {
+// What is at the path, at the end of its links. It is looked at before it is opened, since opening a pipe or a
+// device waits, or reads without end.
+fn look<R: Files>(rt: &R, path: &str) -> Result<Option<Metadata>, TreeFault> {
     match fs::metadata(rt, path) {
-        Ok(found) => {
-            if !found.is_file() {
-                return Ok(None);
-            }
-        }
+        Ok(found) => Ok(Some(found)),
         Err(e) => {
-            return if is_absence(&e) {
+            if is_absence(&e) {
                 Ok(None)
             } else {
                 Err(fault_of(&e))
-            };
+            }
+        }
+    }
+}
+
+fn load_file<R: Files + AllocGlobal>(rt: &R, path: &str) -> Result<Option<Vec<u8>>, TreeFault> {
+    match look(rt, path)? {
+        None => return Ok(None),
+        Some(found) => {
+            if !found.is_file() {
+                return Ok(None);
+            }
         }
     }
     match fs::read(rt, path) {
@@ -76,18 +95,12 @@ fn load_folder<R: Files + AllocGlobal + Clone + Drop>(
     rt: &R,
     dir: &str,
 ) -> Result<Option<Vec<String>>, TreeFault> {
-    match fs::metadata(rt, dir) {
-        Ok(found) => {
+    match look(rt, dir)? {
+        None => return Ok(None),
+        Some(found) => {
             if !found.is_dir() {
                 return Ok(None);
             }
-        }
-        Err(e) => {
-            return if is_absence(&e) {
-                Ok(None)
-            } else {
-                Err(fault_of(&e))
-            };
         }
     }
     match list_folder(rt, dir) {
