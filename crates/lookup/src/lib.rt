@@ -15,3 +15,6 @@ pub use modulefile::{Modulefile, read_modulefile};
 pub use modulename::{is_module_name, means};
 pub use search::{FindFault, Found, locate};
 pub use tree::{Tree, TreeFault};
+
+#[cfg(test)]
+mod tests;
