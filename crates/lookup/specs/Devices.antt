@@ -1,7 +1,9 @@
 -- What an error of the system says of a path.
-use Rattle.std.specs.Prelude.{Bool, true, false}
+use Rattle.std.specs.Prelude.{Bool, true, false, if◌then◌else◌, Option, Some, None, Result, Ok, Err}
+use Rattle.std.specs.declared.io.Error.{Error}
 use Rattle.std.specs.declared.io.ErrorKind.{ErrorKind}
 use Rattle.std.specs.declared.io.ErrorKind.TheVariants as kind
+use Rattle.std.specs.IoError.{error_kind}
 use Rattle.lookup.specs.declared.tree.TreeFault.{TreeFault}
 use Rattle.lookup.specs.declared.tree.TreeFault.TheVariants as fault
 
@@ -16,3 +18,8 @@ is_absence _ = false
 abbrev pub fault_of_kind : ErrorKind → TreeFault
 fault_of_kind kind.OutOfMemory = fault.OutOfMemory
 fault_of_kind _ = fault.Device
+
+-- what the system's answer says is there
+abbrev pub there : {X : Type 0} → Result X Error → Result (Option X) TreeFault
+there (Ok found) = Ok (Some found)
+there (Err e) = if is_absence (error_kind e) then Ok None else Err (fault_of_kind (error_kind e))

@@ -1,9 +1,9 @@
 //! The folders of a disk, whose answers are kept and given again.
-ghost use Rattle.std.specs.Prelude.{◌≡◌, ℕ, List, map, Some, Option, IfOk, OnOk, IfErr, string_bytes, vec_items};
+ghost use Rattle.std.specs.Prelude.{◌≡◌, ◌<◌, ◌≤◌, ℕ, List, map, Some, Option, IfOk, OnOk, IfErr, string_bytes, vec_items};
 ghost use Rattle.std.specs.BTreeMap.{get_by_text};
 ghost use Rattle.lookup.specs.Agreement.{Files, Folders, Shows, HasCause, file_answer, folder_answer, kept, kept-answer};
 ghost use Rattle.std.specs.IoError.{error_kind};
-ghost use Rattle.lookup.specs.Devices.{fault_of_kind, is_absence};
+ghost use Rattle.lookup.specs.Devices.{fault_of_kind, is_absence, there};
 
 use crate::memory::copy_names;
 use crate::tree::{Tree, TreeFault};
@@ -11,7 +11,6 @@ use std::alloc::{AllocError, Global};
 use std::collections::BTreeMap;
 use std::io::ErrorKind;
 use std::rt::Files;
-use std::fs::Metadata;
 use std::{fs, io};
 
 /// The files and folders of a disk. Each answer is kept, and given again.
@@ -49,10 +48,11 @@ fn is_absence(e: &io::Error) -> bool
     }
 }
 
-// What is at the path, at the end of its links. It is looked at before it is opened, since opening a pipe or a
-// device waits, or reads without end.
-fn look<R: Files>(rt: &R, path: &str) -> Result<Option<Metadata>, TreeFault> {
-    match fs::metadata(rt, path) {
+// What the system's answer says is there.
+fn there<X: Drop>(answer: io::Result<X>) -> Result<Option<X>, TreeFault>
+    ensures { result ≡ there answer }
+{
+    match answer {
         Ok(found) => Ok(Some(found)),
         Err(e) => {
             if is_absence(&e) {
@@ -64,8 +64,9 @@ fn look<R: Files>(rt: &R, path: &str) -> Result<Option<Metadata>, TreeFault> {
     }
 }
 
+// A file is opened only once it is known to be one, since opening a pipe or a device waits, or reads without end.
 fn load_file<R: Files + AllocGlobal>(rt: &R, path: &str) -> Result<Option<Vec<u8>>, TreeFault> {
-    match look(rt, path)? {
+    match there(fs::metadata(rt, path))? {
         None => return Ok(None),
         Some(found) => {
             if !found.is_file() {
@@ -95,7 +96,7 @@ fn load_folder<R: Files + AllocGlobal + Clone + Drop>(
     rt: &R,
     dir: &str,
 ) -> Result<Option<Vec<String>>, TreeFault> {
-    match look(rt, dir)? {
+    match there(fs::metadata(rt, dir))? {
         None => return Ok(None),
         Some(found) => {
             if !found.is_dir() {
@@ -144,6 +145,26 @@ impl<R: Files + AllocGlobal + Clone + Drop> DiskTree<R> {
             failures: 0,
         }
     }
+
+    // The fault, with a failure of the device counted. The count has a last value, past which none is told.
+    fn counted(&mut self, fault: TreeFault) -> TreeFault
+        ensures files { self.new.files ≡ self.old.files }
+        ensures folders { self.new.folders ≡ self.old.folders }
+        ensures later { self.old.failures ≤ self.new.failures }
+        ensures device { result ≡ TreeFault.Device → self.old.failures < self.new.failures }
+        ensures same { self.old.failures < u64.MAX → result ≡ fault }
+    {
+        match fault {
+            TreeFault::OutOfMemory => TreeFault::OutOfMemory,
+            TreeFault::Device => {
+                if self.failures == u64::MAX {
+                    return TreeFault::OutOfMemory;
+                }
+                self.failures += 1;
+                TreeFault::Device
+            }
+        }
+    }
 }
 
 impl<R: Files + AllocGlobal + Clone + Drop> Tree for DiskTree<R> {
@@ -173,14 +194,7 @@ impl<R: Files + AllocGlobal + Clone + Drop> Tree for DiskTree<R> {
                 self.files.insert(key, answer)?;
                 Ok(copy)
             }
-            Err(TreeFault::OutOfMemory) => Err(TreeFault::OutOfMemory),
-            Err(TreeFault::Device) => {
-                if self.failures == u64::MAX {
-                    return Err(TreeFault::OutOfMemory);
-                }
-                self.failures += 1;
-                Err(TreeFault::Device)
-            }
+            Err(fault) => Err(self.counted(fault)),
         }
     }
 
@@ -195,14 +209,7 @@ impl<R: Files + AllocGlobal + Clone + Drop> Tree for DiskTree<R> {
                 self.folders.insert(key, answer)?;
                 Ok(copy)
             }
-            Err(TreeFault::OutOfMemory) => Err(TreeFault::OutOfMemory),
-            Err(TreeFault::Device) => {
-                if self.failures == u64::MAX {
-                    return Err(TreeFault::OutOfMemory);
-                }
-                self.failures += 1;
-                Err(TreeFault::Device)
-            }
+            Err(fault) => Err(self.counted(fault)),
         }
     }
 }

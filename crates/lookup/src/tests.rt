@@ -1,4 +1,6 @@
-use crate::{DiskTree, FindFault, MemoryTree, Modulefile, Tree, TreeFault, locate, read_modulefile};
+use crate::{
+    DiskTree, FindFault, MemoryTree, Modulefile, Tree, TreeFault, locate, read_modulefile,
+};
 use std::alloc::{AllocError, Global};
 use std::test::Fail;
 
@@ -18,7 +20,12 @@ fn sample(alloc: Global) -> Result<MemoryTree, AllocError> {
     Ok(tree)
 }
 
-fn answer(alloc: Global, tree: &mut MemoryTree, modulepath: &str, name: &str) -> Result<String, AllocError> {
+fn answer(
+    alloc: Global,
+    tree: &mut MemoryTree,
+    modulepath: &str,
+    name: &str,
+) -> Result<String, AllocError> {
     match locate(alloc, tree, modulepath, name) {
         Ok(found) => {
             let name = found.name.as_str();
@@ -43,10 +50,26 @@ fn finds_by_the_exact_name(rt: HostRuntime) -> Result<(), Fail> {
         ("/m:/n", "plain/1", "plain/1 at /n/plain/1"),
         ("/n", "a/b/c/d", "a/b/c/d at /n/a/b/c/d"),
         ("/m", "foo", "42 Unable to locate a modulefile for 'foo'"),
-        ("/m", "plain/1", "42 Unable to locate a modulefile for 'plain/1'"),
-        ("/m", "junk/1", "42 Unable to locate a modulefile for 'junk/1'"),
-        ("/m", "empty/1", "42 Unable to locate a modulefile for 'empty/1'"),
-        ("", "foo/1.0", "42 Unable to locate a modulefile for 'foo/1.0'"),
+        (
+            "/m",
+            "plain/1",
+            "42 Unable to locate a modulefile for 'plain/1'",
+        ),
+        (
+            "/m",
+            "junk/1",
+            "42 Unable to locate a modulefile for 'junk/1'",
+        ),
+        (
+            "/m",
+            "empty/1",
+            "42 Unable to locate a modulefile for 'empty/1'",
+        ),
+        (
+            "",
+            "foo/1.0",
+            "42 Unable to locate a modulefile for 'foo/1.0'",
+        ),
         ("/m", "bytes/1", "46 Not UTF-8: '/m/bytes/1'"),
         ("/n", "a/b/c/d/e", "44 Bad module name 'a/b/c/d/e'"),
         ("/n", "..", "44 Bad module name '..'"),
@@ -63,11 +86,20 @@ fn says_each_fault(rt: HostRuntime) -> Result<(), Fail> {
     let path = String::from_str(rt.alloc(), "/m/.modulerc")?;
     let fault = FindFault::BadDefaultFile(path);
     assert_eq!(rt; fault.number(), 45);
-    assert_eq!(rt; fault.to_string(rt.alloc())?.as_str(), "Bad default file '/m/.modulerc'");
+    assert_eq!(rt;
+        fault.to_string(rt.alloc())?.as_str(),
+        "Bad default file '/m/.modulerc'"
+    );
     assert_eq!(rt; FindFault::OutOfMemory.number(), 41);
-    assert_eq!(rt; FindFault::OutOfMemory.to_string(rt.alloc())?.as_str(), "Out of memory");
+    assert_eq!(rt;
+        FindFault::OutOfMemory.to_string(rt.alloc())?.as_str(),
+        "Out of memory"
+    );
     assert_eq!(rt; FindFault::Device.number(), 43);
-    assert_eq!(rt; FindFault::Device.to_string(rt.alloc())?.as_str(), "Reading failed");
+    assert_eq!(rt;
+        FindFault::Device.to_string(rt.alloc())?.as_str(),
+        "Reading failed"
+    );
     assert_eq!(rt; TreeFault::OutOfMemory.number(), 41);
     assert_eq!(rt; TreeFault::Device.number(), 43);
     Ok(())
@@ -93,7 +125,14 @@ fn keeps_files_and_folders_in_memory(rt: HostRuntime) -> Result<(), Fail> {
 #[test]
 fn opens_nothing_but_files_and_folders_on_a_disk(rt: HostRuntime) -> Result<(), Fail> {
     let mut tree = DiskTree::new(rt.clone()?);
-    for path in ["/dev/zero", "/", "/nothing/at/all", "/dev/null/below", "a\0b", ""] {
+    for path in [
+        "/dev/zero",
+        "/",
+        "/nothing/at/all",
+        "/dev/null/below",
+        "a\0b",
+        "",
+    ] {
         assert!(rt; tree.read(path)?.is_none(), "{path}");
     }
     for path in ["/dev/zero", "/nothing/at/all", "/dev/null/below"] {
