@@ -1,0 +1,88 @@
+"""Counts the instructions of a load by callgrind, beside a native program that reads one file.
+
+What grows is the environment, and the modulefile. Each row has the instructions of one load; `a further one` is the
+difference to the row above by each variable or command more.
+"""
+
+import os
+import re
+import shutil
+import subprocess
+import sys
+import tempfile
+
+HERE = os.path.dirname(os.path.abspath(__file__))
+COLLECTED = re.compile(rb"Collected *: *(\d+)")
+
+
+def instructions(folder, command, env):
+    """The instructions of a command, which has to end with status 0."""
+    done = subprocess.run(
+        ["valgrind", "--tool=callgrind", "--callgrind-out-file=" + os.path.join(folder, "callgrind"), *command],
+        env=env,
+        stdin=subprocess.DEVNULL,
+        capture_output=True,
+        check=False,
+    )
+    found = COLLECTED.search(done.stderr)
+    if done.returncode != 0 or not found:
+        sys.exit(f"{command} ended with status {done.returncode}:\n{done.stderr.decode(errors='replace')}")
+    return int(found[1])
+
+
+def module(folder, name, text):
+    path = os.path.join(folder, "m", name)
+    os.makedirs(os.path.dirname(path), exist_ok=True)
+    with open(path, "w") as file:
+        file.write("#%Module\n" + text)
+    return path
+
+
+def environment(folder, variables):
+    env = {"MODULEPATH": os.path.join(folder, "m"), "PATH": "/usr/bin:/bin"}
+    for number in range(variables):
+        env[f"VARIABLE_{number}"] = f"value {number}"
+    return env
+
+
+def growth(title, rows):
+    """Prints rows of a count and its instructions."""
+    print(f"\n{title}")
+    before = None
+    for count, spent in rows:
+        more = "" if before is None else f"   a further one: {(spent - before[1]) / (count - before[0]):10,.0f}"
+        print(f"{count:8,} {spent:14,}{more}")
+        before = (count, spent)
+
+
+def main():
+    program = os.path.abspath(sys.argv[1])
+    folder = tempfile.mkdtemp(prefix="modulecmd-bench-")
+    null = os.path.join(folder, "null")
+    subprocess.run(["rustc", "-O", "-o", null, os.path.join(HERE, "null.rs")], check=True)
+    foo = module(folder, "foo/1.0", "setenv FOO on\nprepend-path PATH /opt/foo/bin\n")
+
+    def load(name, variables):
+        return instructions(folder, [program, "sh", "load", name], environment(folder, variables))
+
+    base = instructions(folder, [null, foo], environment(folder, 0))
+    one = load("foo/1.0", 0)
+    print(f"a native program that reads the file: {base:14,}")
+    print(f"a load of the module:                 {one:14,}   {one / base:.2f} times as many")
+    sizes = (10, 100, 1000)
+    growth("variables in the environment", [(count, load("foo/1.0", count)) for count in sizes])
+    for form, title in (
+        ("setenv V{0} v{0}\n", "setenv, each of another variable"),
+        ("prepend-path V{0} /v{0}\n", "prepend-path, each of another variable"),
+    ):
+        rows = []
+        for count in sizes:
+            name = f"{form.split()[0]}/{count}"
+            module(folder, name, "".join(form.format(number) for number in range(count)))
+            rows.append((count, load(name, 0)))
+        growth(title, rows)
+    shutil.rmtree(folder)
+
+
+if __name__ == "__main__":
+    main()

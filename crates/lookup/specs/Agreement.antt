@@ -1,0 +1,53 @@
+-- What a tree of files says of the disk behind it.
+use Rattle.std.proofs.Common.{ap}
+use Rattle.std.specs.Prelude.{◌≡◌, ℕ, ◌<◌, ◌≤◌, List, map, Option, Some, None, Result, IsErrOf, if◌then◌else◌, string_bytes, vec_items}
+use Rattle.std.specs.declared.alloc.Global.{Global}
+use Rattle.std.specs.Option.{option_map}
+use Rattle.std.specs.Str.{bytes_eq}
+use Rattle.std.specs.declared.string.String.{String}
+use Rattle.std.specs.declared.vec.Vec.{Vec}
+use Rattle.lookup.specs.declared.tree.TreeFault.{TreeFault}
+use Rattle.lookup.specs.declared.tree.TreeFault.TheVariants.{OutOfMemory, Device}
+
+-- what is at each path: the bytes of a file, the names of a folder
+abbrev pub Files : Type 0
+Files = List ℕ → Option (List ℕ)
+
+abbrev pub Folders : Type 0
+Folders = List ℕ → Option (List (List ℕ))
+
+abbrev pub file_answer : Option (Vec ℕ Global) → Option (List ℕ)
+file_answer answer = option_map (λ bytes. vec_items bytes) answer
+
+abbrev pub folder_answer : Option (Vec (String Global) Global) → Option (List (List ℕ))
+folder_answer answer = option_map (λ names. map string_bytes (vec_items names)) answer
+
+-- each pair of maps that agrees has P
+abbrev pub Shows : (Files → Folders → Type 0) → (Files → Folders → Type 0) → Type 0
+Shows agrees P = (files : Files) (folders : Folders) → agrees files folders → P files folders
+
+-- some pair of maps agrees
+abbrev pub IsAgreeable : (Files → Folders → Type 0) → Type 0
+IsAgreeable agrees = (files : Files) × (folders : Folders) × agrees files folders
+
+-- `Device` is told only where the device has failed since
+pub record HasCause {T : Type 0} (before now : ℕ) (result : Result T TreeFault) : Type 0 where
+  pub later : before ≤ now
+  pub device : IsErrOf result Device → before < now
+
+-- the numbers of the faults
+abbrev pub tree_number : TreeFault → ℕ
+tree_number OutOfMemory = 41
+tree_number Device = 43
+
+-- a map with this value at this path
+abbrev pub with_at : {X : Type 0} → (List ℕ → Option X) → List ℕ → X → List ℕ → Option X
+with_at there path x p = if bytes_eq path p then Some x else there p
+
+-- what stands where an answer may have been kept: the answer, or else nothing
+abbrev pub kept : {V W : Type 0} → (V → Option W) → Option V → Option W
+kept view None = None
+kept view (Some answer) = view answer
+
+pub kept-answer : {V W : Type 0} (view : V → Option W) (had : Option V) (answer : V) → had ≡ Some answer → kept view had ≡ view answer
+kept-answer view had answer e = ap (kept view) e

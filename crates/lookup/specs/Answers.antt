@@ -1,0 +1,45 @@
+-- How the answers of the search show what the definitions say.
+use Rattle.std.specs.Prelude.{◌≡◌, ℕ, ◌<◌, Err, string_bytes}
+use Rattle.modulename.specs.ModuleName.{Text}
+use Rattle.lookup.specs.Agreement.{Files, Folders, Shows}
+use Rattle.lookup.specs.Search.{Held, absent, no_cookie, not_utf8, script, bad_name, not_found, not_utf8_at, found}
+use Rattle.lookup.specs.declared.modulefile.Modulefile.{Modulefile}
+use Rattle.lookup.specs.declared.modulefile.Modulefile.TheVariants.{Absent, NoCookie, NotUtf8, Script}
+use Rattle.lookup.specs.declared.search.FindFault.{FindFault}
+use Rattle.lookup.specs.declared.search.FindFault.TheVariants as fault
+use Rattle.lookup.specs.declared.tree.TreeFault.{TreeFault}
+use Rattle.lookup.specs.declared.tree.TreeFault.TheVariants as tree_fault
+
+-- what is said to be at a path
+abbrev pub modulefile_view : Modulefile → Held
+modulefile_view Absent = absent
+modulefile_view NoCookie = no_cookie
+modulefile_view NotUtf8 = not_utf8
+modulefile_view (Script text) = script (string_bytes text)
+
+-- the numbers of the faults of a search
+abbrev pub find_number : FindFault → ℕ
+find_number fault.OutOfMemory = 41
+find_number (fault.NotFound name) = 42
+find_number fault.Device = 43
+find_number (fault.BadName name) = 44
+find_number (fault.BadDefaultFile path) = 45
+find_number (fault.NotUtf8 path) = 46
+
+-- a tree's fault, as one of the search
+abbrev pub fault_of_tree : TreeFault → FindFault
+fault_of_tree tree_fault.OutOfMemory = fault.OutOfMemory
+fault_of_tree tree_fault.Device = fault.Device
+
+-- The cause of each fault of a search: want of memory has none in the tree, the device has failed since,
+-- and any other fault is the answer of the search in each pair of maps that agrees.
+abbrev pub IsMissed : (Files → Folders → Type 0) → ℕ → ℕ → Text → Text → FindFault → Type 0
+IsMissed agrees before now modulepath name fault.OutOfMemory = Unit {0}
+IsMissed agrees before now modulepath name (fault.NotFound n) =
+    Shows agrees (λ files folders. found files modulepath name ≡ Err (not_found (string_bytes n)))
+IsMissed agrees before now modulepath name fault.Device = before < now
+IsMissed agrees before now modulepath name (fault.BadName n) =
+    Shows agrees (λ files folders. found files modulepath name ≡ Err (bad_name (string_bytes n)))
+IsMissed agrees before now modulepath name (fault.BadDefaultFile path) = ⊥
+IsMissed agrees before now modulepath name (fault.NotUtf8 path) =
+    Shows agrees (λ files folders. found files modulepath name ≡ Err (not_utf8_at (string_bytes path)))

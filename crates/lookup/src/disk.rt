@@ -1,0 +1,215 @@
+//! The folders of a disk, whose answers are kept and given again.
+ghost use Rattle.std.specs.Prelude.{◌≡◌, ◌<◌, ◌≤◌, ℕ, List, map, Some, Option, IfOk, OnOk, IfErr, string_bytes, vec_items};
+ghost use Rattle.std.specs.BTreeMap.{get_by_text};
+ghost use Rattle.lookup.specs.Agreement.{Files, Folders, Shows, HasCause, file_answer, folder_answer, kept, kept-answer};
+ghost use Rattle.std.specs.IoError.{error_kind};
+ghost use Rattle.lookup.specs.Devices.{fault_of_kind, is_absence, there};
+
+use crate::memory::copy_names;
+use crate::tree::{Tree, TreeFault};
+use std::alloc::{AllocError, Global};
+use std::collections::BTreeMap;
+use std::io::ErrorKind;
+use std::rt::Files;
+use std::{fs, io};
+
+/// The files and folders of a disk. Each answer is kept, and given again.
+///
+/// There is nothing at a path where another kind of thing is, as a folder where a file is asked for, a pipe, a socket
+/// or a device, which are never opened; where a link leads to nothing; and where a name in the path is a file. Any
+/// other fault is the device's: a missing permission, links in a ring, a path that the system refuses, or a folder
+/// with a name that is not UTF-8.
+#[derive(Drop)]
+pub struct DiskTree<R: Files + AllocGlobal + Clone + Drop> {
+    rt: R,
+    files: BTreeMap<String, Option<Vec<u8>>>,
+    folders: BTreeMap<String, Option<Vec<String>>>,
+    failures: u64,
+}
+
+fn fault_of(e: &io::Error) -> TreeFault
+    ensures { result ≡ fault_of_kind (error_kind e.now) }
+{
+    match e.kind() {
+        ErrorKind::OutOfMemory => TreeFault::OutOfMemory,
+        _ => TreeFault::Device,
+    }
+}
+
+// No name leads to anything there, or the text has a NUL, so that it is no name.
+fn is_absence(e: &io::Error) -> bool
+    ensures { result ≡ is_absence (error_kind e.now) }
+{
+    match e.kind() {
+        ErrorKind::NotFound => true,
+        ErrorKind::NotADirectory => true,
+        ErrorKind::InvalidInput => true,
+        _ => false,
+    }
+}
+
+// What the system's answer says is there.
+fn there<X: Drop>(answer: io::Result<X>) -> Result<Option<X>, TreeFault>
+    ensures { result ≡ there answer }
+{
+    match answer {
+        Ok(found) => Ok(Some(found)),
+        Err(e) => {
+            if is_absence(&e) {
+                Ok(None)
+            } else {
+                Err(fault_of(&e))
+            }
+        }
+    }
+}
+
+// A file is opened only once it is known to be one, since opening a pipe or a device waits, or reads without end.
+fn load_file<R: Files + AllocGlobal>(rt: &R, path: &str) -> Result<Option<Vec<u8>>, TreeFault> {
+    match there(fs::metadata(rt, path))? {
+        None => return Ok(None),
+        Some(found) => {
+            if !found.is_file() {
+                return Ok(None);
+            }
+        }
+    }
+    match fs::read(rt, path) {
+        Ok(bytes) => Ok(Some(bytes)),
+        Err(e) => Err(fault_of(&e)),
+    }
+}
+
+fn list_folder<R: Files + AllocGlobal + Clone + Drop>(
+    rt: &R,
+    dir: &str,
+) -> io::Result<Vec<String>> {
+    let mut names = Vec::new(rt.alloc());
+    for entry in fs::read_dir(rt, dir)? {
+        let entry = entry?;
+        names.push(String::from_str(rt.alloc(), entry.file_name())?)?;
+    }
+    Ok(names)
+}
+
+fn load_folder<R: Files + AllocGlobal + Clone + Drop>(
+    rt: &R,
+    dir: &str,
+) -> Result<Option<Vec<String>>, TreeFault> {
+    match there(fs::metadata(rt, dir))? {
+        None => return Ok(None),
+        Some(found) => {
+            if !found.is_dir() {
+                return Ok(None);
+            }
+        }
+    }
+    match list_folder(rt, dir) {
+        Ok(names) => Ok(Some(names)),
+        Err(e) => Err(fault_of(&e)),
+    }
+}
+
+fn copy_file(answer: &Option<Vec<u8>>) -> Result<Option<Vec<u8>>, AllocError>
+    ensures { IfOk result (λ copy. file_answer copy ≡ file_answer answer.now) }
+{
+    match answer {
+        None => Ok(None),
+        Some(bytes) => Ok(Some(bytes.clone()?)),
+    }
+}
+
+fn copy_folder(
+    alloc: Global,
+    answer: &Option<Vec<String>>,
+) -> Result<Option<Vec<String>>, AllocError>
+    ensures { IfOk result (λ copy. folder_answer copy ≡ folder_answer answer.now) }
+{
+    match answer {
+        None => Ok(None),
+        Some(names) => Ok(Some(copy_names(alloc, names)?)),
+    }
+}
+
+impl<R: Files + AllocGlobal + Clone + Drop> DiskTree<R> {
+    /// The folders that the runtime reaches, of which nothing was asked yet.
+    pub fn new(rt: R) -> DiskTree<R>
+        ensures { (files : Files) (folders : Folders) → ⟦<DiskTree<R> as Tree>⟧.agrees result files folders }
+    {
+        let files = BTreeMap::new(rt.alloc());
+        let folders = BTreeMap::new(rt.alloc());
+        DiskTree {
+            rt,
+            files,
+            folders,
+            failures: 0,
+        }
+    }
+
+    // The fault, with a failure of the device counted. The count has a last value, past which none is told.
+    fn counted(&mut self, fault: TreeFault) -> TreeFault
+        ensures files { self.new.files ≡ self.old.files }
+        ensures folders { self.new.folders ≡ self.old.folders }
+        ensures later { self.old.failures ≤ self.new.failures }
+        ensures device { result ≡ TreeFault.Device → self.old.failures < self.new.failures }
+        ensures same { self.old.failures < u64.MAX → result ≡ fault }
+    {
+        match fault {
+            TreeFault::OutOfMemory => TreeFault::OutOfMemory,
+            TreeFault::Device => {
+                if self.failures == u64::MAX {
+                    return TreeFault::OutOfMemory;
+                }
+                self.failures += 1;
+                TreeFault::Device
+            }
+        }
+    }
+}
+
+impl<R: Files + AllocGlobal + Clone + Drop> Tree for DiskTree<R> {
+    ghost failures = { λ t. t.failures };
+
+    ghost agrees = { λ t files folders.
+        ((path : List ℕ) (answer : _) → get_by_text t.files path ≡ Some answer → files path ≡ file_answer answer)
+        × ((path : List ℕ) (answer : _) → get_by_text t.folders path ≡ Some answer → folders path ≡ folder_answer answer) };
+
+    ghost agreeable = { λ t. (
+      λ path. kept file_answer (get_by_text t.files path),
+      λ path. kept folder_answer (get_by_text t.folders path),
+      (
+        λ path answer had. kept-answer file_answer (get_by_text t.files path) answer had,
+        λ path answer had. kept-answer folder_answer (get_by_text t.folders path) answer had,
+      ),
+    ) };
+
+    fn read(&mut self, path: &str) -> Result<Option<Vec<u8>>, TreeFault> {
+        if let Some(answer) = self.files.get(path) {
+            return Ok(copy_file(answer)?);
+        }
+        let key = String::from_str(self.rt.alloc(), path)?;
+        match load_file(&self.rt, path) {
+            Ok(answer) => {
+                let copy = copy_file(&answer)?;
+                self.files.insert(key, answer)?;
+                Ok(copy)
+            }
+            Err(fault) => Err(self.counted(fault)),
+        }
+    }
+
+    fn entries(&mut self, dir: &str) -> Result<Option<Vec<String>>, TreeFault> {
+        if let Some(answer) = self.folders.get(dir) {
+            return Ok(copy_folder(self.rt.alloc(), answer)?);
+        }
+        let key = String::from_str(self.rt.alloc(), dir)?;
+        match load_folder(&self.rt, dir) {
+            Ok(answer) => {
+                let copy = copy_folder(self.rt.alloc(), &answer)?;
+                self.folders.insert(key, answer)?;
+                Ok(copy)
+            }
+            Err(fault) => Err(self.counted(fault)),
+        }
+    }
+}

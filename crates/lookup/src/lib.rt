@@ -1,0 +1,20 @@
+//! Files and folders by their paths, in memory or on a disk, and the search for modulefiles in them.
+#![tactic(auto)]
+
+mod disk;
+mod laws;
+mod memory;
+mod modulefile;
+mod search;
+mod tree;
+
+pub use disk::DiskTree;
+pub use laws::{contents_agree, some_pair_agrees};
+pub use memory::MemoryTree;
+pub use modulefile::{Modulefile, read_modulefile};
+pub use modulename::{is_module_name, means};
+pub use search::{FindFault, Found, locate};
+pub use tree::{Tree, TreeFault};
+
+#[cfg(test)]
+mod tests;

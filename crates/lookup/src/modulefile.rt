@@ -1,0 +1,49 @@
+//! What a path holds as a modulefile.
+ghost use Rattle.std.specs.Prelude.{◌≡◌, IfOk, Some};
+ghost use Rattle.lookup.specs.Agreement.{Files, Folders, Shows, HasCause};
+ghost use Rattle.lookup.specs.Answers.{modulefile_view};
+ghost use Rattle.lookup.specs.Search.{modulefile};
+
+use crate::tree::{Tree, TreeFault};
+
+/// What a path holds as a modulefile: a file that begins with `#%Module` (modulefile(5)).
+#[derive(Debug, Drop)]
+pub enum Modulefile {
+    /// No file is there.
+    Absent,
+    /// The file does not begin with `#%Module`.
+    NoCookie,
+    /// The file begins with `#%Module`, and is not UTF-8.
+    NotUtf8,
+    /// The text of the whole file.
+    Script(String),
+}
+
+// What every modulefile begins with.
+const COOKIE: &[u8] = b"#%Module";
+
+fn modulefile_of(bytes: Vec<u8>) -> Modulefile
+    ensures { modulefile_view result ≡ modulefile (Some bytes.items) }
+{
+    if !bytes.as_slice().starts_with(COOKIE) {
+        return Modulefile::NoCookie;
+    }
+    match String::from_utf8(bytes) {
+        Ok(text) => Modulefile::Script(text),
+        Err(_) => Modulefile::NotUtf8,
+    }
+}
+
+/// Reads what the path holds as a modulefile.
+///
+/// It fails as the tree does.
+pub fn read_modulefile<T: Tree>(tree: &mut T, path: &str) -> Result<Modulefile, TreeFault>
+    ensures before { Shows (T.agrees tree.new) (λ files folders. T.agrees tree.old files folders) }
+    ensures answer { IfOk result (λ m. Shows (T.agrees tree.new) (λ files folders. modulefile (files path.now) ≡ modulefile_view m)) }
+    ensures cause { HasCause (T.failures tree.old) (T.failures tree.new) result }
+{
+    match tree.read(path)? {
+        None => Ok(Modulefile::Absent),
+        Some(bytes) => Ok(modulefile_of(bytes)),
+    }
+}

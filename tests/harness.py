@@ -1,0 +1,146 @@
+"""Cases over the built program: each makes a folder of its own, runs the program and compares what it wrote."""
+
+import os
+import shutil
+import subprocess
+import sys
+import tempfile
+import traceback
+
+NOBODY = 65534
+SECONDS = 60
+
+CASES = []
+
+
+def case(function):
+    """Adds a function of one folder to the cases."""
+    CASES.append(function)
+    return function
+
+
+class Failed(Exception):
+    """What a case found, where it is not what it wants."""
+
+
+def same(found, wanted, what):
+    if found != wanted:
+        raise Failed(f"{what}: found {found!r}, wanted {wanted!r}")
+
+
+def true(fact, what):
+    if not fact:
+        raise Failed(what)
+
+
+class Folder:
+    """A folder of modulefiles, with a copy of the program that any user may run."""
+
+    def __init__(self, program):
+        self.path = os.fsencode(tempfile.mkdtemp(prefix="modulecmd-"))
+        os.chmod(self.path, 0o755)
+        self.program = os.path.join(self.path, b"modulecmd")
+        shutil.copy(program, self.program)
+        os.chmod(self.program, 0o755)
+        self.modules = os.path.join(self.path, b"m")
+        os.mkdir(self.modules)
+
+    def remove(self):
+        shutil.rmtree(self.path)
+
+    def at(self, name):
+        """The path of a name below the folder of modulefiles, whose folders are made."""
+        path = os.path.join(self.modules, os.fsencode(name))
+        os.makedirs(os.path.dirname(path), exist_ok=True)
+        return path
+
+    def file(self, name, text):
+        """Writes a file, and gives its path."""
+        path = self.at(name)
+        with open(path, "wb") as file:
+            file.write(text if isinstance(text, bytes) else text.encode())
+        return path
+
+    def module(self, name, text):
+        """Writes a modulefile, whose first line is the cookie."""
+        return self.file(name, b"#%Module\n" + (text if isinstance(text, bytes) else text.encode()))
+
+    def environment(self, **variables):
+        """MODULEPATH and these variables, and nothing else. None leaves one out."""
+        given = {b"MODULEPATH": self.modules}
+        for name, value in variables.items():
+            given[name.encode()] = value
+        return encoded(given)
+
+    def run(self, *words, env=None, stdout=subprocess.PIPE, stderr=subprocess.PIPE, close=(), user=None):
+        """Runs the program. `close` holds the numbers of the streams that are closed before."""
+
+        def prepare():
+            for number in close:
+                os.close(number)
+
+        options = {}
+        if user is not None and os.geteuid() == 0:
+            options = {"user": user, "group": user, "extra_groups": []}
+        done = subprocess.run(
+            [self.program, *[os.fsencode(word) for word in words]],
+            env=self.environment() if env is None else env,
+            stdin=subprocess.DEVNULL,
+            stdout=stdout,
+            stderr=stderr,
+            preexec_fn=prepare if close else None,
+            timeout=SECONDS,
+            check=False,
+            **options,
+        )
+        return done
+
+    def answers(self, words, out, err, status, env=None, user=None):
+        """The program writes exactly this, and ends with this status."""
+        done = self.run(*words, env=env, user=user)
+        what = " ".join(repr(word) for word in words)
+        same(done.stderr, err if isinstance(err, bytes) else err.encode(), f"standard error of {what}")
+        same(done.stdout, out if isinstance(out, bytes) else out.encode(), f"standard output of {what}")
+        same(done.returncode, status, f"status of {what}")
+
+    def accepts(self, words, out, env=None):
+        self.answers(words, out, b"", 0, env=env)
+
+    def refuses(self, words, text, env=None, user=None):
+        """The program changes nothing, says the text after `ERROR: `, and ends with status 1."""
+        text = text if isinstance(text, bytes) else text.encode()
+        self.answers(words, b"", b"ERROR: " + text + b"\n", 1, env=env, user=user)
+
+
+def encoded(variables):
+    """An environment of bytes, without the variables that are None."""
+    given = {}
+    for name, value in variables.items():
+        if value is not None:
+            name = name if isinstance(name, bytes) else name.encode()
+            given[name] = value if isinstance(value, bytes) else value.encode()
+    return given
+
+
+def run_all(program):
+    """Runs each case, says how it went, and gives the numbers of the passed and the failed."""
+    passed = 0
+    failed = 0
+    for function in CASES:
+        name = function.__name__.replace("_", " ")
+        folder = Folder(program)
+        try:
+            function(folder)
+            passed += 1
+            print(f"ok: {name}")
+        except Failed as found:
+            failed += 1
+            print(f"FAILED: {name}: {found}")
+        except Exception:
+            failed += 1
+            print(f"FAILED: {name}: it could not run")
+            traceback.print_exc(file=sys.stdout)
+        finally:
+            folder.remove()
+        sys.stdout.flush()
+    return passed, failed

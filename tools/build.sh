@@ -1,0 +1,16 @@
+#!/bin/sh
+# Proves and builds the program, and leaves it at build/bin/modulecmd.
+set -eu
+
+cd "$(dirname "$0")/.."
+rm -f crates/modulecmd_main/out/modulecmd_main build/bin/modulecmd
+
+# `rt run` builds the program and runs it once. Its status is the run's, so what tells is the program itself.
+(cd crates/modulecmd_main && rt run) || true
+if ! test -x crates/modulecmd_main/out/modulecmd_main; then
+    echo 'modulecmd was not built' >&2
+    exit 1
+fi
+mkdir -p build/bin
+cp crates/modulecmd_main/out/modulecmd_main build/bin/modulecmd
+echo 'built build/bin/modulecmd'

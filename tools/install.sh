@@ -1,0 +1,48 @@
+#!/bin/sh
+# Installs what the tests (`shells`) and the measurements (`bench`) need, where it is missing. What apt-get cannot
+# install stays missing, and whoever needs it says so.
+set -eu
+
+# Installs a package where none of its commands is there.
+need() {
+    package=$1
+    shift
+    for command in "$@"; do
+        if command -v "$command" > /dev/null 2>&1; then
+            return 0
+        fi
+    done
+    missing="$missing $package"
+}
+
+missing=
+case $1 in
+    demo)
+        need dash dash
+        ;;
+    shells)
+        need python3 python3
+        need dash dash
+        need bash bash
+        need ksh93u+m ksh93
+        need mksh mksh
+        need zsh zsh
+        ;;
+    bench)
+        need python3 python3
+        need valgrind valgrind
+        need rustc rustc
+        ;;
+esac
+if test -z "$missing"; then
+    exit 0
+fi
+if ! command -v apt-get > /dev/null 2>&1 || test "$(id -u)" != 0; then
+    echo "missing, and not installed:$missing" >&2
+    exit 0
+fi
+apt-get update > /dev/null 2>&1 || true
+for package in $missing; do
+    apt-get install -y --no-install-recommends "$package" > /dev/null 2>&1 \
+        || echo "missing, and apt-get has no $package" >&2
+done
