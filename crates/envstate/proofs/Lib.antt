@@ -6,3 +6,5 @@ pub mod RoundTrip
 pub mod Readable
 pub mod ChangeLemmas
 pub mod Examples
+pub mod PathSteps
+pub mod PathEditLemmas

@@ -5,5 +5,7 @@ pub mod Refused
 pub mod Names
 pub mod Paths
 pub mod PathTexts
+pub mod Tables
 pub mod PathVariables
 pub mod PathRuns
+pub mod PathEdits

@@ -7,6 +7,7 @@ mod env;
 mod fault;
 pub mod laws;
 mod names;
+mod path_texts;
 mod paths;
 
 pub use difference::{Change, changes};
