@@ -1,0 +1,11 @@
+pub mod Texts
+pub mod Environment
+pub mod Changes
+pub mod Refused
+pub mod Names
+pub mod Paths
+pub mod PathTexts
+pub mod Tables
+pub mod PathVariables
+pub mod PathRuns
+pub mod PathEdits
