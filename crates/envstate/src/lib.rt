@@ -1,0 +1,5 @@
+#![tactic(auto)]
+
+mod changes;
+
+pub use changes::Change;
