@@ -1,2 +1,3 @@
 pub mod Shells
 pub mod Printing
+pub mod Output

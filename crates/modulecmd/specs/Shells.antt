@@ -6,7 +6,7 @@ use Rattle.modules.specs.declared.Shell.{Shell}
 use Rattle.modules.specs.declared.Shell.TheVariants.{Sh, Bash, Ksh, Zsh}
 use Rattle.envstate.specs.Texts.{Text}
 use Rattle.envstate.specs.Environment.{Environment, with_value}
-use Rattle.envstate.specs.Changes.{Edit}
+use Rattle.envstate.specs.Changes.{Edit, AreChanges}
 use Rattle.modulecmd.specs.declared.shells.Family.{Family}
 use Rattle.modulecmd.specs.declared.shells.Family.TheVariants.{Posix}
 
@@ -117,3 +117,7 @@ OneReading = (shell : Shell) (text : Text) (ss rs : List Edit) → IsText shell 
 -- a text makes one thing of an environment
 abbrev pub OneEffect : Type 0
 OneEffect = (shell : Shell) (text : Text) (old new other : Environment) → MakesOf shell text old new → MakesOf shell text old other → new ≡ other
+
+-- a text that says the exact difference of two environments makes the second of the first
+abbrev pub DifferenceMakes : Type 0
+DifferenceMakes = (shell : Shell) (text : Text) (old new : Environment) (cs : List Edit) → IsText shell text cs → AreChanges old new cs → MakesOf shell text old new

@@ -4,5 +4,6 @@
 pub mod laws;
 mod print;
 mod shells;
+mod writers;
 
 pub use print::{PrintFault, print_changes};
