@@ -3,6 +3,7 @@
 
 pub mod laws;
 mod print;
+pub mod process;
 mod shells;
 mod writers;
 
