@@ -3,11 +3,12 @@ use Rattle.std.proofs.Common.{◌≡◌, ℕ, zero, suc, ◌<◌, Bool, true, fa
 use Rattle.std.proofs.lemmas.Bool.{cases_Bool, and_parts}
 use Rattle.std.proofs.lemmas.Bool.Decides.{nat_tests}
 use Rattle.std.specs.List.{flat_map, list_all}
-use Rattle.modules.specs.declared.Shell.{Shell}
+use Rattle.modules.specs.declared.requests.Shell.{Shell}
+use Rattle.envstate.specs.Names.{is_name_start, is_name_byte, is_variable_name}
 use Rattle.envstate.specs.Changes.{Edit}
 use Rattle.modulecmd.specs.declared.shells.Family.{Family}
 use Rattle.modulecmd.specs.declared.shells.Family.TheVariants.{Posix}
-use Rattle.modulecmd.specs.Shells.{family_of, is_first, is_later, is_name, is_mark, is_plain, is_unsayable, Part, plain, mark, IsPart, AreParts, part_value, part_text, value_text, set_line, unset_line, Spells, Says, AreLines, IsText}
+use Rattle.modulecmd.specs.Shells.{family_of, is_mark, is_plain, is_unsayable, Part, plain, mark, IsPart, AreParts, part_value, part_text, value_text, set_line, unset_line, Spells, Says, AreLines, IsText}
 
 -- between parts, inside quotes, behind a backslash
 data Mode : Type 0 where
@@ -30,7 +31,7 @@ value_at family behind (b ∷ bs) = cond (is_mark family b) (onto b (value_at fa
 
 abbrev name_at : List ℕ → List ℕ × List ℕ
 name_at [] = ([], [])
-name_at (b ∷ bs) = cond (is_later b) (b ∷ (name_at bs).0, (name_at bs).1) ([], b ∷ bs)
+name_at (b ∷ bs) = cond (is_name_byte b) (b ∷ (name_at bs).0, (name_at bs).1) ([], b ∷ bs)
 
 abbrev expect : List ℕ → List ℕ → Option (List ℕ)
 expect [] bs = Some bs
@@ -63,21 +64,21 @@ expected : (p t : List ℕ) → expect p (p ++ t) ≡ Some t
 expected [] t = refl
 expected (b ∷ p) t = let e : eqb b b ≡ true = grind (arith, nat_tests) in rw e (expected p t)
 
-named : (n : List ℕ) (c : ℕ) (t : List ℕ) → list_all is_later n ≡ true → is_later c ≡ false → name_at (n ++ c ∷ t) ≡ (n, c ∷ t)
+named : (n : List ℕ) (c : ℕ) (t : List ℕ) → list_all is_name_byte n ≡ true → is_name_byte c ≡ false → name_at (n ++ c ∷ t) ≡ (n, c ∷ t)
 named [] c t all e = rw e refl
 named (b ∷ n) c t all e =
-    let p = and_parts (is_later b) (list_all is_later n) all in
+    let p = and_parts (is_name_byte b) (list_all is_name_byte n) all in
     rw (p.0, named n c t p.1 e) refl
 
-first_is_later : (x y : Bool) → x ≡ true → (x || y) ≡ true
-first_is_later true y e = refl
-first_is_later false y e = cc
+start_is_byte : (x y : Bool) → x ≡ true → (x || y) ≡ true
+start_is_byte true y e = refl
+start_is_byte false y e = cc
 
-later_all : (n : List ℕ) → is_name n ≡ true → list_all is_later n ≡ true
+later_all : (n : List ℕ) → is_variable_name n ≡ true → list_all is_name_byte n ≡ true
 later_all [] e = refl
 later_all (b ∷ n) e =
-    let p = and_parts (is_first b) (list_all is_later n) e in
-    rw (first_is_later (is_first b) _ p.0) p.1
+    let p = and_parts (is_name_start b) (list_all is_name_byte n) e in
+    rw (start_is_byte (is_name_start b) _ p.0) p.1
 
 abbrev prepend : List ℕ → Option (List ℕ × List ℕ) → Option (List ℕ × List ℕ)
 prepend [] o = o
@@ -106,23 +107,23 @@ quoted_value family (mark b ∷ ps) are t = rw (are.0, quoted_value family ps ar
 value_found : (family : Family) (ps : List Part) → AreParts family ps → (t : List ℕ) → value_at family outside (value_text family ps ++ 59 ∷ t) ≡ Some (flat_map part_value ps, 59 ∷ t)
 value_found Posix ps are t = quoted_value Posix ps are t
 
-unset_found : (n rest : List ℕ) → is_name n ≡ true → unset_at ((n ++ 59 ∷ 10 ∷ []) ++ rest) ≡ Some ((n, None), rest)
+unset_found : (n rest : List ℕ) → is_variable_name n ≡ true → unset_at ((n ++ 59 ∷ 10 ∷ []) ++ rest) ≡ Some ((n, None), rest)
 unset_found n rest e = rw (append_assoc n (59 ∷ 10 ∷ []) rest, named n 59 (10 ∷ rest) (later_all n e) refl) refl
 
-unset_line_found : (family : Family) (n rest : List ℕ) → is_name n ≡ true → line_at family (unset_line family n ++ rest) ≡ Some ((n, None), rest)
+unset_line_found : (family : Family) (n rest : List ℕ) → is_variable_name n ≡ true → line_at family (unset_line family n ++ rest) ≡ Some ((n, None), rest)
 unset_line_found Posix n rest e = unset_found n rest e
 
-set_step : (n x : List ℕ) → is_name n ≡ true → line_at Posix (n ++ 61 ∷ x) ≡ valued n (set_tail n) (value_at Posix outside x)
+set_step : (n x : List ℕ) → is_variable_name n ≡ true → line_at Posix (n ++ 61 ∷ x) ≡ valued n (set_tail n) (value_at Posix outside x)
 set_step n x e = rw (named n 61 x (later_all n e) refl) refl
 
-set_line_found : (family : Family) (n rest : List ℕ) (ps : List Part) → is_name n ≡ true → AreParts family ps → line_at family (set_line family n (value_text family ps) ++ rest) ≡ Some ((n, Some (flat_map part_value ps)), rest)
+set_line_found : (family : Family) (n rest : List ℕ) (ps : List Part) → is_variable_name n ≡ true → AreParts family ps → line_at family (set_line family n (value_text family ps) ++ rest) ≡ Some ((n, Some (flat_map part_value ps)), rest)
 set_line_found Posix n rest ps e are =
     ap (λ l. line_at Posix l) (append_assoc n (61 ∷ (value_text Posix ps ++ set_tail n)) rest ∙ ap (λ (l : List ℕ). n ++ 61 ∷ l) (append_assoc (value_text Posix ps) (set_tail n) rest))
     ∙ (set_step n (value_text Posix ps ++ (set_tail n ++ rest)) e
     ∙ (ap (λ o. valued n (set_tail n) o) (value_found Posix ps are ((codes " export " ++ (n ++ 59 ∷ 10 ∷ [])) ++ rest))
     ∙ ap (λ o. ended (n, Some (flat_map part_value ps)) o) (expected (set_tail n) rest)))
 
-found : (family : Family) (line rest n : List ℕ) (v : Option (List ℕ)) → is_name n ≡ true → Says family line n v → line_at family (line ++ rest) ≡ Some ((n, v), rest)
+found : (family : Family) (line rest n : List ℕ) (v : Option (List ℕ)) → is_variable_name n ≡ true → Says family line n v → line_at family (line ++ rest) ≡ Some ((n, v), rest)
 found family line rest n None e h = ap (λ l. line_at family (l ++ rest)) h ∙ unset_line_found family n rest e
 found family line rest n (Some v) e h =
     ap (λ l. line_at family (l ++ rest)) (h.2 ∙ ap (λ t. set_line family n t) (sym h.1.spelled))

@@ -4,11 +4,11 @@ use Rattle.std.proofs.lemmas.Bool.{cases_Bool, and_parts}
 use Rattle.std.proofs.lemmas.Bool.Decides.{nat_tests}
 use Rattle.std.proofs.lemmas.List.Folds.{list_all-append}
 use Rattle.std.specs.List.{flat_map, list_all, find}
-use Rattle.modules.specs.declared.Shell.{Shell}
+use Rattle.modules.specs.declared.requests.Shell.{Shell}
 use Rattle.envstate.specs.Changes.{Edit}
 use Rattle.modulecmd.specs.declared.shells.Family.{Family}
 use Rattle.modulecmd.specs.declared.shells.Family.TheVariants.{Posix}
-use Rattle.modulecmd.specs.Shells.{family_of, is_mark, is_plain, is_unsayable, Part, plain, mark, IsPart, AreParts, part_value, part_text, value_text, Spells, Says, is_name, AreLines, IsText}
+use Rattle.modulecmd.specs.Shells.{family_of, is_mark, is_plain, is_unsayable, Part, plain, mark, IsPart, AreParts, part_value, part_text, value_text, Spells, Says, AreLines, IsText}
 use Rattle.modulecmd.specs.Printing.{spell, marked, quoted, is_sayable, value_is_sayable, printed_line, line_by}
 use Rattle.modulecmd.proofs.Bytes.{spell_plain, spell_mark}
 

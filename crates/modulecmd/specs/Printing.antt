@@ -2,14 +2,15 @@
 use Rattle.std.specs.Prelude.{◌≡◌, ℕ, List, [], ◌∷◌, ◌++◌, Bool, true, not, ◌&&◌, Option, Some, None, if◌then◌else◌, string_bytes, find}
 use Rattle.std.specs.List.{flat_map, list_all}
 use Rattle.std.specs.Option.{option_map}
-use Rattle.modules.specs.declared.Shell.{Shell}
+use Rattle.modules.specs.declared.requests.Shell.{Shell}
 use Rattle.envstate.specs.Texts.{Text}
+use Rattle.envstate.specs.Names.{is_variable_name}
 use Rattle.envstate.specs.Changes.{Edit}
 use Rattle.modulecmd.specs.declared.shells.Family.{Family}
 use Rattle.modulecmd.specs.declared.shells.Family.TheVariants.{Posix}
 use Rattle.modulecmd.specs.declared.print.PrintFault.{PrintFault}
 use Rattle.modulecmd.specs.declared.print.PrintFault.TheVariants.{OutOfMemory, NotSayable}
-use Rattle.modulecmd.specs.Shells.{family_of, is_name, is_mark, is_unsayable, set_line, unset_line, IsText}
+use Rattle.modulecmd.specs.Shells.{family_of, is_mark, is_unsayable, set_line, unset_line, IsText}
 
 -- the value, if any, has a spelling
 abbrev pub value_is_sayable : Family → Option Text → Bool
@@ -18,7 +19,7 @@ value_is_sayable family (Some value) = list_all (λ b. not (is_unsayable family 
 
 -- the setting has a line
 abbrev pub is_sayable : Family → Edit → Bool
-is_sayable family s = is_name s.0 && value_is_sayable family s.1
+is_sayable family s = is_variable_name s.0 && value_is_sayable family s.1
 
 -- what is written for a mark
 abbrev pub marked : Family → ℕ → Text

@@ -1,12 +1,13 @@
 -- How shells read lines that set and unset variables. By cases, over whole texts; no shell's text says anything else here.
 -- The sh family (sh, bash, ksh, zsh) is read by POSIX XCU 2.2.1 (a backslash outside quotes) and 2.2.2 (single quotes).
-use Rattle.std.specs.Prelude.{◌≡◌, ◌<◌, length, ℕ, List, [], ◌∷◌, ◌++◌, Bool, false, not, ◌||◌, ◌&&◌, true, ◌==◌, nat_le, Option, Some, None, codes}
+use Rattle.std.specs.Prelude.{◌≡◌, ◌<◌, length, ℕ, List, [], ◌∷◌, ◌++◌, Bool, false, not, ◌||◌, true, ◌==◌, Option, Some, None, codes}
 use Rattle.std.specs.List.{flat_map, list_all}
-use Rattle.modules.specs.declared.Shell.{Shell}
-use Rattle.modules.specs.declared.Shell.TheVariants.{Sh, Bash, Ksh, Zsh}
+use Rattle.modules.specs.declared.requests.Shell.{Shell}
+use Rattle.modules.specs.declared.requests.Shell.TheVariants.{Sh, Bash, Ksh, Zsh}
 use Rattle.envstate.specs.Texts.{Text}
-use Rattle.envstate.specs.Environment.{Environment, with_value}
-use Rattle.envstate.specs.Changes.{Edit, AreChanges}
+use Rattle.envstate.specs.Names.{is_variable_name}
+use Rattle.envstate.specs.Environment.{Environment}
+use Rattle.envstate.specs.Changes.{Edit, AreChanges, applied}
 use Rattle.modulecmd.specs.declared.shells.Family.{Family}
 use Rattle.modulecmd.specs.declared.shells.Family.TheVariants.{Posix}
 
@@ -16,19 +17,6 @@ family_of Sh = Posix
 family_of Bash = Posix
 family_of Ksh = Posix
 family_of Zsh = Posix
-
--- a letter or an underscore
-abbrev pub is_first : ℕ → Bool
-is_first b = b == 95 || (nat_le 65 b && nat_le b 90) || (nat_le 97 b && nat_le b 122)
-
--- that, or a digit
-abbrev pub is_later : ℕ → Bool
-is_later b = is_first b || (nat_le 48 b && nat_le b 57)
-
--- the name of a variable (POSIX XBD 3.216, Name)
-abbrev pub is_name : Text → Bool
-is_name [] = false
-is_name (b ∷ bs) = is_first b && list_all is_later bs
 
 -- a byte that ends the quotes, and is written with a backslash: the single quote
 abbrev pub is_mark : Family → ℕ → Bool
@@ -93,22 +81,17 @@ Says family line name (Some value) = (text : Text) × Spells family text value �
 -- The text is lines that say these settings, in order, each of a variable's name.
 abbrev pub AreLines : Family → Text → List Edit → Type 0
 AreLines family text [] = text ≡ []
-AreLines family text (s ∷ ss) = (line : Text) × (rest : Text) × (is_name s.0 ≡ true) × Says family line s.0 s.1 × AreLines family rest ss × (text ≡ line ++ rest)
+AreLines family text (s ∷ ss) = (line : Text) × (rest : Text) × (is_variable_name s.0 ≡ true) × Says family line s.0 s.1 × AreLines family rest ss × (text ≡ line ++ rest)
 
 -- The shell reads the text as exactly these settings, in order.
 abbrev pub IsText : Shell → Text → List Edit → Type 0
 IsText shell text settings = AreLines (family_of shell) text settings
 
--- what the settings, run one after the other, make of an environment
-abbrev pub after : List Edit → Environment → Environment
-after [] held = held
-after (s ∷ ss) held = after ss (with_value held s.0 s.1)
-
--- what a shell that runs the text makes of an environment
+-- what a shell that runs the text makes of an environment: the settings, one after the other
 pub record MakesOf (shell : Shell) (text : Text) (old new : Environment) : Type 0 where
   pub settings : List Edit
   pub says : IsText shell text settings
-  pub made : new ≡ after settings old
+  pub made : new ≡ applied settings old
 
 -- two lists of settings that one text says are one list
 abbrev pub OneReading : Type 0

@@ -14,4 +14,6 @@ pub fn one_effect()
 /// A text that says the exact difference of two environments makes the second of the first.
 pub fn difference_makes()
     ensures { DifferenceMakes }
-{}
+{
+    envstate::laws::changes();
+}

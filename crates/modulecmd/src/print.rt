@@ -6,8 +6,8 @@ ghost use Rattle.modulecmd.specs.Printing as printing;
 ghost use Rattle.modulecmd.specs.Printing.{printed_line, IsPrintFault, print_fault_number};
 ghost use Rattle.modulecmd.specs.declared.print.PrintFault.TheVariants.{OutOfMemory};
 
-use crate::shells::{Family, are_sayable, family_of, is_name, push_set, push_unset};
-use envstate::Change;
+use crate::shells::{Family, are_sayable, family_of, push_set, push_unset};
+use envstate::{Change, is_variable_name};
 use modules::Shell;
 use std::alloc::{AllocError, Global};
 use thiserror::Error;
@@ -46,7 +46,7 @@ impl From<AllocError> for PrintFault {
 fn is_sayable(family: Family, change: &Change) -> bool
     ensures { result ≡ printing.is_sayable family (edit_of change.now) }
 {
-    if !is_name(change.name.as_str()) {
+    if !is_variable_name(change.name.as_str()) {
         return false;
     }
     match &change.value {

@@ -21,34 +21,6 @@ pub fn family_of(shell: Shell) -> Family
     }
 }
 
-fn is_first(b: u8) -> bool
-    ensures { result ≡ reading.is_first b }
-{
-    b == b'_' || (b'A' <= b && b <= b'Z') || (b'a' <= b && b <= b'z')
-}
-
-fn is_later(b: u8) -> bool
-    ensures { result ≡ reading.is_later b }
-{
-    is_first(b) || (b'0' <= b && b <= b'9')
-}
-
-fn are_later(bytes: &[u8]) -> bool
-    ensures { result ≡ list_all reading.is_later bytes.now }
-{
-    bytes.iter().all(|b| is_later(*b))
-}
-
-/// Whether the text is the name of a variable.
-pub fn is_name(name: &str) -> bool
-    ensures { result ≡ reading.is_name name.now }
-{
-    match name.as_bytes() {
-        [] => false,
-        [first, rest @ ..] => is_first(*first) && are_later(rest),
-    }
-}
-
 fn is_unsayable(family: Family, b: u8) -> bool
     ensures { result ≡ reading.is_unsayable family b }
 {

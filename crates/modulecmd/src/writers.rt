@@ -2,7 +2,7 @@
 ghost use Rattle.std.specs.Prelude.{OnOk};
 ghost use Rattle.std.specs.List.{flat_map};
 ghost use Rattle.std.specs.Io.KnownBytes.{Appends};
-ghost use Rattle.modulecmd.specs.Output.{AppendsFront};
+ghost use Rattle.modulecmd.specs.Writing.{AppendsFront};
 
 use std::io::Write;
 

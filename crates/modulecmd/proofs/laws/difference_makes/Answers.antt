@@ -1,5 +1,9 @@
-use Rattle.modulecmd.proofs.Effects.{difference_makes}
+use Rattle.std.proofs.Common.{sym}
 use Rattle.modulecmd.proofs.laws.difference_makes.Goals as goal
 
 pub returns : goal.returns
-returns c = difference_makes
+returns c shell text old new cs says are = record {
+  settings = cs;
+  says = says;
+  made = sym (c.changes.ensures old new cs are);
+}

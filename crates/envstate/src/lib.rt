@@ -1,5 +1,0 @@
-#![tactic(auto)]
-
-mod changes;
-
-pub use changes::Change;
