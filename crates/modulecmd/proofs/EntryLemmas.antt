@@ -1,5 +1,5 @@
 -- The variable that an entry gives.
-use Rattle.std.proofs.Common.{◌≡◌, Bor, ℕ, zero, suc, ◌<◌, Bool, true, false, cond, not, ◌&&◌, eqb, List, [], ◌∷◌, ◌++◌, length, take, map, Option, Some, None, refl, sym, ap, ◌∙◌, subst, inl, inr, arith}
+use Rattle.std.proofs.Common.{◌≡◌, Bor, ℕ, zero, suc, ◌<◌, Bool, true, false, List, [], ◌∷◌, ◌++◌, length, take, map, refl, sym, ap, ◌∙◌, inl, inr, arith}
 use Rattle.std.proofs.lemmas.Bool.{cases_Bool}
 use Rattle.std.proofs.lemmas.Bool.Decides.{nat_tests}
 use Rattle.std.proofs.lemmas.Str.{IsUtf8-from_is_utf8, is_utf8-from_IsUtf8}
@@ -9,7 +9,7 @@ use Rattle.std.specs.Str.{IsUtf8, is_utf8}
 use Rattle.std.specs.FinMap as finite
 use Rattle.envstate.specs.Texts.{Text}
 use Rattle.envstate.specs.Environment.{Environment}
-use Rattle.modulecmd.specs.Given.{is_equals, is_variable, with_entry, with_entries}
+use Rattle.modulecmd.specs.Given.{is_equals, with_entry, with_entries}
 
 pub no_text : (entry : Text) (e : Environment) → (IsUtf8 entry → ⊥) → with_entry entry e ≡ e
 no_text entry e h = elim (cases_Bool (is_utf8 entry)) [

@@ -1,12 +1,12 @@
 -- What is left where an answer's writing failed.
-use Rattle.std.proofs.Common.{◌≡◌, ◌⊎◌, ◌++◌, ℕ, Option, Result, Ok, Err, take, sym, ap, subst, inl, inr}
+use Rattle.std.proofs.Common.{◌⊎◌, ◌++◌, ℕ, Option, Result, Ok, Err, take, subst, inl, inr}
 use Rattle.std.specs.Io.KnownBytes.{Keeps, Appends}
 use Rattle.envstate.specs.Texts.{Text}
 use Rattle.envstate.specs.Environment.{Environment}
 use Rattle.modulecmd.specs.declared.refuse.CommandFault.TheVariants.{WriteFailed}
 use Rattle.modulecmd.specs.Command.{Effect, Objection}
 use Rattle.modulecmd.specs.Lines.{line_of}
-use Rattle.modulecmd.specs.Output.{said, IsAnswer, AppendsThenFails, Breaks}
+use Rattle.modulecmd.specs.Output.{IsAnswer, AppendsThenFails, Breaks}
 use Rattle.modulecmd.specs.Writing.{AppendsFront}
 
 abbrev pub Half : Option Text → Option Text → Option Text → Option Text → Text → Text → Type 0

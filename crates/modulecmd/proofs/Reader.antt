@@ -1,6 +1,6 @@
 -- A reader of lines, from left to right. Where a text has lines, it finds them: so a text says at most one list of settings.
-use Rattle.std.proofs.Common.{◌≡◌, ℕ, zero, suc, ◌<◌, Bool, true, false, cond, not, ◌&&◌, ◌||◌, eqb, List, [], ◌∷◌, ◌++◌, length, Option, Some, None, codes, refl, sym, ap, ◌∙◌, subst, inl, inr, arith, append-nil, append_assoc}
-use Rattle.std.proofs.lemmas.Bool.{cases_Bool, and_parts}
+use Rattle.std.proofs.Common.{◌≡◌, ℕ, Bool, true, false, cond, ◌||◌, eqb, List, [], ◌∷◌, ◌++◌, Option, Some, None, codes, refl, sym, ap, ◌∙◌, subst, arith, append_assoc}
+use Rattle.std.proofs.lemmas.Bool.{and_parts}
 use Rattle.std.proofs.lemmas.Bool.Decides.{nat_tests}
 use Rattle.std.specs.List.{flat_map, list_all}
 use Rattle.modules.specs.declared.requests.Shell.{Shell}
@@ -8,7 +8,7 @@ use Rattle.envstate.specs.Names.{is_name_start, is_name_byte, is_variable_name}
 use Rattle.envstate.specs.Changes.{Edit}
 use Rattle.modulecmd.specs.declared.shells.Family.{Family}
 use Rattle.modulecmd.specs.declared.shells.Family.TheVariants.{Posix}
-use Rattle.modulecmd.specs.Shells.{family_of, is_mark, is_plain, is_unsayable, Part, plain, mark, IsPart, AreParts, part_value, part_text, value_text, set_line, unset_line, Spells, Says, AreLines, IsText}
+use Rattle.modulecmd.specs.Shells.{family_of, is_mark, is_plain, Part, plain, mark, AreParts, part_value, part_text, value_text, set_line, unset_line, Says, AreLines, IsText}
 
 -- between parts, inside quotes, behind a backslash
 data Mode : Type 0 where

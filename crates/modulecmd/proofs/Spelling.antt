@@ -1,5 +1,5 @@
 -- What is printed is a text of the grammar.
-use Rattle.std.proofs.Common.{◌≡◌, ℕ, zero, suc, ◌<◌, Bool, true, false, cond, not, ◌&&◌, ◌||◌, List, [], ◌∷◌, ◌++◌, length, get_or, take, map, Option, Some, None, refl, sym, ap, ◌∙◌, subst, inl, inr, arith, append-nil, append_assoc}
+use Rattle.std.proofs.Common.{◌≡◌, ℕ, zero, suc, ◌<◌, Bool, true, false, cond, not, ◌||◌, List, [], ◌∷◌, ◌++◌, length, get_or, take, map, Option, Some, None, refl, sym, ap, ◌∙◌, subst, inl, inr, arith, append-nil, append_assoc}
 use Rattle.std.proofs.lemmas.Bool.{cases_Bool, and_parts}
 use Rattle.std.proofs.lemmas.Bool.Decides.{nat_tests}
 use Rattle.std.proofs.lemmas.List.Folds.{list_all-append}
@@ -10,7 +10,6 @@ use Rattle.modulecmd.specs.declared.shells.Family.{Family}
 use Rattle.modulecmd.specs.declared.shells.Family.TheVariants.{Posix}
 use Rattle.modulecmd.specs.Shells.{family_of, is_mark, is_plain, is_unsayable, Part, plain, mark, IsPart, AreParts, part_value, part_text, value_text, Spells, Says, AreLines, IsText}
 use Rattle.modulecmd.specs.Printing.{spell, marked, quoted, is_sayable, value_is_sayable, printed_line, line_by}
-use Rattle.modulecmd.proofs.Bytes.{spell_plain, spell_mark}
 
 -- the parts of a value, behind plain bytes xs
 abbrev parts_from : Family → List ℕ → List ℕ → List Part

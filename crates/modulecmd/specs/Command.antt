@@ -1,5 +1,5 @@
 -- What a command line asks for and what that makes of an environment, over the files of a tree.
-use Rattle.std.specs.Prelude.{◌≡◌, ℕ, List, [], ◌∷◌, codes, if◌then◌else◌, Option, Some, None, Result, Ok, Err, bytes_eq, string_bytes}
+use Rattle.std.specs.Prelude.{ℕ, List, [], ◌∷◌, codes, if◌then◌else◌, Option, Some, None, Result, Ok, Err, bytes_eq, string_bytes}
 use Rattle.envstate.specs.Texts.{Text}
 use Rattle.envstate.specs.Environment.{Environment}
 use Rattle.envstate.specs.Changes.{Edit, AreChanges}
@@ -12,7 +12,10 @@ use Rattle.modules.specs.Requests.{Asked, request_of}
 use Rattle.modules.specs.Answers.{cause_of, Stands}
 use Rattle.modules.specs.Answers.{number_of as refusal_number}
 use Rattle.modules.specs.Steps.{Done, step}
+use Rattle.modules.specs.declared.refusal.Refusal.TheVariants as refusals
 use Rattle.modulecmd.specs.declared.print.PrintFault.TheVariants as prints
+use Rattle.modulecmd.specs.declared.process.ArgumentsFault.{ArgumentsFault}
+use Rattle.modulecmd.specs.declared.process.ArgumentsFault.TheVariants as given
 use Rattle.modulecmd.specs.declared.refuse.CommandFault.{CommandFault}
 use Rattle.modulecmd.specs.declared.refuse.CommandFault.TheVariants.{Refused, Unprinted, UnknownShell, WriteFailed}
 use Rattle.modulecmd.specs.Printing.{IsUnsayable, print_fault_number}
@@ -90,3 +93,8 @@ number_of (Refused refusal) = refusal_number refusal
 number_of (Unprinted fault) = print_fault_number fault
 number_of (UnknownShell word) = 63
 number_of WriteFailed = 64
+
+-- arguments that can't be handed on, as a refusal
+abbrev pub of_arguments : ArgumentsFault → CommandFault
+of_arguments given.OutOfMemory = Refused refusals.OutOfMemory
+of_arguments given.NotUtf8 = Refused refusals.BadArguments

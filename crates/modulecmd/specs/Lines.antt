@@ -1,5 +1,5 @@
 -- The line on standard error that tells why a command is refused.
-use Rattle.std.specs.Prelude.{ℕ, List, [], ◌∷◌, ◌++◌, codes, decimal, string_bytes}
+use Rattle.std.specs.Prelude.{ℕ, [], ◌∷◌, ◌++◌, codes, decimal, string_bytes}
 use Rattle.envstate.specs.Texts.{Text}
 use Rattle.envstate.specs.declared.fault.EnvFault.{EnvFault}
 use Rattle.envstate.specs.declared.fault.EnvFault.TheVariants as edits

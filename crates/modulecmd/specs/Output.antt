@@ -1,5 +1,5 @@
 -- What a command leaves in its two writers.
-use Rattle.std.specs.Prelude.{◌≡◌, ◌⊎◌, ℕ, List, ◌++◌, take, Option, Result, Ok, Err}
+use Rattle.std.specs.Prelude.{◌≡◌, ◌⊎◌, ℕ, ◌++◌, take, Option, Result, Ok, Err}
 use Rattle.std.specs.Io.KnownBytes.{Keeps, Appends}
 use Rattle.envstate.specs.Texts.{Text}
 use Rattle.envstate.specs.Environment.{Environment}

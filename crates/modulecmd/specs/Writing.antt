@@ -1,5 +1,5 @@
 -- What a writer holds after something was written to it.
-use Rattle.std.specs.Prelude.{ℕ, List, take, Option}
+use Rattle.std.specs.Prelude.{ℕ, take, Option}
 use Rattle.std.specs.Io.KnownBytes.{Appends}
 use Rattle.envstate.specs.Texts.{Text}
 

@@ -8,6 +8,8 @@ mod print;
 pub mod process;
 mod refuse;
 mod shells;
+#[cfg(test)]
+mod tests;
 mod writers;
 
 pub use command::modulecmd;

@@ -5,7 +5,7 @@ ghost use Rattle.modulecmd.specs.Lines as lines;
 ghost use Rattle.modulecmd.specs.Lines.{at_byte, line_of};
 ghost use Rattle.modules.specs.declared.refusal.Refusal.TheVariants as refusals;
 ghost use Rattle.modulecmd.specs.declared.refuse.CommandFault.TheVariants.{Refused, Unprinted};
-ghost use Rattle.modulecmd.specs.Command.{number_of};
+ghost use Rattle.modulecmd.specs.Command.{number_of, of_arguments};
 ghost use Rattle.modulecmd.specs.Messages.{text_of};
 
 use crate::print::PrintFault;
@@ -84,6 +84,8 @@ impl From<AllocError> for CommandFault {
 }
 
 impl From<ArgumentsFault> for CommandFault {
+    ghost from_gives = { λ fault e. e ≡ of_arguments fault };
+
     fn from(fault: ArgumentsFault) -> CommandFault {
         match fault {
             ArgumentsFault::OutOfMemory => CommandFault::Refused(Refusal::OutOfMemory),

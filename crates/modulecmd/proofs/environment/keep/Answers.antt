@@ -1,4 +1,4 @@
-use Rattle.std.proofs.Common.{rules, arith, lit<, sym}
+use Rattle.std.proofs.Common.{rules, lit<}
 use Rattle.std.proofs.lemmas.Str.Pattern.{split_once_first}
 use Rattle.modulecmd.proofs.EntryLemmas.{no_text, kept, on_ok}
 use Rattle.modulecmd.proofs.environment.keep.Goals as goal

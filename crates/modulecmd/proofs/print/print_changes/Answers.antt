@@ -1,10 +1,8 @@
-use Rattle.std.proofs.Common.{◌≡◌, ◌<◌, false, true, string_bytes, map, ap, sym, ◌∙◌, refl, take, length, arith, rules, subst, List, ℕ, Some}
+use Rattle.std.proofs.Common.{map, ap, sym, ◌∙◌, rules, List, ℕ, Some}
 use Rattle.std.proofs.lemmas.List.{take_all}
 use Rattle.std.proofs.lemmas.List.Folds.{flat_map-map, list_all-map}
-use Rattle.std.specs.List.{flat_map, list_all}
-use Rattle.std.specs.Option.{option_map}
 use Rattle.envstate.specs.Changes.{edit_of}
-use Rattle.modulecmd.specs.Shells.{family_of, IsText}
+use Rattle.modulecmd.specs.Shells.{family_of}
 use Rattle.modulecmd.specs.Printing.{is_sayable, printed_line}
 use Rattle.modulecmd.proofs.Spelling.{text_from_sayable, find_first, no_text}
 use Rattle.modulecmd.proofs.print.print_changes.Goals as goal

@@ -1,4 +1,4 @@
-use Rattle.std.proofs.Common.{List, ℕ, [], take, drop, suc, length, refl, sym, rules}
+use Rattle.std.proofs.Common.{[], length, rules}
 use Rattle.std.proofs.lemmas.List.{take_all}
 use Rattle.std.specs.List.{flat_map}
 use Rattle.modulecmd.proofs.WriterLemmas.{front_more, piece_at}
