@@ -1,0 +1,31 @@
+-- The environment that a process is given (environ(7)): a block of entries NAME=VALUE, each ended by NUL.
+use Rattle.std.specs.Prelude.{ℕ, Bool, List, [], ◌∷◌, ◌&&◌, ◌==◌, nat_lt, length, if◌then◌else◌}
+use Rattle.std.specs.List.{position_or_len, before_first, after_first, slice_split}
+use Rattle.std.specs.Str.{is_utf8}
+use Rattle.std.specs.FinMap as finite
+use Rattle.envstate.specs.Texts.{Text}
+use Rattle.envstate.specs.Environment.{Environment}
+
+abbrev pub is_equals : ℕ → Bool
+is_equals b = b == 61
+
+-- The entry is UTF-8, and its first '=' has a name before it.
+abbrev pub is_variable : Text → Bool
+is_variable entry = is_utf8 entry && (nat_lt 0 (position_or_len is_equals entry) && nat_lt (position_or_len is_equals entry) (length entry))
+
+-- the environment with the variable of an entry set, if it gives one
+abbrev pub with_entry : Text → Environment → Environment
+with_entry entry e = if is_variable entry then finite.insert e (before_first is_equals entry) (after_first is_equals entry) else e
+
+-- what entries say over an environment: of several for one name the first counts
+abbrev pub with_entries : List Text → Environment → Environment
+with_entries [] e = e
+with_entries (entry ∷ entries) e = with_entry entry (with_entries entries e)
+
+-- the entries of a block: its pieces between NULs
+abbrev pub entries_of : Text → List Text
+entries_of block = slice_split (λ b. b == 0) block
+
+-- what a block says
+abbrev pub environment_of : Text → Environment
+environment_of block = with_entries (entries_of block) finite.empty

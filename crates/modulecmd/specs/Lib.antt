@@ -1,0 +1,8 @@
+pub mod Shells
+pub mod Printing
+pub mod Writing
+pub mod Given
+pub mod Lines
+pub mod Messages
+pub mod Command
+pub mod Output

@@ -1,0 +1,179 @@
+//! One command: the words in, the text and the messages out.
+ghost use Rattle.std.specs.Prelude.{◌≡◌, ◌<◌, ◌≤◌, ◌⊎◌, ◌++◌, ℕ, map, take, Ok, Err, IfOk, IfErr, OnOk, OnErr, string_bytes};
+ghost use Rattle.std.specs.Io.KnownBytes.{Keeps, Appends};
+ghost use Rattle.envstate.specs.Texts.{Text};
+ghost use Rattle.lookup.specs.Agreement.{Files, Folders, Shows};
+ghost use Rattle.modules.specs.Requests.{asked};
+ghost use Rattle.modulecmd.specs.declared.refuse.CommandFault.{CommandFault};
+ghost use Rattle.modulecmd.specs.declared.refuse.CommandFault.TheVariants.{WriteFailed};
+ghost use Rattle.modulecmd.specs.Command as spec;
+ghost use Rattle.modulecmd.specs.Command.{Objection, effect, HasReason, IsUnsaid, LacksText};
+ghost use Rattle.modulecmd.specs.Lines.{line_of};
+ghost use Rattle.modulecmd.specs.Output.{Accepts, AppendsThenFails, Breaks, IsAnswer, Refuses};
+ghost use Rattle.modulecmd.specs.Shells.{MakesOf};
+ghost use Rattle.modulecmd.specs.Writing.{AppendsFront};
+
+use crate::laws::difference_makes;
+use crate::print::print_changes;
+use crate::refuse::{CommandFault, write_refusal};
+use crate::writers::{Broken, write_bytes, write_parts};
+use envstate::{Env, changes};
+use lookup::Tree;
+use modules::{Limits, Refusal, Request, Shell, request, run};
+use std::alloc::Global;
+use std::io::Write;
+
+/// What every command may use.
+const STANDARD: Limits = Limits {
+    commands: 100_000,
+    depth: 200,
+    value_bytes: 1_048_576,
+};
+
+/// What an accepted command writes.
+#[derive(Drop)]
+struct Answer {
+    messages: String,
+    report: String,
+    text: String,
+}
+
+fn shell_named(word: &str) -> Option<Shell>
+    ensures { result ≡ spec.shell_named word.now }
+{
+    match word {
+        "sh" => Some(Shell::Sh),
+        "bash" => Some(Shell::Bash),
+        "ksh" => Some(Shell::Ksh),
+        "zsh" => Some(Shell::Zsh),
+        _ => None,
+    }
+}
+
+/// The request that the arguments make: the name of a shell, and then the words of the request.
+fn command_of(alloc: Global, args: &[String]) -> Result<Request, CommandFault>
+    ensures made { IfOk result (λ r. spec.command_of (map string_bytes args.now) ≡ Ok (r.shell, asked r.action)) }
+    ensures refused { IfErr result (λ fault. HasReason fault (λ o. spec.command_of (map string_bytes args.now) ≡ Err o) (λ name. ⊥) ⊥) }
+{
+    let [word, words @ ..] = args else {
+        return Err(CommandFault::Refused(Refusal::BadArguments));
+    };
+    match shell_named(word.as_str()) {
+        None => Err(CommandFault::UnknownShell(word.clone()?)),
+        Some(shell) => Ok(request(alloc, shell, words)?),
+    }
+}
+
+/// The text that makes of the old environment the new one.
+fn text_for(alloc: Global, shell: Shell, old: &Env, new: &Env) -> Result<String, CommandFault>
+    ensures text { IfOk result (λ text. MakesOf shell (string_bytes text) old.now new.now) }
+    ensures refused { IfErr result (λ fault. HasReason fault (λ o. ⊥) (LacksText shell old.now new.now) ⊥) }
+{
+    difference_makes();
+    let changes = changes(alloc, old, new)?;
+    Ok(print_changes(alloc, shell, changes.as_slice())?)
+}
+
+/// What the command with these arguments writes, before anything is written.
+fn answer_of<T: Tree>(
+    alloc: Global,
+    args: &[String],
+    env: &Env,
+    tree: &mut T,
+) -> Result<Answer, CommandFault>
+    ensures before { Shows (T.agrees tree.new) (λ files folders. T.agrees tree.old files folders) }
+    ensures later { T.failures tree.old ≤ T.failures tree.new }
+    ensures answered { IfOk result (λ a. Shows (T.agrees tree.new) (λ files folders.
+        IsAnswer env.now (effect (map string_bytes args.now) env.now files) (string_bytes a.messages ++ string_bytes a.report) (string_bytes a.text))) }
+    ensures refused { IfErr result (λ fault. HasReason fault
+        (λ o. Shows (T.agrees tree.new) (λ files folders. effect (map string_bytes args.now) env.now files ≡ Err o))
+        (λ name. Shows (T.agrees tree.new) (λ files folders. IsUnsaid env.now (effect (map string_bytes args.now) env.now files) name))
+        (T.failures tree.old < T.failures tree.new)) }
+{
+    let request = command_of(alloc, args)?;
+    let reply = run(alloc, &request, env, tree, STANDARD)?;
+    let text = text_for(alloc, request.shell, env, &reply.env)?;
+    Ok(Answer {
+        messages: reply.messages,
+        report: reply.report,
+        text,
+    })
+}
+
+/// Writes the messages and the report, and then the text, until a write fails.
+fn write_answer<W: Write, E: Write>(answer: &Answer, out: &mut W, err: &mut E) -> Result<(), Broken>
+    ensures whole { OnOk result (Appends (W.contents out.old) (W.contents out.new) (string_bytes answer.now.text)
+        × Appends (E.contents err.old) (E.contents err.new) (string_bytes answer.now.messages ++ string_bytes answer.now.report)) }
+    ensures broken { OnErr result (
+        (Keeps (W.contents out.old) (W.contents out.new)
+        × AppendsFront (E.contents err.old) (E.contents err.new) (string_bytes answer.now.messages ++ string_bytes answer.now.report))
+        ⊎ (AppendsFront (W.contents out.old) (W.contents out.new) (string_bytes answer.now.text)
+        × Appends (E.contents err.old) (E.contents err.new) (string_bytes answer.now.messages ++ string_bytes answer.now.report))) }
+{
+    write_parts(err, &[answer.messages.as_str(), answer.report.as_str()])?;
+    write_bytes(out, answer.text.as_str().as_bytes())
+}
+
+/// Writes what an accepted command writes, and answers its status. After a failed write the line that tells of it is
+/// tried once.
+fn finish<W: Write, E: Write>(answer: &Answer, out: &mut W, err: &mut E) -> u8
+    ensures status { result ≤ 1 }
+    ensures whole { result ≡ 0 → Appends (W.contents out.old) (W.contents out.new) (string_bytes answer.now.text)
+        × Appends (E.contents err.old) (E.contents err.new) (string_bytes answer.now.messages ++ string_bytes answer.now.report) }
+    ensures broken { result ≡ 1 →
+        (Keeps (W.contents out.old) (W.contents out.new)
+        × AppendsThenFails (E.contents err.old) (E.contents err.new) (string_bytes answer.now.messages ++ string_bytes answer.now.report))
+        ⊎ (AppendsFront (W.contents out.old) (W.contents out.new) (string_bytes answer.now.text)
+        × ((j : ℕ) × Appends (E.contents err.old) (E.contents err.new)
+        ((string_bytes answer.now.messages ++ string_bytes answer.now.report) ++ take j (line_of WriteFailed)))) }
+{
+    if write_answer(answer, out, err).is_ok() {
+        return 0;
+    }
+    write_refusal(&CommandFault::WriteFailed, err);
+    1
+}
+
+/// Runs the command with these arguments over an environment and a tree of modulefiles, and answers its status.
+///
+/// The arguments are the name of a shell and the words of a request. An accepted command writes the messages of
+/// modulefiles and its report to standard error, then the text for the shell to standard output, and ends with 0. That
+/// text, read by the shell, makes of the environment what the request's step makes of it.
+///
+/// A refused command writes nothing but the line that tells why, to standard error, and ends with 1. It is refused as
+/// the arguments or the step are, or by 31, 41 or 61 for want of memory, by 43 where the device failed in this call, or
+/// by 62 where the changes have no text in the shell. Where a write fails, 64, the command ends with 1: on standard
+/// error nothing has gone to standard output, on standard output a beginning of the text has.
+pub fn modulecmd<T: Tree, W: Write, E: Write>(
+    alloc: Global,
+    args: &[String],
+    env: Env,
+    tree: &mut T,
+    out: &mut W,
+    err: &mut E,
+) -> u8
+    ensures before { Shows (T.agrees tree.new) (λ files folders. T.agrees tree.old files folders) }
+    ensures later { T.failures tree.old ≤ T.failures tree.new }
+    ensures status { result ≤ 1 }
+    ensures accepted { result ≡ 0 → Shows (T.agrees tree.new) (λ files folders.
+        Accepts env (effect (map string_bytes args.now) env files)
+        (W.contents out.old) (W.contents out.new) (E.contents err.old) (E.contents err.new)) }
+    ensures not_done { result ≡ 1 →
+        (Shows (T.agrees tree.new) (λ files folders.
+        Breaks env (effect (map string_bytes args.now) env files)
+        (W.contents out.old) (W.contents out.new) (E.contents err.old) (E.contents err.new)))
+        ⊎ ((fault : CommandFault)
+        × HasReason fault
+        (λ o. Shows (T.agrees tree.new) (λ files folders. effect (map string_bytes args.now) env files ≡ Err o))
+        (λ name. Shows (T.agrees tree.new) (λ files folders. IsUnsaid env (effect (map string_bytes args.now) env files) name))
+        (T.failures tree.old < T.failures tree.new)
+        × Refuses fault (W.contents out.old) (W.contents out.new) (E.contents err.old) (E.contents err.new)) }
+{
+    match answer_of(alloc, args, &env, tree) {
+        Ok(answer) => finish(&answer, out, err),
+        Err(fault) => {
+            write_refusal(&fault, err);
+            1
+        }
+    }
+}

@@ -1,0 +1,84 @@
+//! Changes of an environment as a text for a shell.
+ghost use Rattle.std.specs.Prelude.{◌≡◌, ◌++◌, map, IfOk, IfErr, OnOk, string_bytes};
+ghost use Rattle.envstate.specs.Changes.{edit_of};
+ghost use Rattle.modulecmd.specs.Shells.{IsText};
+ghost use Rattle.modulecmd.specs.Printing as printing;
+ghost use Rattle.modulecmd.specs.Printing.{printed_line, IsPrintFault, print_fault_number};
+ghost use Rattle.modulecmd.specs.declared.print.PrintFault.TheVariants.{OutOfMemory};
+
+use crate::shells::{Family, are_sayable, family_of, push_set, push_unset};
+use envstate::{Change, is_variable_name};
+use modules::Shell;
+use std::alloc::{AllocError, Global};
+use thiserror::Error;
+
+/// Why changes have no text.
+#[derive(Debug, Drop, Error)]
+pub enum PrintFault {
+    /// Memory was refused.
+    #[error("Out of memory")]
+    OutOfMemory,
+    /// The value of this variable, or its name, can't be written for the shell.
+    #[error("Value of '{0}' can't be said in this shell")]
+    NotSayable(String),
+}
+
+impl PrintFault {
+    /// The number of the refusal.
+    pub fn number(&self) -> u16
+        ensures { result ≡ print_fault_number self.now }
+    {
+        match self {
+            PrintFault::OutOfMemory => 61,
+            PrintFault::NotSayable(_) => 62,
+        }
+    }
+}
+
+impl From<AllocError> for PrintFault {
+    ghost from_gives = { λ _ e. e ≡ OutOfMemory };
+
+    fn from(_e: AllocError) -> PrintFault {
+        PrintFault::OutOfMemory
+    }
+}
+
+fn is_sayable(family: Family, change: &Change) -> bool
+    ensures { result ≡ printing.is_sayable family (edit_of change.now) }
+{
+    if !is_variable_name(change.name.as_str()) {
+        return false;
+    }
+    match &change.value {
+        None => true,
+        Some(value) => are_sayable(family, value.as_str().as_bytes()),
+    }
+}
+
+fn push_line(out: &mut String, family: Family, change: &Change) -> Result<(), AllocError>
+    ensures { OnOk result (string_bytes out.new ≡ string_bytes out.old ++ printed_line family (edit_of change.now)) }
+{
+    match &change.value {
+        None => push_unset(out, family, change.name.as_str()),
+        Some(value) => push_set(out, family, change.name.as_str(), value.as_str()),
+    }
+}
+
+/// The text of these changes, one a line, which the shell reads as exactly these, in order.
+///
+/// Refused as `NotSayable` exactly where no text of the shell says them all: a value holds NUL, or a name is not a
+/// letter or `_` followed by letters, digits and `_`. The variable named is the first such.
+pub fn print_changes(alloc: Global, shell: Shell, changes: &[Change]) -> Result<String, PrintFault>
+    ensures text { IfOk result (λ text. IsText shell (string_bytes text) (map edit_of changes.now)) }
+    ensures fault { IfErr result (IsPrintFault shell (map edit_of changes.now)) }
+{
+    let family = family_of(shell);
+    let mut out = String::new(alloc);
+    for change in changes {
+        if !is_sayable(family, change) {
+            return Err(PrintFault::NotSayable(change.name.clone()?));
+        }
+        push_line(&mut out, family, change)?;
+    }
+    Ok(out)
+}

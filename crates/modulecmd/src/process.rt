@@ -1,0 +1,107 @@
+//! What the process was given: its arguments and its environment.
+ghost use Rattle.std.specs.Prelude.{◌≤◌, IfOk, IfSome, vec_len};
+
+use std::alloc::AllocError;
+use std::env::FillError;
+use std::io::ErrorKind;
+use std::rt::{Env, Files};
+use std::{env, fs};
+
+/// Why the arguments can't be handed on.
+#[derive(Clone, Copy, Debug, PartialEq, Eq)]
+pub enum ArgumentsFault {
+    /// Memory was refused.
+    OutOfMemory,
+    /// An argument isn't UTF-8.
+    NotUtf8,
+}
+
+const OWN_ENVIRONMENT: &str = "/proc/self/environ";
+
+const FIRST_ROOM: usize = 4096;
+
+/// The arguments behind the program's name.
+pub fn arguments<R: Env + AllocGlobal>(rt: &R) -> Result<Vec<String>, ArgumentsFault> {
+    let all = match env::args(rt) {
+        Ok(all) => all,
+        Err(error) if error.kind() == ErrorKind::OutOfMemory => {
+            return Err(ArgumentsFault::OutOfMemory);
+        }
+        Err(_) => return Err(ArgumentsFault::NotUtf8),
+    };
+    let mut arguments = Vec::new(rt.alloc());
+    for argument in all.skip(1) {
+        if arguments.push(argument).is_err() {
+            return Err(ArgumentsFault::OutOfMemory);
+        }
+    }
+    Ok(arguments)
+}
+
+/// The environment as the system keeps it (environ(7)): entry after entry, each ended by NUL.
+///
+/// The system's own list is read at once. Where it can't be read, or isn't the list that the process holds, the entries
+/// are asked for one by one, in time that grows with the square of their number, so that none is lost.
+pub fn environment_block<R: Env + Files + AllocGlobal>(rt: &R) -> Result<Vec<u8>, AllocError> {
+    if let Ok(block) = fs::read(rt, OWN_ENVIRONMENT) {
+        if is_whole(rt, block.as_slice())? {
+            return Ok(block);
+        }
+    }
+    block_by_entries(rt)
+}
+
+/// Whether the block holds as many entries as the process, and the same last one.
+fn is_whole<R: Env + AllocGlobal>(rt: &R, block: &[u8]) -> Result<bool, AllocError> {
+    let mut room = Vec::new(rt.alloc());
+    let count = block.iter().filter(|b| **b == 0).count();
+    if entry_into(rt, count, &mut room)?.is_some() {
+        return Ok(false);
+    }
+    let Some(last) = count.checked_sub(1) else {
+        return Ok(block.is_empty());
+    };
+    let Some(length) = entry_into(rt, last, &mut room)? else {
+        return Ok(false);
+    };
+    let [entries @ .., 0] = block else {
+        return Ok(false);
+    };
+    Ok(entries.split(|b| *b == 0).last() == Some(&room.as_slice()[..length]))
+}
+
+/// The entries one by one, each ended by NUL.
+fn block_by_entries<R: Env + AllocGlobal>(rt: &R) -> Result<Vec<u8>, AllocError> {
+    let mut block = Vec::new(rt.alloc());
+    let mut room = Vec::new(rt.alloc());
+    for i in 0..usize::MAX {
+        match entry_into(rt, i, &mut room)? {
+            None => break,
+            Some(length) => {
+                block.extend_from_slice(&room.as_slice()[..length])?;
+                block.push(0)?;
+            }
+        }
+    }
+    Ok(block)
+}
+
+/// Puts entry `i` at the start of `room`, which grows until it fits, and answers its length.
+fn entry_into<R: Env>(rt: &R, i: usize, room: &mut Vec<u8>) -> Result<Option<usize>, AllocError>
+    ensures { IfOk result (λ found. IfSome found (λ n. n ≤ vec_len room.new)) }
+{
+    for _ in 0..usize::BITS {
+        match rt.var_at(i, room.as_mut_slice()) {
+            Ok(length) => return Ok(Some(length)),
+            Err(FillError::NotPresent) => return Ok(None),
+            Err(FillError::TooLong) => grow(room)?,
+        }
+    }
+    Err(AllocError)
+}
+
+/// Doubles the room.
+fn grow(room: &mut Vec<u8>) -> Result<(), AllocError> {
+    let more = room.len().saturating_add(room.len()).max(FIRST_ROOM);
+    room.resize(more, 0)
+}

@@ -1,0 +1,38 @@
+//! Writing until a write fails.
+ghost use Rattle.std.specs.Prelude.{OnOk};
+ghost use Rattle.std.specs.List.{flat_map};
+ghost use Rattle.std.specs.Io.KnownBytes.{Appends};
+ghost use Rattle.modulecmd.specs.Writing.{AppendsFront};
+
+use std::io::Write;
+
+/// A write failed.
+#[derive(Clone, Copy, Debug, PartialEq, Eq)]
+pub struct Broken;
+
+/// Writes the bytes until a write fails: one that answers 0, or any error, an interrupted one too.
+pub fn write_bytes<W: Write>(to: &mut W, bytes: &[u8]) -> Result<(), Broken>
+    ensures whole { OnOk result (Appends (W.contents to.old) (W.contents to.new) bytes.now) }
+    ensures front { AppendsFront (W.contents to.old) (W.contents to.new) bytes.now }
+{
+    let mut done = 0;
+    while done < bytes.len() {
+        match to.write(&bytes[done..]) {
+            Ok(0) => return Err(Broken),
+            Ok(n) => done += n,
+            Err(_) => return Err(Broken),
+        }
+    }
+    Ok(())
+}
+
+/// Writes the parts one after another, without memory, until a write fails.
+pub fn write_parts<W: Write>(to: &mut W, parts: &[&str]) -> Result<(), Broken>
+    ensures whole { OnOk result (Appends (W.contents to.old) (W.contents to.new) (flat_map (λ part. part.now) parts.now)) }
+    ensures front { AppendsFront (W.contents to.old) (W.contents to.new) (flat_map (λ part. part.now) parts.now) }
+{
+    for part in parts {
+        write_bytes(to, part.as_bytes())?;
+    }
+    Ok(())
+}

@@ -1,0 +1,36 @@
+//! `modulecmd SHELL SUBCOMMAND [ARG...]`: prints the text by which the shell loads or unloads modules.
+#![tactic(auto)]
+
+use modulecmd::process::{arguments, environment_block};
+use modulecmd::{CommandFault, DiskTree, Env, environment_of, modulecmd, write_refusal};
+use std::process::ExitCode;
+
+/// The arguments behind the program's name, and the environment.
+fn given(rt: &HostRuntime) -> Result<(Vec<String>, Env), CommandFault> {
+    let arguments = arguments(rt)?;
+    let block = environment_block(rt)?;
+    let env = environment_of(rt.alloc(), block.as_slice())?;
+    Ok((arguments, env))
+}
+
+fn main(rt: HostRuntime) -> ExitCode {
+    let mut out = rt.stdout();
+    let mut err = rt.stderr();
+    let (arguments, env) = match given(&rt) {
+        Ok(given) => given,
+        Err(fault) => {
+            write_refusal(&fault, &mut err);
+            return ExitCode::from(1);
+        }
+    };
+    let mut tree = DiskTree::new(rt);
+    let status = modulecmd(
+        rt.alloc(),
+        arguments.as_slice(),
+        env,
+        &mut tree,
+        &mut out,
+        &mut err,
+    );
+    ExitCode::from(status)
+}
