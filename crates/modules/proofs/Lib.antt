@@ -1,0 +1,4 @@
+pub mod Refusals
+pub mod RunLemmas
+pub mod LoadLemmas
+pub mod StepLemmas

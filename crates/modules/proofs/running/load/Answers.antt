@@ -1,0 +1,23 @@
+use Rattle.std.proofs.Common.{rules, arith, tests, ◌≡◌, map, string_bytes, ℕ, length, Bool, true, false, List, [], ◌∷◌, ◌++◌, ◌+◌, sym, ap, ◌∙◌, refl, Ok, Err, Result, Some, drop, take, cond, nat_le}
+use Rattle.std.proofs.lemmas.Result.{err_from_is_err_and}
+use Rattle.envstate.specs.Loaded.{entry_of}
+use Rattle.modules.specs.Steps.{Loads, Unloads}
+use Rattle.modules.specs.declared.evaluate.Mode.TheVariants.{Load, Unload}
+use Rattle.modules.specs.Answers.{done_of}
+use Rattle.modules.specs.Running.{left_by, left_loaded, left_unloaded}
+use Rattle.modules.proofs.Refusals.{tells_given, tells_along}
+use Rattle.modules.proofs.StepLemmas.{load_left, unload_left, step-load, step-unload}
+use Rattle.modules.proofs.running.load.Goals as goal
+
+pub returns-clause-answer : goal.returns-clause-answer
+returns-clause-answer g c =
+    let is_at = rw c.as_str.ensures.value at c.in_ok-text.ensures.answer in
+    let given = rw (c.in_ok-found.ensures.found.0, c.as_str-2.ensures.value) at c.load_text.ensures in
+    let xs = map entry_of c.args.entries.now in
+    tells_given (g.T.Tree.agrees c.script_at.new.tree) _ done_of c.load_text.result (left_loaded c.args.limits c.args.env.now xs c.args.name.now)
+      (left_by Loads Load c.args.limits c.args.env.now c.args.name.now (string_bytes c.in_ok-found.found.path) (string_bytes c.in_ok-text.text))
+      (λ files folders agreed. load_left c.args.limits files c.args.env.now xs c.args.name.now (string_bytes c.in_ok-found.found.path) (string_bytes c.in_ok-text.text)
+        (sym c.is_loaded.ensures ∙ c.if-is_loaded.false)
+        (rw (← c.modulepath.ensures) (c.in_ok-found.ensures.found.1 files folders (c.in_ok-text.ensures.before files folders agreed)))
+        (is_at files folders agreed))
+      given

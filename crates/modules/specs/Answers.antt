@@ -1,0 +1,119 @@
+-- What a request's answer says of its step.
+use Rattle.std.specs.Prelude.{◌≡◌, ℕ, List, map, Option, Some, None, Result, Ok, Err, string_bytes}
+use Rattle.std.specs.declared.vec.Vec.{Vec}
+use Rattle.std.specs.declared.alloc.Global.{Global}
+use Rattle.envstate.specs.Environment.{Environment}
+use Rattle.envstate.specs.declared.entry.Loaded.{Loaded}
+use Rattle.envstate.specs.Loaded.{Entry, entry_of}
+use Rattle.envstate.specs.Refused.{Refused, refused_of}
+use Rattle.envstate.specs.Refused.{number_of as edit_number}
+use Rattle.lookup.specs.Agreement.{Files, Folders, Shows}
+use Rattle.lookup.specs.Search.{not_found, not_utf8_at, bad_name}
+use Rattle.lookup.specs.Answers.{find_number}
+use Rattle.lookup.specs.declared.search.FindFault.{FindFault}
+use Rattle.lookup.specs.declared.search.FindFault.TheVariants as finds
+use Rattle.lookup.specs.declared.tree.TreeFault.{TreeFault}
+use Rattle.lookup.specs.declared.tree.TreeFault.TheVariants as trees
+use Rattle.tcltext.specs.Faults.{fault_number}
+use Rattle.tcltext.specs.declared.TextFault.{TextFault}
+use Rattle.tcltext.specs.declared.TextFault.TheVariants as texts
+use Rattle.modules.specs.declared.refusal.Refusal.{Refusal}
+use Rattle.modules.specs.declared.refusal.Refusal.TheVariants as refusals
+use Rattle.modules.specs.declared.running.Reply.{Reply}
+use Rattle.modules.specs.Reasons.{Reason, bad_text, too_many_commands, too_deep, value_too_long, left_out, bad_edit, missed, file_gone, not_a_modulefile, bad_arguments, unknown_subcommand}
+use Rattle.modules.specs.Steps.{Done}
+
+-- what a reply holds
+abbrev pub done_of : Reply → Done
+done_of reply =
+    record {
+      env = reply.env;
+      loaded = map string_bytes reply.loaded.items;
+      messages = string_bytes reply.messages;
+      report = string_bytes reply.report;
+    }
+
+-- what a list of loaded modules says
+abbrev pub entries_view : Vec Loaded Global → List Entry
+entries_view v = map entry_of v.items
+
+-- what is behind a refusal: want of memory, a failed device, or a reason that the step has
+pub data Cause : Type 0 where
+  memory : Cause
+  device : Cause
+  because : Reason → Cause
+  -- no answer is refused so
+  never : Cause
+
+abbrev pub text_cause : TextFault → Cause
+text_cause texts.OutOfMemory = memory
+text_cause fault = because (bad_text fault)
+
+abbrev pub edit_cause : Option Refused → Cause
+edit_cause None = memory
+edit_cause (Some refused) = because (bad_edit refused)
+
+abbrev pub find_cause : FindFault → Cause
+find_cause finds.OutOfMemory = memory
+find_cause finds.Device = device
+find_cause (finds.NotFound name) = because (missed (not_found (string_bytes name)))
+find_cause (finds.BadName name) = because (missed (bad_name (string_bytes name)))
+find_cause (finds.BadDefaultFile path) = never
+find_cause (finds.NotUtf8 path) = because (missed (not_utf8_at (string_bytes path)))
+
+abbrev pub cause_of : Refusal → Cause
+cause_of refusals.OutOfMemory = memory
+cause_of (refusals.Text fault) = text_cause fault
+cause_of refusals.TooManyCommands = because too_many_commands
+cause_of refusals.TooDeep = because too_deep
+cause_of refusals.ValueTooLong = because value_too_long
+cause_of (refusals.LeftOut name) = because (left_out (string_bytes name))
+cause_of (refusals.Env fault) = edit_cause (refused_of fault)
+cause_of (refusals.Find fault) = find_cause fault
+cause_of (refusals.FileGone path) = because (file_gone (string_bytes path))
+cause_of (refusals.NotAModulefile path) = because (not_a_modulefile (string_bytes path))
+cause_of refusals.BadArguments = because bad_arguments
+cause_of (refusals.UnknownSubcommand word) = because (unknown_subcommand (string_bytes word))
+
+-- A cause stands: memory can always be wanting, a device has failed, and a reason is the step's.
+abbrev pub Stands : Cause → (Reason → Type 0) → Type 0 → Type 0
+Stands memory Is failed = Unit {0}
+Stands device Is failed = failed
+Stands (because r) Is failed = Is r
+Stands never Is failed = ⊥
+
+-- A call's result, seen by view, is the outcome, or want of memory.
+abbrev pub Gives : {X Y : Type 0} → (X → Y) → Result X Refusal → Result Y Reason → Type 0
+Gives view (Ok x) outcome = outcome ≡ Ok (view x)
+Gives view (Err e) outcome = Stands (cause_of e) (λ r. outcome ≡ Err r) ⊥
+
+-- An edit in place leaves the environment of the outcome, or ends by its reason, or for want of memory.
+abbrev pub Leaves : Result (Unit {0}) Refusal → Environment → Result Environment Reason → Type 0
+Leaves (Ok u) new outcome = outcome ≡ Ok new
+Leaves (Err e) new outcome = Stands (cause_of e) (λ r. outcome ≡ Err r) ⊥
+
+-- A call over a tree: its result is the outcome in each pair of maps that agrees with the tree now, or want of memory, or
+-- the device has failed.
+abbrev pub Tells : {X Y : Type 0} → (Files → Folders → Type 0) → Type 0 → (X → Y) → Result X Refusal → (Files → Result Y Reason) → Type 0
+Tells agrees failed view (Ok x) outcome = Shows agrees (λ files folders. outcome files ≡ Ok (view x))
+Tells agrees failed view (Err e) outcome = Stands (cause_of e) (λ r. Shows agrees (λ files folders. outcome files ≡ Err r)) failed
+
+-- a tree's fault, as a refusal
+abbrev pub refused_read : TreeFault → Refusal
+refused_read trees.OutOfMemory = refusals.Find finds.OutOfMemory
+refused_read trees.Device = refusals.Find finds.Device
+
+-- the numbers of the refusals
+abbrev pub number_of : Refusal → ℕ
+number_of refusals.OutOfMemory = 31
+number_of (refusals.Text fault) = fault_number fault
+number_of refusals.TooManyCommands = 14
+number_of refusals.TooDeep = 15
+number_of refusals.ValueTooLong = 16
+number_of (refusals.LeftOut name) = 19
+number_of (refusals.Env fault) = edit_number fault
+number_of (refusals.Find fault) = find_number fault
+number_of (refusals.FileGone path) = 54
+number_of (refusals.NotAModulefile path) = 55
+number_of refusals.BadArguments = 56
+number_of (refusals.UnknownSubcommand word) = 57

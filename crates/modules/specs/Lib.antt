@@ -1,0 +1,10 @@
+pub mod Then
+pub mod Records
+pub mod Reasons
+pub mod Requests
+pub mod Commands
+pub mod Evaluation
+pub mod Steps
+pub mod Answers
+pub mod Running
+pub mod Subcommands

@@ -1,0 +1,25 @@
+//! What a command line asks for.
+
+/// A shell whose code is printed.
+#[derive(Clone, Copy, Debug, PartialEq, Eq)]
+pub enum Shell {
+    Sh,
+    Bash,
+    Ksh,
+    Zsh,
+}
+
+/// What is asked for: each with the names of modules as they were typed.
+#[derive(Debug, Drop)]
+pub enum Action {
+    Load(Vec<String>),
+    Unload(Vec<String>),
+}
+
+/// An action, and the shell that is to run the printed text.
+#[derive(Debug, Drop)]
+pub struct Request {
+    pub shell: Shell,
+    pub action: Action,
+}
+
