@@ -1,0 +1,10 @@
+use Rattle.envstate.proofs.laws.path_texts.Goals as goal
+use Rattle.envstate.proofs.RoundTrip.{state_of-written}
+use Rattle.envstate.proofs.Readable.{IsWritable-state_of}
+use Rattle.envstate.proofs.Examples.{one, two, three, four, five}
+
+pub returns-clause-read_again : goal.returns-clause-read_again
+returns-clause-read_again c = let a = one in let b = two in let d = three in let e = four in let f = five in state_of-written
+
+pub returns-clause-writable : goal.returns-clause-writable
+returns-clause-writable c = IsWritable-state_of

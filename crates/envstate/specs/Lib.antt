@@ -1,0 +1,15 @@
+pub mod Texts
+pub mod Environment
+pub mod Changes
+pub mod Refused
+pub mod Names
+pub mod Paths
+pub mod PathTexts
+pub mod PathVariables
+pub mod PathRuns
+pub mod LoadedTexts
+pub mod Loaded
+pub mod Stacks
+pub mod StackTexts
+pub mod StackVariables
+pub mod StackRuns
