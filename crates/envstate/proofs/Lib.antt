@@ -6,5 +6,7 @@ pub mod RoundTrip
 pub mod Readable
 pub mod ChangeLemmas
 pub mod Examples
+pub mod FieldLemmas
 pub mod LoadedExamples
 pub mod StackLemmas
+pub mod LoadedReading

@@ -8,7 +8,7 @@ use Rattle.std.specs.declared.alloc.Global.{Global}
 use Rattle.modulename.specs.ModuleName.{is_module_name}
 use Rattle.envstate.specs.Texts.{Text, has}
 use Rattle.envstate.specs.PathTexts.{colon, text_of, firsts}
-use Rattle.envstate.specs.LoadedTexts.{names_variable, files_variable, conflicts_variable, prereqs_variable, elements_in, is_empty, are_consistent, words_of, conflicts_among, prereqs_among, has_names, element_of, group_text}
+use Rattle.envstate.specs.LoadedTexts.{names_variable, files_variable, conflicts_variable, prereqs_variable, elements_in, is_empty, are_consistent, first_element, words_in, conflicts_among, prereqs_among, has_names, element_of, group_text}
 use Rattle.envstate.specs.Environment.{Environment, lookup, with_value}
 use Rattle.envstate.specs.Changes.{are_distinct}
 use Rattle.envstate.specs.Refused.{Refused, inconsistent}
@@ -26,23 +26,26 @@ pub record Entry : Type 0 where
 abbrev pub names_of : List Entry → List Text
 names_of entries = map (λ x. x.name) entries
 
--- each name with its file, and with what the other two texts say of it
-abbrev pub entries_from : List Text → List Text → List Text → List Text → List Entry
+-- each name with its file, and with what the element that either of the other two texts has for it says
+abbrev pub entries_from : (Text → Option Text) → (Text → Option Text) → List Text → List Text → List Entry
 entries_from conflicts prereqs [] files = []
 entries_from conflicts prereqs (name ∷ names) [] = []
 entries_from conflicts prereqs (name ∷ names) (file ∷ files) =
     record {
       name = name;
       path = file;
-      conflicts = conflicts_among (words_of name conflicts);
-      prereqs = prereqs_among (words_of name prereqs);
+      conflicts = conflicts_among (words_in (conflicts name));
+      prereqs = prereqs_among (words_in (prereqs name));
     } ∷ entries_from conflicts prereqs names files
+
+abbrev pub first_in : Option Text → Text → Option Text
+first_in text name = first_element name (elements_in text)
 
 -- The list that the four texts say; none where the first two do not fit together.
 abbrev pub entries_in : Option Text → Option Text → Option Text → Option Text → Option (List Entry)
 entries_in names files conflicts prereqs =
     if are_consistent (elements_in names) (elements_in files)
-    then Some (entries_from (elements_in conflicts) (elements_in prereqs) (elements_in names) (elements_in files))
+    then Some (entries_from (first_in conflicts) (first_in prereqs) (elements_in names) (elements_in files))
     else None
 
 abbrev pub loaded_in : Environment → Option (List Entry)

@@ -1,6 +1,9 @@
 -- The four texts of the loaded modules (modulefile(5)): what their elements say, and how they are written.
 use Rattle.std.specs.Prelude.{ℕ, Bool, true, false, not, ◌&&◌, ◌==◌, List, [], ◌∷◌, map, filter, length, bytes_eq, codes, if◌then◌else◌, Option, Some, None}
 use Rattle.std.specs.List.{slice_split, join_with_byte, list_all}
+use Rattle.std.specs.Option.{option_map}
+use Rattle.std.specs.Borrow.{Bor}
+use Rattle.indexmap.specs.IndexMap.{IndexMap, get_by}
 use Rattle.modulename.specs.ModuleName.{is_module_name}
 use Rattle.envstate.specs.Texts.{Text}
 use Rattle.envstate.specs.Changes.{are_distinct}
@@ -40,7 +43,7 @@ is_empty (b ∷ bs) = false
 -- The names and the files are those of one list: as many, each name well spelled and once, each path with a byte.
 abbrev pub are_consistent : List Text → List Text → Bool
 are_consistent names files =
-    length names == length files && list_all is_module_name names && are_distinct names && list_all (λ file. not (is_empty file)) files
+    length names == length files && list_all is_module_name names && list_all (λ file. not (is_empty file)) files && are_distinct names
 
 -- the parts of an element: a module, and then its words
 abbrev pub parts_of : Text → List Text
@@ -62,10 +65,6 @@ first_element name (element ∷ elements) = if bytes_eq name (first_part (parts_
 abbrev pub words_in : Option Text → List Text
 words_in None = []
 words_in (Some element) = later_parts (parts_of element)
-
--- the words of a module
-abbrev pub words_of : Text → List Text → List Text
-words_of name elements = words_in (first_element name elements)
 
 -- the names that are well spelled; others are passed over
 abbrev pub names_among : List Text → List Text
@@ -92,3 +91,7 @@ element_of name words = join_with_byte ampersand (name ∷ words)
 
 abbrev pub group_text : List Text → Text
 group_text names = join_with_byte bar names
+
+-- what a table of elements has for a module
+abbrev pub element_in : {S : Type 0} → IndexMap (Bor Text) (Bor Text) S → Text → Option Text
+element_in m name = option_map (λ x. x.now) (get_by (λ k. bytes_eq name k.now) m)

@@ -6,6 +6,7 @@ mod difference;
 mod entry;
 mod env;
 mod fault;
+mod fields;
 pub mod laws;
 mod loaded_list;
 mod names;
