@@ -8,3 +8,7 @@ pub mod ChangeLemmas
 pub mod Examples
 pub mod PathSteps
 pub mod PathEditLemmas
+pub mod FieldLemmas
+pub mod LoadedExamples
+pub mod StackLemmas
+pub mod LoadedReading

@@ -63,14 +63,14 @@ pub(crate) fn judge_name(alloc: Global, name: &str) -> Result<(), EnvFault>
 }
 
 /// Whether a variable may hold the value: one without NUL.
-pub(crate) fn is_plain_value(value: &str) -> bool
+pub fn is_plain_value(value: &str) -> bool
     ensures { result ≡ is_plain_value value.now }
 {
     value.as_bytes().iter().all(|b| *b != 0)
 }
 
 /// The name of the variable that holds the counters of a path variable.
-pub(crate) fn share_name(alloc: Global, name: &str) -> Result<String, AllocError>
+pub fn share_name(alloc: Global, name: &str) -> Result<String, AllocError>
     ensures { IfOk result (λ s. string_bytes s ≡ share_name name.now) }
 {
     format!(in alloc; "__MODULES_SHARE_{name}")

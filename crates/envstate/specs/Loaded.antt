@@ -1,0 +1,174 @@
+-- The loaded modules (modulefile(5)): a list of entries in load order, and the four variables that say it.
+use Rattle.std.specs.Option.{option_map}
+use Rattle.std.specs.Prelude.{◌≡◌, Bool, true, false, not, ◌&&◌, ◌==◌, List, [], ◌∷◌, ◌++◌, map, filter, bytes_eq, string_bytes, if◌then◌else◌, Option, Some, None, Result, Ok, Err}
+use Rattle.std.specs.List.{list_any, list_all}
+use Rattle.std.specs.declared.vec.Vec.{Vec}
+use Rattle.std.specs.declared.string.String.{String}
+use Rattle.std.specs.declared.alloc.Global.{Global}
+use Rattle.modulename.specs.ModuleName.{is_module_name}
+use Rattle.envstate.specs.Texts.{Text, has}
+use Rattle.envstate.specs.PathTexts.{colon, text_of, firsts}
+use Rattle.envstate.specs.LoadedTexts.{names_variable, files_variable, conflicts_variable, prereqs_variable, elements_in, is_empty, are_consistent, first_element, words_in, conflicts_among, prereqs_among, has_names, element_of, group_text}
+use Rattle.envstate.specs.Environment.{Environment, lookup, with_value}
+use Rattle.envstate.specs.Changes.{are_distinct}
+use Rattle.envstate.specs.Refused.{Refused, inconsistent}
+use Rattle.envstate.specs.declared.entry.Loaded.{Loaded}
+use Rattle.envstate.specs.declared.fault.EnvFault.{EnvFault}
+use Rattle.envstate.specs.declared.fault.EnvFault.TheVariants.{OutOfMemory, BadVariable, Protected, CounterFull, Inconsistent, BadStack, BadValue}
+
+-- a loaded module, its full path, the names that it conflicts with, and the groups of names of which it needs one each
+pub record Entry : Type 0 where
+  pub name : Text
+  pub path : Text
+  pub conflicts : List Text
+  pub prereqs : List (List Text)
+
+abbrev pub names_of : List Entry → List Text
+names_of entries = map (λ x. x.name) entries
+
+-- each name with its file, and with what the element that either of the other two texts has for it says
+abbrev pub entries_from : (Text → Option Text) → (Text → Option Text) → List Text → List Text → List Entry
+entries_from conflicts prereqs [] files = []
+entries_from conflicts prereqs (name ∷ names) [] = []
+entries_from conflicts prereqs (name ∷ names) (file ∷ files) =
+    record {
+      name = name;
+      path = file;
+      conflicts = conflicts_among (words_in (conflicts name));
+      prereqs = prereqs_among (words_in (prereqs name));
+    } ∷ entries_from conflicts prereqs names files
+
+abbrev pub first_in : Option Text → Text → Option Text
+first_in text name = first_element name (elements_in text)
+
+-- The list that the four texts say; none where the first two do not fit together.
+abbrev pub entries_in : Option Text → Option Text → Option Text → Option Text → Option (List Entry)
+entries_in names files conflicts prereqs =
+    if are_consistent (elements_in names) (elements_in files)
+    then Some (entries_from (first_in conflicts) (first_in prereqs) (elements_in names) (elements_in files))
+    else None
+
+abbrev pub loaded_in : Environment → Option (List Entry)
+loaded_in e = entries_in (lookup e names_variable) (lookup e files_variable) (lookup e conflicts_variable) (lookup e prereqs_variable)
+
+-- Writing: a list without elements unsets its variable.
+abbrev pub names_text : List Entry → Option Text
+names_text entries = text_of (names_of entries)
+
+abbrev pub files_text : List Entry → Option Text
+files_text entries = text_of (map (λ x. x.path) entries)
+
+-- an element for each module that conflicts with some
+abbrev pub conflict_elements : List Entry → List Text
+conflict_elements [] = []
+conflict_elements (x ∷ xs) = if has_names x.conflicts then element_of x.name x.conflicts ∷ conflict_elements xs else conflict_elements xs
+
+abbrev pub conflicts_text : List Entry → Option Text
+conflicts_text entries = text_of (conflict_elements entries)
+
+abbrev pub has_groups : List (List Text) → Bool
+has_groups [] = false
+has_groups (group ∷ groups) = true
+
+-- an element for each module that needs some
+abbrev pub prereq_elements : List Entry → List Text
+prereq_elements [] = []
+prereq_elements (x ∷ xs) = if has_groups x.prereqs then element_of x.name (map group_text x.prereqs) ∷ prereq_elements xs else prereq_elements xs
+
+abbrev pub prereqs_text : List Entry → Option Text
+prereqs_text entries = text_of (prereq_elements entries)
+
+-- the environment with this list in the four variables
+abbrev pub with_loaded : Environment → List Entry → Environment
+with_loaded e entries =
+    with_value (with_value (with_value (with_value e names_variable (names_text entries)) files_variable (files_text entries))
+    conflicts_variable (conflicts_text entries)) prereqs_variable (prereqs_text entries)
+
+-- a path has a byte, and no colon
+abbrev pub is_path : Text → Bool
+is_path path = not (is_empty path) && not (list_any (λ b. b == colon) path)
+
+-- a group has names, and each is well spelled
+abbrev pub is_group : List Text → Bool
+is_group group = has_names group && list_all is_module_name group
+
+-- an entry that is read again as it was written, but for repeated conflicts
+abbrev pub is_entry : Entry → Bool
+is_entry x = is_module_name x.name && is_path x.path && list_all is_module_name x.conflicts && list_all is_group x.prereqs
+
+-- Each entry can be written, no module stands twice, and no entry has a conflict twice.
+pub record IsLoadedList (entries : List Entry) : Type 0 where
+  pub each : list_all is_entry entries ≡ true
+  pub names : are_distinct (names_of entries) ≡ true
+  pub conflicts : list_all (λ x. are_distinct x.conflicts) entries ≡ true
+
+-- In order: the four texts are those that one list is written as.
+pub record AreLoadedInOrder (e : Environment) : Type 0 where
+  pub entries : List Entry
+  pub list : IsLoadedList entries
+  pub written : with_loaded e entries ≡ e
+
+-- the entry joins the list where it can be written, and its module is not loaded
+abbrev pub can_be_added : List Entry → Entry → Bool
+can_be_added entries x = is_entry x && not (has x.name (names_of entries))
+
+-- a repeated conflict is kept once
+abbrev pub kept_once : Entry → Entry
+kept_once x = record { name = x.name; path = x.path; conflicts = firsts x.conflicts; prereqs = x.prereqs }
+
+abbrev pub added_to : Environment → Entry → Option (List Entry) → Result Environment Refused
+added_to e x None = Err inconsistent
+added_to e x (Some entries) = if can_be_added entries x then Ok (with_loaded e (entries ++ kept_once x ∷ [])) else Err inconsistent
+
+-- a new last entry
+abbrev pub added_loaded : Environment → Entry → Result Environment Refused
+added_loaded e x = added_to e x (loaded_in e)
+
+abbrev pub without_entry : Text → List Entry → List Entry
+without_entry name entries = filter (λ x. not (bytes_eq name x.name)) entries
+
+abbrev pub dropped_from : Environment → Text → Option (List Entry) → Result Environment Refused
+dropped_from e name None = Err inconsistent
+dropped_from e name (Some entries) = if has name (names_of entries) then Ok (with_loaded e (without_entry name entries)) else Ok e
+
+-- the module's entry leaves; where it is not loaded nothing changes
+abbrev pub dropped_loaded : Environment → Text → Result Environment Refused
+dropped_loaded e name = dropped_from e name (loaded_in e)
+
+abbrev pub conflicts_named : Text → List Entry → List Text
+conflicts_named name [] = []
+conflicts_named name (x ∷ xs) = if bytes_eq name x.name then x.conflicts else conflicts_named name xs
+
+abbrev pub prereqs_named : Text → List Entry → List (List Text)
+prereqs_named name [] = []
+prereqs_named name (x ∷ xs) = if bytes_eq name x.name then x.prereqs else prereqs_named name xs
+
+-- what a loaded module conflicts with; nothing where it is not loaded
+abbrev pub conflicts_in : Environment → Text → Option (List Text)
+conflicts_in e name = option_map (conflicts_named name) (loaded_in e)
+
+abbrev pub prereqs_in : Environment → Text → Option (List (List Text))
+prereqs_in e name = option_map (prereqs_named name) (loaded_in e)
+
+abbrev pub texts_in : Vec (String Global) Global → List Text
+texts_in v = map string_bytes v.items
+
+abbrev pub groups_in : Vec (Vec (String Global) Global) Global → List (List Text)
+groups_in v = map texts_in v.items
+
+abbrev pub entry_of : Loaded → Entry
+entry_of x = record { name = string_bytes x.name; path = string_bytes x.path; conflicts = texts_in x.conflicts; prereqs = groups_in x.prereqs }
+
+-- The answer is this; inconsistent exactly where there is none.
+abbrev pub Answers : {A B : Type 0} → (A → B) → Result A EnvFault → Option B → Type 0
+Answers view (Ok a) outcome = outcome ≡ Some (view a)
+Answers view (Err OutOfMemory) outcome = Unit {0}
+Answers view (Err Inconsistent) outcome = outcome ≡ None
+Answers view (Err (BadVariable var)) outcome = ⊥
+Answers view (Err (Protected var)) outcome = ⊥
+Answers view (Err (CounterFull var)) outcome = ⊥
+Answers view (Err (BadStack var)) outcome = ⊥
+Answers view (Err (BadValue var)) outcome = ⊥
+
+abbrev pub Lists : Result (Vec Loaded Global) EnvFault → Option (List Entry) → Type 0
+Lists result outcome = Answers (λ v. map entry_of v.items) result outcome

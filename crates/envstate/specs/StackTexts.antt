@@ -1,0 +1,82 @@
+-- The text of a stack: elements `module&value`, newest first, joined by colons, with escapes.
+use Rattle.std.specs.Prelude.{ℕ, Bool, true, false, not, ◌&&◌, ◌||◌, ◌==◌, List, [], ◌∷◌, ◌++◌, map, if◌then◌else◌, Option, Some, None}
+use Rattle.std.specs.List.{onto_first, list_all, list_any}
+use Rattle.std.specs.Option.{option_map, option_and_then}
+use Rattle.envstate.specs.Texts.{Text}
+use Rattle.envstate.specs.PathTexts.{colon, text_of}
+use Rattle.envstate.specs.LoadedTexts.{ampersand}
+use Rattle.envstate.specs.Stacks.{Item, holds}
+
+abbrev pub backslash : ℕ
+backslash = 92
+
+-- a backslash or a colon, which stand in an element with a backslash before them
+abbrev pub is_special : ℕ → Bool
+is_special c = c == backslash || c == colon
+
+abbrev pub escaped : Text → Text
+escaped [] = []
+escaped (c ∷ cs) = if is_special c then backslash ∷ c ∷ escaped cs else c ∷ escaped cs
+
+-- The elements are parted by the colons that no backslash escapes. A backslash before another character, or at the end,
+-- is itself.
+abbrev pub stack_elements : Text → List Text
+stack_elements [] = [] ∷ []
+stack_elements (c ∷ []) = if c == colon then [] ∷ [] ∷ [] else (c ∷ []) ∷ []
+stack_elements (c ∷ k ∷ cs) =
+    if c == colon
+    then [] ∷ stack_elements (k ∷ cs)
+    else if c == backslash && is_special k then onto_first k (stack_elements cs) else onto_first c (stack_elements (k ∷ cs))
+
+-- an element is cut at its first `&`
+abbrev pub with_first : ℕ → Text × Text → Text × Text
+with_first c p = (c ∷ p.0, p.1)
+
+abbrev pub cut : Text → Option (Text × Text)
+cut [] = None
+cut (c ∷ cs) = if c == ampersand then Some ([], cs) else option_map (with_first c) (cut cs)
+
+-- before the `&` stands the owner, or nothing in a bottom
+abbrev pub owner_of : Text → Option Text
+owner_of [] = None
+owner_of (c ∷ cs) = Some (c ∷ cs)
+
+abbrev pub item_of : Text → Option Item
+item_of element = option_map (λ p. (owner_of p.0, p.1)) (cut element)
+
+abbrev pub items_of_elements : List Text → Option (List Item)
+items_of_elements [] = Some []
+items_of_elements (element ∷ elements) = option_and_then (λ item. option_map (λ items. item ∷ items) (items_of_elements elements)) (item_of element)
+
+-- a bottom stands last, and no owner has two elements
+abbrev pub is_stack : List Item → Bool
+is_stack [] = true
+is_stack ((None, value) ∷ []) = true
+is_stack ((None, value) ∷ item ∷ items) = false
+is_stack ((Some owner, value) ∷ items) = not (holds owner items) && is_stack items
+
+abbrev pub only_stack : List Item → Option (List Item)
+only_stack items = if is_stack items then Some items else None
+
+-- the items that a text says; none where it is no stack
+abbrev pub items_in : Option Text → Option (List Item)
+items_in None = Some []
+items_in (Some t) = option_and_then only_stack (items_of_elements (stack_elements t))
+
+abbrev pub element_text : Item → Text
+element_text (None, value) = ampersand ∷ value
+element_text (Some owner, value) = owner ++ ampersand ∷ value
+
+-- no item unsets the variable
+abbrev pub stack_text : List Item → Option Text
+stack_text items = text_of (map (λ item. escaped (element_text item)) items)
+
+-- an owner that can be read again: it isn't empty, and holds no `&`
+abbrev pub can_own : Option Text → Bool
+can_own None = true
+can_own (Some []) = false
+can_own (Some (c ∷ cs)) = not (list_any (λ b. b == ampersand) (c ∷ cs))
+
+-- what a text can say
+abbrev pub is_writable_stack : List Item → Bool
+is_writable_stack items = is_stack items && list_all (λ item. can_own item.0) items

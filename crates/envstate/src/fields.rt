@@ -1,0 +1,119 @@
+//! Texts made of fields: parted, joined, each once.
+ghost use Rattle.std.specs.Prelude.{◌≡◌, ◌==◌, ◌<◌, ◌++◌, [], ◌∷◌, List, map, filter, IfOk, OnOk, string_bytes};
+ghost use Rattle.std.specs.List.{slice_split, join_with_byte};
+ghost use Rattle.std.specs.Option.{option_map};
+ghost use Rattle.modulename.specs.ModuleName.{is_module_name};
+ghost use Rattle.envstate.specs.Texts.{Text, shown};
+ghost use Rattle.envstate.specs.Changes.{are_distinct};
+ghost use Rattle.envstate.specs.PathTexts.{firsts, text_of};
+ghost use Rattle.envstate.specs.LoadedTexts.{elements_in};
+ghost use Rattle.envstate.specs.Loaded.{texts_in};
+
+use indexmap::IndexSet;
+use modulename::is_module_name;
+use std::alloc::{AllocError, Global};
+
+/// The parts between the separators, which are ASCII.
+pub(crate) fn parts(alloc: Global, text: &str, separator: char) -> Result<Vec<&str>, AllocError>
+    requires { separator < 128 }
+    ensures { IfOk result (λ v. shown v.items ≡ slice_split (λ b. b == separator) text.now) }
+{
+    text.split(separator).collect(alloc)
+}
+
+/// The parts with the separator between them, which is ASCII.
+pub(crate) fn join(alloc: Global, parts: &[&str], separator: char) -> Result<String, AllocError>
+    requires { separator < 128 }
+    ensures { IfOk result (λ t. string_bytes t ≡ join_with_byte separator (shown parts.now)) }
+{
+    let [first, later @ ..] = parts else {
+        return Ok(String::new(alloc));
+    };
+    let mut text = String::from_str(alloc, first)?;
+    let mut rest = later;
+    while let [part, after @ ..] = rest {
+        text.push(separator)?;
+        text.push_str(part)?;
+        rest = after;
+    }
+    Ok(text)
+}
+
+/// The elements of a text, parted by colons; none where it is unset or empty.
+pub(crate) fn elements(alloc: Global, text: Option<&str>) -> Result<Vec<&str>, AllocError>
+    ensures { IfOk result (λ v. shown v.items ≡ elements_in (option_map (λ t. t.now) text.entry)) }
+{
+    match text {
+        None => Ok(Vec::new(alloc)),
+        Some(text) => {
+            if text.is_empty() {
+                Ok(Vec::new(alloc))
+            } else {
+                parts(alloc, text, ':')
+            }
+        }
+    }
+}
+
+/// The elements with colons between them; none unsets the variable.
+pub(crate) fn text_of(alloc: Global, elements: &[&str]) -> Result<Option<String>, AllocError>
+    ensures { IfOk result (λ t. option_map string_bytes t ≡ text_of (shown elements.now)) }
+{
+    if elements.is_empty() {
+        return Ok(None);
+    }
+    Ok(Some(join(alloc, elements, ':')?))
+}
+
+/// Each text once, by its first place.
+pub(crate) fn once<'a>(alloc: Global, texts: &[&'a str]) -> Result<Vec<&'a str>, AllocError>
+    ensures { IfOk result (λ v. shown v.items ≡ firsts (shown texts.now)) }
+{
+    let mut done = IndexSet::new(alloc);
+    let mut rest = texts;
+    while let [text, after @ ..] = rest {
+        done.insert(*text)?;
+        rest = after;
+    }
+    done.into_iter().collect(alloc)
+}
+
+/// Whether no text stands twice.
+pub(crate) fn are_distinct(alloc: Global, texts: &[&str]) -> Result<bool, AllocError>
+    ensures { IfOk result (λ b. b ≡ are_distinct (shown texts.now)) }
+{
+    Ok(once(alloc, texts)?.len() == texts.len())
+}
+
+/// The texts as slices.
+pub(crate) fn slices(alloc: Global, texts: &[String]) -> Result<Vec<&str>, AllocError>
+    ensures { IfOk result (λ v. shown v.items ≡ map string_bytes texts.now) }
+{
+    let mut slices = Vec::new(alloc);
+    for text in texts {
+        slices.push(text.as_str())?;
+    }
+    Ok(slices)
+}
+
+/// The texts, copied.
+pub(crate) fn copies(alloc: Global, texts: &[&str]) -> Result<Vec<String>, AllocError>
+    ensures { IfOk result (λ v. texts_in v ≡ shown texts.now) }
+{
+    let mut copies = Vec::new(alloc);
+    for text in texts {
+        copies.push(String::from_str(alloc, text)?)?;
+    }
+    Ok(copies)
+}
+
+/// The words that are well spelled as names of modules.
+pub(crate) fn names_among<'a>(alloc: Global, words: &[&'a str]) -> Result<Vec<&'a str>, AllocError>
+    ensures { IfOk result (λ v. v.items ≡ filter (λ word. is_module_name word.now) words.now) }
+{
+    words
+        .iter()
+        .copied()
+        .filter(|word| is_module_name(word))
+        .collect(alloc)
+}
