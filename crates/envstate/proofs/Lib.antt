@@ -9,6 +9,7 @@ pub mod Examples
 pub mod PathSteps
 pub mod PathEditLemmas
 pub mod FieldLemmas
+pub mod LoadedReading
+pub mod LoadedWriting
 pub mod LoadedExamples
 pub mod StackLemmas
-pub mod LoadedReading
