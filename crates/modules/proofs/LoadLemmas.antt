@@ -17,10 +17,10 @@ find-entries : (test : Entry → Bool) (entries : List Loaded) → option_map en
 find-entries test [] = refl
 find-entries test (x ∷ xs) = by_test (test (entry_of x)) (find-entries test xs)
   where
-  by_test : (b : Bool) → option_map entry_of (find (λ x. test (entry_of x)) xs) ≡ find test (map entry_of xs)
-      → option_map entry_of (cond b (Some x) (find (λ x. test (entry_of x)) xs)) ≡ cond b (Some (entry_of x)) (find test (map entry_of xs))
-  by_test true h = refl
-  by_test false h = h
+    by_test : (b : Bool) → option_map entry_of (find (λ x. test (entry_of x)) xs) ≡ find test (map entry_of xs)
+        → option_map entry_of (cond b (Some x) (find (λ x. test (entry_of x)) xs)) ≡ cond b (Some (entry_of x)) (find test (map entry_of xs))
+    by_test true h = refl
+    by_test false h = h
 
 seen : (r : Option (Bor Loaded)) → option_map (λ x. entry_of x.now) r ≡ option_map entry_of (option_map (λ x. x.now) r)
 seen None = refl

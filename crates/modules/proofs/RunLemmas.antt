@@ -150,8 +150,8 @@ both_answer : (mode : Mode) (owner : Text) (most : ℕ) (e : Environment) (cs : 
     → ((d : Environment) → Both mode owner d (records_from mode owner most d cs) (run_commands mode owner most d cs))
     → (x : Result Record Reason) → ((r : Record) → x ≡ Ok r → IsPlain r)
     → Both mode owner e
-        (x >>= (λ r. refused_as bad_edit (effect mode owner r e) >>= (λ d. records_from mode owner most d cs >>= (λ rs. Ok (r ∷ rs)))))
-        ((x >>= (λ r. refused_as bad_edit (effect mode owner r e))) >>= (λ d. run_commands mode owner most d cs))
+    (x >>= (λ r. refused_as bad_edit (effect mode owner r e) >>= (λ d. records_from mode owner most d cs >>= (λ rs. Ok (r ∷ rs)))))
+    ((x >>= (λ r. refused_as bad_edit (effect mode owner r e))) >>= (λ d. run_commands mode owner most d cs))
 both_answer mode owner most e cs more (Err reason) plain = refl
 both_answer mode owner most e cs more (Ok r) plain = both_effect mode owner most e r cs (plain r refl) more (effect mode owner r e) refl
 

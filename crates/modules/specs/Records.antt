@@ -27,7 +27,7 @@ pub data Record : Type 0 where
   Conflict : (names : List Text) → Record
   -- `prereq NAME...`, any one of which will do
   Prereq : (names : List Text) → Record
-  -- `owner-whatis TEXT`
+  -- `module-whatis WORD...`, the words joined by spaces
   Whatis : (text : Text) → Record
 
 -- What a module's record makes of an environment. Unloading undoes what loading does, as far as that can be undone.

@@ -75,7 +75,7 @@ abbrev pub load_move : Limits → Files → Environment → List Entry → Text 
 load_move limits files e xs name =
     if has name (names_of xs) then Ok None
     else refused_as missed (found files (modulepath e) name) >>= (λ path.
-      move_at Loads Load limits files e name path)
+    move_at Loads Load limits files e name path)
 
 -- the last loaded module that the name means, by its path in the loaded list
 abbrev pub unload_meant : Limits → Files → Environment → Option Entry → Result (Option Move) Reason

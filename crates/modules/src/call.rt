@@ -55,4 +55,3 @@ pub(crate) fn call_of<'a>(alloc: Global, words: &'a [String]) -> Result<Call<'a>
         other => Err(Refusal::LeftOut(String::from_str(alloc, other)?)),
     }
 }
-

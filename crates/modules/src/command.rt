@@ -11,7 +11,10 @@ ghost use Rattle.modules.specs.Running.{Objects, call_view, run_call, uncounted}
 use crate::call::Call;
 use crate::evaluate::Mode;
 use crate::refusal::Refusal;
-use envstate::{End, Env, EnvFault, add_path, drop_path, is_plain_value, is_protected, is_variable_name, share_name};
+use envstate::{
+    End, Env, EnvFault, add_path, drop_path, is_plain_value, is_protected, is_variable_name,
+    share_name,
+};
 use std::alloc::{AllocError, Global};
 
 /// Refuses a variable that no modulefile may change, and a value that no variable can hold.
@@ -56,7 +59,13 @@ fn is_one_element(value: &str) -> bool
 }
 
 /// Whether the command is one that paths do not take yet.
-fn is_left_out(alloc: Global, mode: Mode, env: &Env, var: &str, value: &str) -> Result<bool, AllocError>
+fn is_left_out(
+    alloc: Global,
+    mode: Mode,
+    env: &Env,
+    var: &str,
+    value: &str,
+) -> Result<bool, AllocError>
     ensures { IfOk result (λ b. b ≡ is_left_out mode env.now var.now value.now) }
 {
     if !is_one_element(value) || has_counters(alloc, env, var)? {
@@ -68,7 +77,13 @@ fn is_left_out(alloc: Global, mode: Mode, env: &Env, var: &str, value: &str) -> 
     }
 }
 
-fn run_setenv(alloc: Global, mode: Mode, env: &mut Env, var: &str, value: &str) -> Result<(), Refusal>
+fn run_setenv(
+    alloc: Global,
+    mode: Mode,
+    env: &mut Env,
+    var: &str,
+    value: &str,
+) -> Result<(), Refusal>
     ensures { (owner : Text) → Leaves result env.new (run_call mode owner env.old (setenv var.now value.now)) }
 {
     permit(alloc, var, value)?;
@@ -79,7 +94,13 @@ fn run_setenv(alloc: Global, mode: Mode, env: &mut Env, var: &str, value: &str) 
     Ok(())
 }
 
-fn run_prepend_path(alloc: Global, mode: Mode, env: &mut Env, var: &str, value: &str) -> Result<(), Refusal>
+fn run_prepend_path(
+    alloc: Global,
+    mode: Mode,
+    env: &mut Env,
+    var: &str,
+    value: &str,
+) -> Result<(), Refusal>
     ensures { (owner : Text) → Leaves result env.new (run_call mode owner env.old (prepend_path var.now value.now)) }
 {
     if is_left_out(alloc, mode, env, var, value)? {
@@ -94,7 +115,12 @@ fn run_prepend_path(alloc: Global, mode: Mode, env: &mut Env, var: &str, value: 
 }
 
 /// Makes of the environment what the command makes of it in this mode, whichever module it stands in.
-pub(crate) fn run_call(alloc: Global, mode: Mode, call: Call<'_>, env: &mut Env) -> Result<(), Refusal>
+pub(crate) fn run_call(
+    alloc: Global,
+    mode: Mode,
+    call: Call<'_>,
+    env: &mut Env,
+) -> Result<(), Refusal>
     ensures { (owner : Text) → Leaves result env.new (run_call mode owner env.old (call_view call.entry)) }
 {
     match call {

@@ -22,4 +22,3 @@ pub struct Request {
     pub shell: Shell,
     pub action: Action,
 }
-

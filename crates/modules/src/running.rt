@@ -85,7 +85,10 @@ fn is_loaded(entries: &[Loaded], name: &str) -> bool
 fn last_meant<'a>(entries: &'a [Loaded], name: &str) -> Option<&'a Loaded>
     ensures { option_map (λ x. list.entry_of x.now) result ≡ find (λ x. means name.now x.name) (reverse (map list.entry_of entries.entry.now)) }
 {
-    entries.iter().rev().find(|entry| means(name, entry.name.as_str()))
+    entries
+        .iter()
+        .rev()
+        .find(|entry| means(name, entry.name.as_str()))
 }
 
 /// What a request leaves that changes nothing.
@@ -111,12 +114,20 @@ fn script_at<T: Tree>(alloc: Global, tree: &mut T, path: &str) -> Result<String,
         Modulefile::Script(text) => Ok(text),
         Modulefile::Absent => Err(Refusal::FileGone(String::from_str(alloc, path)?)),
         Modulefile::NoCookie => Err(Refusal::NotAModulefile(String::from_str(alloc, path)?)),
-        Modulefile::NotUtf8 => Err(Refusal::Find(FindFault::NotUtf8(String::from_str(alloc, path)?))),
+        Modulefile::NotUtf8 => Err(Refusal::Find(FindFault::NotUtf8(String::from_str(
+            alloc, path,
+        )?))),
     }
 }
 
 /// Loads the module of this text.
-fn load_text(alloc: Global, found: Found, text: &str, env: &Env, limits: Limits) -> Result<Reply, Refusal>
+fn load_text(
+    alloc: Global,
+    found: Found,
+    text: &str,
+    env: &Env,
+    limits: Limits,
+) -> Result<Reply, Refusal>
     ensures { Gives done_of result (left_by Loads modes.Load limits env.now (string_bytes found.name) (string_bytes found.path) text.now) }
 {
     let mut after = env.copy()?;
@@ -143,7 +154,13 @@ fn load_text(alloc: Global, found: Found, text: &str, env: &Env, limits: Limits)
 }
 
 /// Unloads the module of this text.
-fn unload_text(alloc: Global, entry: &Loaded, text: &str, env: &Env, limits: Limits) -> Result<Reply, Refusal>
+fn unload_text(
+    alloc: Global,
+    entry: &Loaded,
+    text: &str,
+    env: &Env,
+    limits: Limits,
+) -> Result<Reply, Refusal>
     ensures { Gives done_of result (left_by Unloads modes.Unload limits env.now (string_bytes entry.now.name) (string_bytes entry.now.path) text.now) }
 {
     let mut after = env.copy()?;

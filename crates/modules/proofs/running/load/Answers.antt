@@ -15,9 +15,9 @@ returns-clause-answer g c =
     let given = rw (c.in_ok-found.ensures.found.0, c.as_str-2.ensures.value) at c.load_text.ensures in
     let xs = map entry_of c.args.entries.now in
     tells_given (g.T.Tree.agrees c.script_at.new.tree) _ done_of c.load_text.result (left_loaded c.args.limits c.args.env.now xs c.args.name.now)
-      (left_by Loads Load c.args.limits c.args.env.now c.args.name.now (string_bytes c.in_ok-found.found.path) (string_bytes c.in_ok-text.text))
-      (λ files folders agreed. load_left c.args.limits files c.args.env.now xs c.args.name.now (string_bytes c.in_ok-found.found.path) (string_bytes c.in_ok-text.text)
-        (sym c.is_loaded.ensures ∙ c.if-is_loaded.false)
-        (rw (← c.modulepath.ensures) (c.in_ok-found.ensures.found.1 files folders (c.in_ok-text.ensures.before files folders agreed)))
-        (is_at files folders agreed))
-      given
+    (left_by Loads Load c.args.limits c.args.env.now c.args.name.now (string_bytes c.in_ok-found.found.path) (string_bytes c.in_ok-text.text))
+    (λ files folders agreed. load_left c.args.limits files c.args.env.now xs c.args.name.now (string_bytes c.in_ok-found.found.path) (string_bytes c.in_ok-text.text)
+    (sym c.is_loaded.ensures ∙ c.if-is_loaded.false)
+    (rw (← c.modulepath.ensures) (c.in_ok-found.ensures.found.1 files folders (c.in_ok-text.ensures.before files folders agreed)))
+    (is_at files folders agreed))
+    given

@@ -22,7 +22,7 @@ returns-in_err-add_loaded c =
     let left = loaded_left c.args.limits c.args.env.now c.run.new.env name path c.args.text.now (recorded Load name c.args.limits c.args.env.now c.run.new.env c.args.text.now made) in
     let outcome = rw (c.new.ensures.items, c.new-2.ensures.items) at c.in_err-add_loaded.ensures.1 in
     rw (p.1, p.2) (edit_stands (refused_of c.in_err-add_loaded.field-0.0) (added_loaded c.run.new.env (bare_entry name path)) (λ r. left_by Loads Load c.args.limits c.args.env.now name path c.args.text.now ≡ Err r) outcome
-      (λ r h. left ∙ ap (λ x. refused_as bad_edit x >>= (λ t. Ok (record { env = t; loaded = name ∷ []; messages = []; report = [] }))) h))
+    (λ r h. left ∙ ap (λ x. refused_as bad_edit x >>= (λ t. Ok (record { env = t; loaded = name ∷ []; messages = []; report = [] }))) h))
 
 pub returns : goal.returns
 returns c =

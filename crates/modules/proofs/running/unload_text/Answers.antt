@@ -22,4 +22,4 @@ returns-in_err-drop_loaded c =
     let left = unloaded_left c.args.limits c.args.env.now c.run.new.env name path c.args.text.now (recorded Unload name c.args.limits c.args.env.now c.run.new.env c.args.text.now made) in
     let outcome = rw c.as_str.ensures.value at c.in_err-drop_loaded.ensures.1 in
     rw (p.1, p.2) (edit_stands (refused_of c.in_err-drop_loaded.field-0.0) (dropped_loaded c.run.new.env name) (λ r. left_by Unloads Unload c.args.limits c.args.env.now name path c.args.text.now ≡ Err r) outcome
-      (λ r h. left ∙ ap (λ x. refused_as bad_edit x >>= (λ t. Ok (record { env = t; loaded = []; messages = []; report = [] }))) h))
+    (λ r h. left ∙ ap (λ x. refused_as bad_edit x >>= (λ t. Ok (record { env = t; loaded = []; messages = []; report = [] }))) h))

@@ -14,7 +14,7 @@ returns-in_err-run_command c = λ owner.
     let at = run_commands-at c.args.self.mode owner c.args.self.limits.value_bytes c.loop-command.env c.args.commands.now c.loop-command.command-index c.command-item.result c.loop-command-test.true c.command-item.is in
     let p = err_from_is_err_and c.from_residual.result c.from_residual.ensures.1 in
     rw (p.1, p.2) (stands_along (cause_of c.in_err-run_command.field-0.0) (sym (c.loop-command.invariant owner) ∙ at)
-      (stands_first (cause_of c.in_err-run_command.field-0.0) (run_command c.args.self.mode owner c.args.self.limits.value_bytes c.loop-command.env (command_texts (command_view c.command-item.result))) _ (c.in_err-run_command.ensures owner)))
+    (stands_first (cause_of c.in_err-run_command.field-0.0) (run_command c.args.self.mode owner c.args.self.limits.value_bytes c.loop-command.env (command_texts (command_view c.command-item.result))) _ (c.in_err-run_command.ensures owner)))
 
 pub loop-command-preserved : goal.loop-command-preserved
 loop-command-preserved c = λ owner.
