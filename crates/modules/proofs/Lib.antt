@@ -2,3 +2,4 @@ pub mod Refusals
 pub mod RunLemmas
 pub mod LoadLemmas
 pub mod StepLemmas
+pub mod Examples
