@@ -1,6 +1,6 @@
 """What the built program does over real folders.
 
-The expected texts are those of the worked examples and of the table of error texts in docs/, typed by hand.
+The expected texts are typed by hand from the rules of the program, and never taken from what it wrote.
 """
 
 import os

@@ -1,6 +1,6 @@
 #!/bin/sh
-# Installs what the tests (`shells`) and the measurements (`bench`) need, where it is missing. What apt-get cannot
-# install stays missing, and whoever needs it says so.
+# Installs what the example (`demo`), the tests (`shells`) and the measurements (`bench`) need, where it is missing.
+# What apt-get cannot install stays missing, and whoever needs it says so.
 set -eu
 
 # Installs a package where none of its commands is there.
@@ -18,7 +18,7 @@ need() {
 missing=
 case $1 in
     demo)
-        need dash dash
+        need python3 python3
         ;;
     shells)
         need python3 python3
