@@ -37,6 +37,8 @@ class Folder:
     """A folder of modulefiles, with a copy of the program that any user may run."""
 
     def __init__(self, program):
+        if not os.path.isfile(program):
+            raise Failed(f"there is no program at {program}")
         self.path = os.fsencode(tempfile.mkdtemp(prefix="modulecmd-"))
         os.chmod(self.path, 0o755)
         self.program = os.path.join(self.path, b"modulecmd")
@@ -128,8 +130,9 @@ def run_all(program):
     failed = 0
     for function in CASES:
         name = function.__name__.replace("_", " ")
-        folder = Folder(program)
+        folder = None
         try:
+            folder = Folder(program)
             function(folder)
             passed += 1
             print(f"ok: {name}")
@@ -141,6 +144,7 @@ def run_all(program):
             print(f"FAILED: {name}: it could not run")
             traceback.print_exc(file=sys.stdout)
         finally:
-            folder.remove()
+            if folder is not None:
+                folder.remove()
         sys.stdout.flush()
     return passed, failed
