@@ -5,7 +5,7 @@ use Rattle.std.proofs.lemmas.Result.{err_from_is_err_and}
 use Rattle.std.specs.Option.{option_map}
 use Rattle.modulename.specs.ModuleName.{is_module_name}
 use Rattle.lookup.specs.Search.{not_found}
-use Rattle.lookup.proofs.Along.{found-at_entry, found-at_end, none_yet-more, missed-at_entry}
+use Rattle.lookup.proofs.Along.{found-at_entry, found-at_end, none_yet-more, missed-at_entry, spelling-at_entry}
 use Rattle.lookup.proofs.ColonSplits.{entries-yielded}
 use Rattle.lookup.proofs.search.locate.Goals as goal
 
@@ -21,6 +21,12 @@ returns-in_err-path-clause-missed g c =
     c.loop-dir.invariant.later
     (λ files folders agree. c.loop-dir.invariant.none_yet files folders (c.module_below.ensures.before files folders agree))
     c.in_err-path.field-0.0 c.in_err-path.ensures.missed)
+
+pub returns-in_err-path-clause-spelling : goal.returns-in_err-path-clause-spelling
+returns-in_err-path-clause-spelling g c =
+    let spelled : is_module_name c.args.name.now ≡ true = cc in
+    let p = err_from_is_err_and c.from_residual-in_err-path.result c.from_residual-in_err-path.ensures.1 in
+    rw (p.1, p.2) (spelling-at_entry (g.T.Tree.agrees c.module_below.new.tree) (g.T.Tree.failures c.loop-dir.tree) (g.T.Tree.failures c.module_below.new.tree) c.args.name.now c.in-Some.dir.now spelled c.in_err-path.field-0.0 c.in_err-path.ensures.missed)
 
 pub returns-in-Some-2-clause-found : goal.returns-in-Some-2-clause-found
 returns-in-Some-2-clause-found g c =
