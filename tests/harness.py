@@ -10,6 +10,9 @@ import traceback
 NOBODY = 65534
 SECONDS = 60
 
+# What the modulefile of most cases says.
+FOO = "setenv FOO on\nprepend-path PATH /opt/foo/bin\n"
+
 CASES = []
 
 
@@ -122,6 +125,12 @@ def encoded(variables):
             name = name if isinstance(name, bytes) else name.encode()
             given[name] = value if isinstance(value, bytes) else value.encode()
     return given
+
+
+def loaded(folder, *names, **variables):
+    """An environment in which these modules are loaded."""
+    paths = b":".join(os.path.join(folder.modules, name.encode()) for name in names)
+    return folder.environment(LOADEDMODULES=":".join(names), _LMFILES_=paths, **variables)
 
 
 def run_all(program):

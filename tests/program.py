@@ -9,16 +9,7 @@ import socket
 import sys
 import time
 
-from harness import NOBODY, case, encoded, run_all, same, true
-
-FOO = "setenv FOO on\nprepend-path PATH /opt/foo/bin\n"
-
-
-def loaded(folder, *names, **variables):
-    """An environment in which these modules are loaded."""
-    paths = b":".join(os.path.join(folder.modules, name.encode()) for name in names)
-    return folder.environment(LOADEDMODULES=":".join(names), _LMFILES_=paths, **variables)
-
+from harness import FOO, NOBODY, case, encoded, loaded, run_all, same, true
 
 def new_lists(folder, name):
     """The two lines of a load of the first module."""

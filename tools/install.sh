@@ -3,12 +3,12 @@
 # What apt-get cannot install stays missing, and whoever needs it says so.
 set -eu
 
-# Installs a package where none of its commands is there.
+# Installs a package where none of its commands or files is there.
 need() {
     package=$1
     shift
     for command in "$@"; do
-        if command -v "$command" > /dev/null 2>&1; then
+        if command -v "$command" > /dev/null 2>&1 || test -f "$command"; then
             return 0
         fi
     done
@@ -27,6 +27,8 @@ case $1 in
         need ksh93u+m ksh93
         need mksh mksh
         need zsh zsh
+        need gcc cc
+        need libc6-dev /usr/include/stdlib.h
         ;;
     bench)
         need python3 python3
