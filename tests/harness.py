@@ -100,6 +100,12 @@ class Folder:
         )
         return done
 
+    def start(self, *words, stdout, stderr):
+        """Starts the program, which is not waited for."""
+        return subprocess.Popen(
+            [self.program, *words], env=self.environment(), stdin=subprocess.DEVNULL, stdout=stdout, stderr=stderr
+        )
+
     def answers(self, words, out, err, status, env=None, user=None):
         """The program writes exactly this, and ends with this status."""
         done = self.run(*words, env=env, user=user)

@@ -68,7 +68,7 @@ module _ (modulepath name : Text) (spelled : is_module_name name ≡ true) (n : 
 
 -- a fault at an entry is none of the spelling
 pub spelling-at_entry : (agrees : Files → Folders → Type 0) (before now : ℕ) (name dir : Text) → is_module_name name ≡ true →
-  (e : FindFault) → IsMissedAt agrees before now name dir e → IsSpellingFault name e
+    (e : FindFault) → IsMissedAt agrees before now name dir e → IsSpellingFault name e
 spelling-at_entry agrees before now name dir spelled fault.OutOfMemory h = tt
 spelling-at_entry agrees before now name dir spelled (fault.NotFound n) h = spelled
 spelling-at_entry agrees before now name dir spelled fault.Device h = spelled
