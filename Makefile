@@ -10,16 +10,18 @@
 build:
 	sh tools/build.sh
 
-demo: build
+demo:
 	sh tools/install.sh demo
+	sh tools/build.sh
 	sh demo/demo.sh build/bin/modulecmd
 
 test:
 	sh tools/install.sh shells
 	python3 -B tests/run.py
 
-bench: build
+bench:
 	sh tools/install.sh bench
+	sh tools/build.sh
 	python3 -B bench/run.py build/bin/modulecmd
 
 clean:

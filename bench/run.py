@@ -2,10 +2,15 @@
 
 What grows is the environment, and the modulefile. Each row has the instructions of one load; `a further one` is the
 difference to the row above by each variable or command more.
+
+Callgrind gives the process another environment than the system keeps for it, so the program there asks for its
+variables one by one, which grows with the square of their number. The time of the same loads without callgrind is
+printed too, and shows how they really grow.
 """
 
 import os
 import re
+import resource
 import shutil
 import subprocess
 import sys
@@ -45,8 +50,20 @@ def environment(folder, variables):
     return env
 
 
+def nanoseconds(command, env):
+    """The least processor time of twenty runs of a command."""
+    best = None
+    for _ in range(20):
+        before = resource.getrusage(resource.RUSAGE_CHILDREN)
+        subprocess.run(command, env=env, stdin=subprocess.DEVNULL, capture_output=True, check=True)
+        after = resource.getrusage(resource.RUSAGE_CHILDREN)
+        spent = after.ru_utime + after.ru_stime - before.ru_utime - before.ru_stime
+        best = spent if best is None else min(best, spent)
+    return int(best * 1e9)
+
+
 def growth(title, rows):
-    """Prints rows of a count and its instructions."""
+    """Prints rows of a count and what it costs."""
     print(f"\n{title}")
     before = None
     for count, spent in rows:
@@ -71,6 +88,13 @@ def main():
     print(f"a load of the module:                 {one:14,}   {one / base:.2f} times as many")
     sizes = (10, 100, 1000)
     growth("variables in the environment", [(count, load("foo/1.0", count)) for count in sizes])
+    growth(
+        "variables in the environment, in nanoseconds of processor time",
+        [
+            (count, nanoseconds([program, "sh", "load", "foo/1.0"], environment(folder, count)))
+            for count in (10, 100, 1000, 10000, 20000)
+        ],
+    )
     for form, title in (
         ("setenv V{0} v{0}\n", "setenv, each of another variable"),
         ("prepend-path V{0} /v{0}\n", "prepend-path, each of another variable"),

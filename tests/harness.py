@@ -10,6 +10,9 @@ import traceback
 NOBODY = 65534
 SECONDS = 60
 
+# What the modulefile of most cases says.
+FOO = "setenv FOO on\nprepend-path PATH /opt/foo/bin\n"
+
 CASES = []
 
 
@@ -37,6 +40,8 @@ class Folder:
     """A folder of modulefiles, with a copy of the program that any user may run."""
 
     def __init__(self, program):
+        if not os.path.isfile(program):
+            raise Failed(f"there is no program at {program}")
         self.path = os.fsencode(tempfile.mkdtemp(prefix="modulecmd-"))
         os.chmod(self.path, 0o755)
         self.program = os.path.join(self.path, b"modulecmd")
@@ -95,6 +100,12 @@ class Folder:
         )
         return done
 
+    def start(self, *words, stdout, stderr):
+        """Starts the program, which is not waited for."""
+        return subprocess.Popen(
+            [self.program, *words], env=self.environment(), stdin=subprocess.DEVNULL, stdout=stdout, stderr=stderr
+        )
+
     def answers(self, words, out, err, status, env=None, user=None):
         """The program writes exactly this, and ends with this status."""
         done = self.run(*words, env=env, user=user)
@@ -122,14 +133,21 @@ def encoded(variables):
     return given
 
 
+def loaded(folder, *names, **variables):
+    """An environment in which these modules are loaded."""
+    paths = b":".join(os.path.join(folder.modules, name.encode()) for name in names)
+    return folder.environment(LOADEDMODULES=":".join(names), _LMFILES_=paths, **variables)
+
+
 def run_all(program):
     """Runs each case, says how it went, and gives the numbers of the passed and the failed."""
     passed = 0
     failed = 0
     for function in CASES:
         name = function.__name__.replace("_", " ")
-        folder = Folder(program)
+        folder = None
         try:
+            folder = Folder(program)
             function(folder)
             passed += 1
             print(f"ok: {name}")
@@ -141,6 +159,7 @@ def run_all(program):
             print(f"FAILED: {name}: it could not run")
             traceback.print_exc(file=sys.stdout)
         finally:
-            folder.remove()
+            if folder is not None:
+                folder.remove()
         sys.stdout.flush()
     return passed, failed

@@ -1,23 +1,16 @@
 """What the built program does over real folders.
 
-The expected texts are those of the worked examples and of the table of error texts in docs/, typed by hand.
+The expected texts are typed by hand from the rules of the program, and never taken from what it wrote.
 """
 
 import os
 import resource
 import socket
+import subprocess
 import sys
 import time
 
-from harness import NOBODY, case, encoded, run_all, same, true
-
-FOO = "setenv FOO on\nprepend-path PATH /opt/foo/bin\n"
-
-
-def loaded(folder, *names, **variables):
-    """An environment in which these modules are loaded."""
-    paths = b":".join(os.path.join(folder.modules, name.encode()) for name in names)
-    return folder.environment(LOADEDMODULES=":".join(names), _LMFILES_=paths, **variables)
+from harness import FOO, NOBODY, case, encoded, loaded, run_all, same, true
 
 
 def new_lists(folder, name):
@@ -196,6 +189,19 @@ def a_name_of_one_part(folder):
     folder.accepts(["sh", "load", "top"], b"A='b'; export A;\n" + lists[0] + lists[1])
 
 
+@case
+def a_name_beyond_ascii(folder):
+    folder.module("é/€", "setenv A b\n")
+    lists = new_lists(folder, "é/€")
+    folder.accepts(["sh", "load", "é/€"], b"A='b'; export A;\n" + lists[0] + lists[1])
+
+
+@case
+def a_name_that_the_system_refuses(folder):
+    folder.refuses(["sh", "load", "a" * 300], "Reading failed")
+    folder.refuses(["sh", "load", "a" * 5000], "Reading failed")
+
+
 # MODULEPATH.
 
 
@@ -240,6 +246,26 @@ def a_directory_with_a_slash_at_its_end(folder):
     out = b"A='b'; export A;\nLOADEDMODULES='foo/1'; export LOADEDMODULES;\n"
     out += b"_LMFILES_='" + folder.modules + b"//foo/1'; export _LMFILES_;\n"
     folder.accepts(["sh", "load", "foo/1"], out, env=env)
+
+
+@case
+def a_directory_with_marks_in_its_name(folder):
+    marks = os.path.join(folder.path, "it's a $HOME \"dir\" é".encode())
+    os.makedirs(os.path.join(marks, b"foo"))
+    with open(os.path.join(marks, b"foo/1"), "wb") as file:
+        file.write(b"#%Module\nsetenv A b\n")
+    out = b"A='b'; export A;\nLOADEDMODULES='foo/1'; export LOADEDMODULES;\n"
+    out += b"_LMFILES_='" + marks.replace(b"'", b"'\\''") + b"/foo/1'; export _LMFILES_;\n"
+    folder.accepts(["sh", "load", "foo/1"], out, env=encoded({"MODULEPATH": marks}))
+    env = encoded({"A": "b", "LOADEDMODULES": "foo/1", "_LMFILES_": marks + b"/foo/1"})
+    folder.accepts(["sh", "unload", "foo"], b"unset A;\nunset LOADEDMODULES;\nunset _LMFILES_;\n", env=env)
+
+
+@case
+def a_modulepath_that_is_not_utf8(folder):
+    folder.module("foo/1.0", FOO)
+    env = encoded({"MODULEPATH": b"/\xff:" + folder.modules})
+    folder.refuses(["sh", "load", "foo/1.0"], "Unable to locate a modulefile for 'foo/1.0'", env=env)
 
 
 # Unloading.
@@ -501,6 +527,18 @@ def a_standard_error_that_takes_nothing(folder):
         done = folder.run("sh", "load", "nope", env=env, stderr=stream)
         same((done.stdout, done.returncode), (b"", 1), f"a refused load, standard error {name}")
         close()
+
+
+@case
+def a_reader_that_goes_away(folder):
+    count = 20000
+    folder.module("many/1", "".join(f"setenv V{number} v\n" for number in range(count)))
+    reader, writer = os.pipe()
+    with folder.start("sh", "load", "many/1", stdout=writer, stderr=subprocess.PIPE) as running:
+        os.close(writer)
+        same(os.read(reader, 5), b"LOADE", "the beginning of the text")
+        os.close(reader)
+        same((running.stderr.read(), running.wait()), (b"ERROR: Writing failed\n", 1), "a reader that goes away")
 
 
 @case

@@ -1,14 +1,14 @@
 #!/bin/sh
-# Installs what the tests (`shells`) and the measurements (`bench`) need, where it is missing. What apt-get cannot
-# install stays missing, and whoever needs it says so.
+# Installs what the example (`demo`), the tests (`shells`) and the measurements (`bench`) need, where it is missing.
+# What apt-get cannot install stays missing, and whoever needs it says so.
 set -eu
 
-# Installs a package where none of its commands is there.
+# Installs a package where none of its commands or files is there.
 need() {
     package=$1
     shift
     for command in "$@"; do
-        if command -v "$command" > /dev/null 2>&1; then
+        if command -v "$command" > /dev/null 2>&1 || test -f "$command"; then
             return 0
         fi
     done
@@ -18,7 +18,7 @@ need() {
 missing=
 case $1 in
     demo)
-        need dash dash
+        need python3 python3
         ;;
     shells)
         need python3 python3
@@ -27,6 +27,8 @@ case $1 in
         need ksh93u+m ksh93
         need mksh mksh
         need zsh zsh
+        need gcc cc
+        need libc6-dev /usr/include/stdlib.h
         ;;
     bench)
         need python3 python3

@@ -4,7 +4,7 @@ use Rattle.std.specs.List.{slice_split}
 use Rattle.std.proofs.lemmas.List.{at_drop_more, at_drop_all}
 use Rattle.modulename.specs.ModuleName.{Text, is_module_name}
 use Rattle.lookup.specs.Agreement.{Files, Folders, Shows}
-use Rattle.lookup.specs.Answers.{IsMissed}
+use Rattle.lookup.specs.Answers.{IsMissed, IsSpellingFault}
 use Rattle.lookup.specs.Search.{Held, absent, no_cookie, not_utf8, script, not_utf8_at, not_found, modulefile, is_module, module_at, path_of, first_module, colon, found, bad_name}
 use Rattle.lookup.specs.Entries.{answer_at, entry_answer, found_along, IsMissedAt}
 use Rattle.lookup.specs.declared.search.FindFault.{FindFault}
@@ -65,3 +65,13 @@ module _ (modulepath name : Text) (spelled : is_module_name name ≡ true) (n : 
     missed-at_entry agrees first before now later none (fault.BadDefaultFile path) h = absurd h
     missed-at_entry agrees first before now later none (fault.NotUtf8 path) h =
         λ files folders agree. found-at_entry files (none files folders agree) (Err (not_utf8_at (string_bytes path))) (h files folders agree)
+
+-- a fault at an entry is none of the spelling
+pub spelling-at_entry : (agrees : Files → Folders → Type 0) (before now : ℕ) (name dir : Text) → is_module_name name ≡ true →
+    (e : FindFault) → IsMissedAt agrees before now name dir e → IsSpellingFault name e
+spelling-at_entry agrees before now name dir spelled fault.OutOfMemory h = tt
+spelling-at_entry agrees before now name dir spelled (fault.NotFound n) h = spelled
+spelling-at_entry agrees before now name dir spelled fault.Device h = spelled
+spelling-at_entry agrees before now name dir spelled (fault.BadName n) h = absurd h
+spelling-at_entry agrees before now name dir spelled (fault.BadDefaultFile path) h = absurd h
+spelling-at_entry agrees before now name dir spelled (fault.NotUtf8 path) h = spelled

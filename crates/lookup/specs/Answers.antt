@@ -1,6 +1,6 @@
 -- How the answers of the search show what the definitions say.
-use Rattle.std.specs.Prelude.{◌≡◌, ℕ, ◌<◌, Err, string_bytes}
-use Rattle.modulename.specs.ModuleName.{Text}
+use Rattle.std.specs.Prelude.{◌≡◌, ℕ, ◌<◌, true, false, Err, string_bytes}
+use Rattle.modulename.specs.ModuleName.{Text, is_module_name}
 use Rattle.lookup.specs.Agreement.{Files, Folders, Shows}
 use Rattle.lookup.specs.Search.{Held, absent, no_cookie, not_utf8, script, bad_name, not_found, not_utf8_at, found}
 use Rattle.lookup.specs.declared.modulefile.Modulefile.{Modulefile}
@@ -43,3 +43,12 @@ IsMissed agrees before now modulepath name (fault.BadName n) =
 IsMissed agrees before now modulepath name (fault.BadDefaultFile path) = ⊥
 IsMissed agrees before now modulepath name (fault.NotUtf8 path) =
     Shows agrees (λ files folders. found files modulepath name ≡ Err (not_utf8_at (string_bytes path)))
+
+-- A name is refused as ill-spelled exactly where it is: no other answer is given for it but want of memory.
+abbrev pub IsSpellingFault : Text → FindFault → Type 0
+IsSpellingFault name fault.OutOfMemory = Unit {0}
+IsSpellingFault name (fault.NotFound n) = is_module_name name ≡ true
+IsSpellingFault name fault.Device = is_module_name name ≡ true
+IsSpellingFault name (fault.BadName n) = (is_module_name name ≡ false) × (string_bytes n ≡ name)
+IsSpellingFault name (fault.BadDefaultFile path) = is_module_name name ≡ true
+IsSpellingFault name (fault.NotUtf8 path) = is_module_name name ≡ true

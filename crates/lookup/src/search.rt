@@ -1,9 +1,9 @@
 //! The search for a module by its exact name.
-ghost use Rattle.std.specs.Prelude.{◌≡◌, ◌≤◌, ℕ, false, Ok, IfOk, IfErr, string_bytes};
+ghost use Rattle.std.specs.Prelude.{◌≡◌, ◌≤◌, ℕ, true, false, Ok, IfOk, IfErr, MatchResult, string_bytes};
 ghost use Rattle.modulename.specs.ModuleName.{is_module_name};
 ghost use Rattle.lookup.specs.declared.search.FindFault.TheVariants.{OutOfMemory};
 ghost use Rattle.lookup.specs.Agreement.{Files, Folders, Shows};
-ghost use Rattle.lookup.specs.Answers.{IsMissed, find_number, fault_of_tree};
+ghost use Rattle.lookup.specs.Answers.{IsMissed, IsSpellingFault, find_number, fault_of_tree};
 ghost use Rattle.lookup.specs.Entries.{entry_answer, IsMissedAt};
 ghost use Rattle.lookup.specs.Search.{found, path_of};
 ghost use Rattle.std.specs.Option.{option_map};
@@ -140,6 +140,7 @@ pub fn locate<T: Tree>(
     ensures found { IfOk result (λ f. (string_bytes f.name ≡ name.now)
         × Shows (T.agrees tree.new) (λ files folders. found files modulepath.now name.now ≡ Ok (string_bytes f.path))) }
     ensures missed { IfErr result (λ e. IsMissed (T.agrees tree.new) (T.failures tree.old) (T.failures tree.new) modulepath.now name.now e) }
+    ensures spelling { MatchResult result (λ f. is_module_name name.now ≡ true) (λ e. IsSpellingFault name.now e) }
     ensures unread { is_module_name name.now ≡ false → tree.new ≡ tree.old }
     ensures later { T.failures tree.old ≤ T.failures tree.new }
 {
