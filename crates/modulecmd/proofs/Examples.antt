@@ -1,5 +1,5 @@
 -- Texts of the sh family and what they say, and what command lines ask for, written out by hand.
-use Rattle.std.proofs.Common.{◌≡◌, [], ◌∷◌, Option, Some, None, Ok, Err, codes, refl, arith}
+use Rattle.std.proofs.Common.{◌≡◌, [], ◌∷◌, Some, None, Ok, Err, codes, refl, arith}
 use Rattle.modules.specs.declared.requests.Shell.TheVariants.{Sh, Zsh}
 use Rattle.modules.specs.Reasons.{bad_arguments, unknown_subcommand}
 use Rattle.modules.specs.Requests.{load, unload}
