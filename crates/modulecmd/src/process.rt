@@ -1,19 +1,35 @@
 //! What the process was given: its arguments and its environment.
-ghost use Rattle.std.specs.Prelude.{◌≤◌, IfOk, IfSome, vec_len};
+ghost use Rattle.std.specs.Prelude.{◌≡◌, ◌≤◌, IfOk, IfSome, vec_len};
+ghost use Rattle.modulecmd.specs.Command.{number_of, of_arguments};
 
 use std::alloc::AllocError;
 use std::env::FillError;
 use std::io::ErrorKind;
 use std::rt::{Env, Files};
 use std::{env, fs};
+use thiserror::Error;
 
 /// Why the arguments can't be handed on.
-#[derive(Clone, Copy, Debug, PartialEq, Eq)]
+#[derive(Clone, Copy, Debug, PartialEq, Eq, Error)]
 pub enum ArgumentsFault {
     /// Memory was refused.
+    #[error("Out of memory")]
     OutOfMemory,
     /// An argument isn't UTF-8.
+    #[error("Bad arguments")]
     NotUtf8,
+}
+
+impl ArgumentsFault {
+    /// The number of the refusal: 31 for want of memory, else 56.
+    pub fn number(&self) -> u16
+        ensures { result ≡ number_of (of_arguments self.now) }
+    {
+        match self {
+            ArgumentsFault::OutOfMemory => 31,
+            ArgumentsFault::NotUtf8 => 56,
+        }
+    }
 }
 
 const OWN_ENVIRONMENT: &str = "/proc/self/environ";
