@@ -1,19 +1,35 @@
 //! What the process was given: its arguments and its environment.
-ghost use Rattle.std.specs.Prelude.{◌≤◌, IfOk, IfSome, vec_len};
+ghost use Rattle.std.specs.Prelude.{◌≡◌, ◌≤◌, IfOk, IfSome, vec_len};
+ghost use Rattle.modulecmd.specs.Command.{number_of, of_arguments};
 
 use std::alloc::AllocError;
 use std::env::FillError;
 use std::io::ErrorKind;
 use std::rt::{Env, Files};
 use std::{env, fs};
+use thiserror::Error;
 
 /// Why the arguments can't be handed on.
-#[derive(Clone, Copy, Debug, PartialEq, Eq)]
+#[derive(Clone, Copy, Debug, PartialEq, Eq, Error)]
 pub enum ArgumentsFault {
     /// Memory was refused.
+    #[error("Out of memory")]
     OutOfMemory,
     /// An argument isn't UTF-8.
+    #[error("Bad arguments")]
     NotUtf8,
+}
+
+impl ArgumentsFault {
+    /// The number of the refusal: 31 for want of memory, else 56.
+    pub fn number(&self) -> u16
+        ensures { result ≡ number_of (of_arguments self.now) }
+    {
+        match self {
+            ArgumentsFault::OutOfMemory => 31,
+            ArgumentsFault::NotUtf8 => 56,
+        }
+    }
 }
 
 const OWN_ENVIRONMENT: &str = "/proc/self/environ";
@@ -51,7 +67,7 @@ pub fn environment_block<R: Env + Files + AllocGlobal>(rt: &R) -> Result<Vec<u8>
     block_by_entries(rt)
 }
 
-/// Whether the block holds as many entries as the process, and the same last one.
+/// Whether the block holds as many entries as the process, and the same first one.
 fn is_whole<R: Env + AllocGlobal>(rt: &R, block: &[u8]) -> Result<bool, AllocError> {
     let mut room = Vec::new(rt.alloc());
     let count = block.iter().filter(|b| **b == 0).count();
@@ -61,13 +77,14 @@ fn is_whole<R: Env + AllocGlobal>(rt: &R, block: &[u8]) -> Result<bool, AllocErr
     let Some(last) = count.checked_sub(1) else {
         return Ok(block.is_empty());
     };
-    let Some(length) = entry_into(rt, last, &mut room)? else {
+    if entry_into(rt, last, &mut room)?.is_none() {
+        return Ok(false);
+    }
+    let Some(length) = entry_into(rt, 0, &mut room)? else {
         return Ok(false);
     };
-    let [entries @ .., 0] = block else {
-        return Ok(false);
-    };
-    Ok(entries.split(|b| *b == 0).last() == Some(&room.as_slice()[..length]))
+    let first = block.split(|b| *b == 0).next();
+    Ok(first == Some(&room.as_slice()[..length]) && block.ends_with(b"\0"))
 }
 
 /// The entries one by one, each ended by NUL.
@@ -104,4 +121,65 @@ fn entry_into<R: Env>(rt: &R, i: usize, room: &mut Vec<u8>) -> Result<Option<usi
 fn grow(room: &mut Vec<u8>) -> Result<(), AllocError> {
     let more = room.len().saturating_add(room.len()).max(FIRST_ROOM);
     room.resize(more, 0)
+}
+
+#[cfg(test)]
+mod tests {
+    use super::*;
+    use std::test::Fail;
+
+    /// A process with these entries in its environment, and no arguments.
+    #[derive(Drop)]
+    struct Process {
+        entries: [&'static str; 3],
+    }
+
+    impl Env for Process {
+        fn arg(&self, _i: usize, _buf: &mut [u8]) -> Result<usize, FillError> {
+            Err(FillError::NotPresent)
+        }
+
+        fn var(&self, _name: &str, _buf: &mut [u8]) -> Result<usize, FillError> {
+            Err(FillError::NotPresent)
+        }
+
+        fn var_at(&self, i: usize, buf: &mut [u8]) -> Result<usize, FillError> {
+            let Some(entry) = self.entries.get(i) else {
+                return Err(FillError::NotPresent);
+            };
+            let bytes = entry.as_bytes();
+            if buf.len() < bytes.len() {
+                return Err(FillError::TooLong);
+            }
+            buf[..bytes.len()].copy_from_slice(bytes);
+            Ok(bytes.len())
+        }
+    }
+
+    #[test]
+    fn blocks_with_a_lost_entry(rt: HostRuntime) -> Result<(), Fail> {
+        let process = Process {
+            entries: ["A=1", "B=", "C=3"],
+        };
+        let process = (process, rt.alloc());
+        let blocks = [
+            ("A=1\0B=\0C=3\0", true),
+            ("A=1\0B=\0C=3", false),
+            ("A=1\0B=\0", false),
+            ("A=1\0B=\0C=3\0D=4\0", false),
+            ("A=1\0B=\0C=3\0D=4", false),
+            ("A=2\0B=\0C=3\0", false),
+            ("", false),
+        ];
+        for (block, whole) in blocks {
+            assert_eq!(rt;
+                is_whole(&process, block.as_bytes())?,
+                whole,
+                "at {block:?}"
+            );
+        }
+        let block = block_by_entries(&process)?;
+        assert_eq!(rt; block.as_slice(), b"A=1\0B=\0C=3\0".as_slice());
+        Ok(())
+    }
 }

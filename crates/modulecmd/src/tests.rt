@@ -2,11 +2,16 @@
 ghost use Rattle.std.specs.Prelude.{Some};
 
 use crate::process::{arguments, environment_block};
-use crate::{Change, Env, MemoryTree, Shell, environment_of, modulecmd, print_changes};
+use crate::{
+    Change, CommandFault, Env, EnvFault, MemoryTree, PrintFault, Refusal, Shell, environment_of,
+    modulecmd, print_changes, write_refusal,
+};
+use lookup::FindFault;
 use std::alloc::{AllocError, Global};
 use std::io::{ErrorKind, Write};
 use std::test::Fail;
 use std::{env, io};
+use tcltext::TextFault;
 
 /// A writer that takes at most three bytes at a time, and fails once it is full.
 #[derive(Drop)]
@@ -197,5 +202,78 @@ fn own_environment(rt: HostRuntime) -> Result<(), Fail> {
     let path = env::var(&rt, "PATH").ok();
     assert!(rt; env.is_ok_and(|env| env.get("PATH") == path.as_ref().map(|path| path.as_str())));
     assert!(rt; arguments(&rt).is_ok());
+    Ok(())
+}
+
+#[test]
+fn error_lines(rt: HostRuntime) -> Result<(), Fail> {
+    let foo = || String::from_str(rt.alloc(), "foo");
+    let rows = [
+        (
+            CommandFault::Refused(Refusal::Text(TextFault::BadCharacter(18))),
+            7,
+            "Bad character at byte 18",
+        ),
+        (
+            CommandFault::Refused(Refusal::Text(TextFault::TooLong)),
+            9,
+            "Text is too long",
+        ),
+        (
+            CommandFault::Refused(Refusal::LeftOut(foo()?)),
+            19,
+            "'foo' is left out",
+        ),
+        (
+            CommandFault::Refused(Refusal::Env(EnvFault::OutOfMemory)),
+            31,
+            "Out of memory",
+        ),
+        (
+            CommandFault::Refused(Refusal::Env(EnvFault::Protected(foo()?))),
+            33,
+            "Variable 'foo' is kept by the tool",
+        ),
+        (
+            CommandFault::Refused(Refusal::Env(EnvFault::Inconsistent)),
+            35,
+            "Loaded modules are inconsistent",
+        ),
+        (
+            CommandFault::Refused(Refusal::Find(FindFault::Device)),
+            43,
+            "Reading failed",
+        ),
+        (
+            CommandFault::Refused(Refusal::Find(FindFault::NotUtf8(foo()?))),
+            46,
+            "Not UTF-8: 'foo'",
+        ),
+        (
+            CommandFault::Refused(Refusal::FileGone(foo()?)),
+            54,
+            "No file at 'foo'",
+        ),
+        (
+            CommandFault::Unprinted(PrintFault::NotSayable(foo()?)),
+            62,
+            "Value of 'foo' can't be said in this shell",
+        ),
+        (
+            CommandFault::UnknownShell(foo()?),
+            63,
+            "Unknown shell 'foo'",
+        ),
+        (CommandFault::WriteFailed, 64, "Writing failed"),
+    ];
+    for (fault, number, text) in &rows {
+        let line = format!(in rt.alloc(); "ERROR: {text}\n")?;
+        let shown = format!(in rt.alloc(); "ERROR: {fault}\n")?;
+        let mut err = Vec::new(rt.alloc());
+        write_refusal(fault, &mut err);
+        assert_eq!(rt; fault.number(), *number);
+        assert_eq!(rt; err.as_slice(), line.as_str().as_bytes());
+        assert_eq!(rt; shown.as_str(), line.as_str());
+    }
     Ok(())
 }
