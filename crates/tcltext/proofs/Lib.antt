@@ -7,3 +7,4 @@ pub mod Turns
 pub mod Complete
 pub mod FaultLemmas
 pub mod Answered
+pub mod NumberLemmas

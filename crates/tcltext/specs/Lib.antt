@@ -4,3 +4,4 @@ pub mod View
 pub mod Grammar
 pub mod Faults
 pub mod Reading
+pub mod Numerals

@@ -10,12 +10,14 @@ use thiserror::Error;
 
 mod bytes;
 mod laws;
+mod number;
 mod reading;
 #[cfg(test)]
 mod tests;
 mod text;
 
 pub use laws::{first_bad_character, one_script, script_of_grammar};
+pub use number::read_number;
 pub use text::parse_script;
 
 /// A script: its commands, in order.
@@ -41,6 +43,19 @@ pub struct Word<'a> {
 pub enum Part<'a> {
     /// A slice of the script's text that stands for itself.
     Literal(&'a str),
+}
+
+/// A text as a number.
+#[derive(Clone, Copy, Debug, PartialEq, Eq)]
+pub enum Numeral {
+    /// A whole number of 64 bits with a sign.
+    Whole(i64),
+    /// A whole number outside 64 bits.
+    TooLarge,
+    /// A number with a fraction or an exponent, an infinity, or what is not a number.
+    Fraction,
+    /// No number.
+    Text,
 }
 
 /// What is wrong with a text. A place is in bytes, from 0.
