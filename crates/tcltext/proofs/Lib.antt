@@ -8,3 +8,5 @@ pub mod Complete
 pub mod FaultLemmas
 pub mod Answered
 pub mod NumberLemmas
+pub mod PatternLemmas
+pub mod WalkLemmas

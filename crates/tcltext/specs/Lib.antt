@@ -5,3 +5,5 @@ pub mod Grammar
 pub mod Faults
 pub mod Reading
 pub mod Numerals
+pub mod Patterns
+pub mod Walks

@@ -100,3 +100,29 @@ fn numbers(rt: HostRuntime) {
     assert_eq!(rt; read_number("- 5"), Numeral::Text);
     assert_eq!(rt; read_number(""), Numeral::Text);
 }
+
+#[test]
+fn patterns(rt: HostRuntime) -> Result<(), Fail> {
+    assert!(rt; glob_match("[c-a]x", "bx"));
+    assert!(rt; glob_match("[ab", "a"));
+    assert!(rt; !glob_match("[ab", "c"));
+    assert!(rt; glob_match("\\*", "*"));
+    assert!(rt; !glob_match("\\*", "a"));
+    assert!(rt; glob_match("*.[ch]", "x.c"));
+    assert!(rt; !glob_match("\\", ""));
+    assert!(rt; glob_match("?\u{e9}*", "\u{e9}\u{e9}"));
+    let text = "a".repeat(rt.alloc(), 100_000)?;
+    assert!(rt;
+        glob_match(
+            "*a*a*a*a*a*a*a*a*a*a*a*a*a*a*a*a*a*a*a*a*a*a*a*a*a*a*a*a*a*a",
+            &text
+        )
+    );
+    assert!(rt;
+        !glob_match(
+            "*a*a*a*a*a*a*a*a*a*a*a*a*a*a*a*a*a*a*a*a*a*a*a*a*a*a*a*a*a*b",
+            &text
+        )
+    );
+    Ok(())
+}
