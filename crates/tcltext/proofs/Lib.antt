@@ -10,3 +10,4 @@ pub mod Answered
 pub mod NumberLemmas
 pub mod PatternLemmas
 pub mod WalkLemmas
+pub mod ListLemmas

@@ -5,5 +5,6 @@ pub mod Grammar
 pub mod Faults
 pub mod Reading
 pub mod Numerals
+pub mod Lists
 pub mod Patterns
 pub mod Walks

@@ -10,6 +10,7 @@ use thiserror::Error;
 
 mod bytes;
 mod laws;
+mod list;
 mod number;
 mod pattern;
 mod reading;
@@ -18,6 +19,7 @@ mod tests;
 mod text;
 
 pub use laws::{first_bad_character, one_script, script_of_grammar};
+pub use list::write_list;
 pub use number::read_number;
 pub use pattern::glob_match;
 pub use text::parse_script;
