@@ -11,3 +11,4 @@ pub mod NumberLemmas
 pub mod PatternLemmas
 pub mod WalkLemmas
 pub mod ListLemmas
+pub mod RoundTrip

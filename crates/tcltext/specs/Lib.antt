@@ -5,6 +5,8 @@ pub mod Grammar
 pub mod Faults
 pub mod Reading
 pub mod Numerals
+pub mod Backslash
+pub mod ListGrammar
 pub mod Lists
 pub mod Patterns
 pub mod Walks

@@ -1,7 +1,9 @@
-ghost use Rattle.std.specs.Prelude.{◌≡◌, ◌≢◌, ◌↔◌, ℕ, ◌+◌, ◌≤◌, ◌++◌, length, take, Ok, Err};
+ghost use Rattle.std.specs.Prelude.{◌≡◌, ◌≢◌, ◌↔◌, ℕ, List, ◌+◌, ◌≤◌, ◌++◌, length, take, Ok, Err};
 ghost use Rattle.tcltext.specs.Tree.{Text, Script as Tree};
 ghost use Rattle.tcltext.specs.Grammar.{IsScript};
 ghost use Rattle.tcltext.specs.Faults.{IsTextFault, IsBadAt, max_bytes};
+ghost use Rattle.tcltext.specs.ListGrammar.{IsList};
+ghost use Rattle.tcltext.specs.Lists.{list_text};
 ghost use Rattle.tcltext.specs.Reading.{script_of};
 ghost use Rattle.tcltext.specs.declared.TextFault.{TextFault};
 ghost use Rattle.tcltext.specs.declared.TextFault.TheVariants.{OutOfMemory};
@@ -24,4 +26,9 @@ pub fn script_of_grammar()
 pub fn first_bad_character()
     ensures so_far { (bs : Text) (at : ℕ) → IsBadAt bs at → (s : Tree) × IsScript (take at bs) s }
     ensures no_further { (bs more : Text) (at : ℕ) (s : Tree) → IsBadAt bs at → IsScript (take (at + 1) bs ++ more) s → ⊥ }
+{}
+
+/// The text of a list is a list with the same elements.
+pub fn list_round_trip()
+    ensures { (es : List Text) → IsList (list_text es) es }
 {}

@@ -1,6 +1,7 @@
 ghost use Rattle.std.specs.Prelude.{◌≡◌, ◌++◌, ◌≤◌, ◌<◌, ◌∷◌, [], length, map, flat_map, false, true, IfOk, OnOk, MatchOption, string_bytes};
 ghost use Rattle.std.specs.List.{list_all};
 ghost use Rattle.tcltext.specs.Bytes.{is_plain};
+ghost use Rattle.tcltext.specs.ListGrammar.{IsList};
 ghost use Rattle.tcltext.specs.Lists.{is_marked, begins_marked, begins_bare, is_bare, depth_after, balances, letter_of, escape, escaped, braced, element_text, list_rest, list_text};
 
 use crate::Class;
@@ -9,14 +10,24 @@ use std::alloc::{AllocError, Global};
 
 /// The text of a list with these elements: they are parted by one space, and stand as they are, in braces, or with backslashes.
 pub fn write_list(alloc: Global, elements: &[&str]) -> Result<String, AllocError>
-    ensures { IfOk result (λ text. string_bytes text ≡ list_text (map (λ e. e.now) elements.now)) }
+    ensures text { IfOk result (λ text. string_bytes text ≡ list_text (map (λ e. e.now) elements.now)) }
+    ensures read { IfOk result (λ text. IsList (string_bytes text) (map (λ e. e.now) elements.now)) }
 {
     let mut text = String::new(alloc);
-    if let [first, rest @ ..] = elements {
-        push_element(&mut text, first)?;
-        push_rest(&mut text, rest)?;
-    }
+    push_list(&mut text, elements)?;
     Ok(text)
+}
+
+fn push_list(text: &mut String, elements: &[&str]) -> Result<(), AllocError>
+    ensures { OnOk result (string_bytes text.new ≡ string_bytes text.old ++ list_text (map (λ e. e.now) elements.now)) }
+{
+    match elements {
+        [] => Ok(()),
+        [first, rest @ ..] => {
+            push_element(text, first)?;
+            push_rest(text, rest)
+        }
+    }
 }
 
 // The elements behind the first, each behind a space.

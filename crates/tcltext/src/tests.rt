@@ -126,3 +126,22 @@ fn patterns(rt: HostRuntime) -> Result<(), Fail> {
     );
     Ok(())
 }
+
+#[test]
+fn lists(rt: HostRuntime) -> Result<(), Fail> {
+    assert_eq!(rt;
+        write_list(rt.alloc(), &["a", "", "b c", "d}"])?.as_str(),
+        "a {} {b c} d\\}"
+    );
+    assert_eq!(rt; write_list(rt.alloc(), &["#x", "y#"])?.as_str(), "{#x} y#");
+    assert_eq!(rt;
+        write_list(rt.alloc(), &["a\\b", "{"])?.as_str(),
+        "a\\\\b \\{"
+    );
+    assert_eq!(rt;
+        write_list(rt.alloc(), &["#\\\n", "\u{e9}{\t"])?.as_str(),
+        "\\#\\\\\\n \u{e9}\\{\\t"
+    );
+    assert_eq!(rt; write_list(rt.alloc(), &[])?.as_str(), "");
+    Ok(())
+}
