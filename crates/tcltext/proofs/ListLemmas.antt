@@ -1,11 +1,10 @@
 -- Writing lists.
-use Rattle.std.proofs.Common.{◌≡◌, ℕ, zero, suc, ◌+◌, ◌<◌, ◌≤◌, List, [], ◌∷◌, ◌++◌, length, drop, get_or, Bool, true, false, not, ◌==◌, Option, Some, None, flat_map, refl, sym, ap, subst, ◌∙◌, arith, append_assoc, append-nil, length-append}
+use Rattle.std.proofs.Common.{◌≡◌, ℕ, ◌<◌, [], ◌∷◌, ◌++◌, length, Bool, true, false, not, ◌==◌, flat_map, refl, sym, ap, subst, ◌∙◌, arith, append_assoc, append-nil}
 use Rattle.std.proofs.lemmas.Bool.Decides.{nat_tests}
-use Rattle.std.proofs.lemmas.List.{drop_more}
 use Rattle.tcltext.specs.Bytes.{is_plain, AllPass, MayBegin}
 use Rattle.tcltext.specs.Tree.{Text}
 use Rattle.tcltext.specs.Reading.{front, back}
-use Rattle.tcltext.specs.Lists.{is_marked, begins_marked, letter_of, escape, depth_after, goes_on, balances}
+use Rattle.tcltext.specs.Lists.{is_marked, begins_marked, letter_of, escape}
 use Rattle.tcltext.proofs.Sound.{front_back, front_passes, back_fails}
 use Rattle.std.specs.List.{list_all}
 use Rattle.tcltext.proofs.Runs.{back-cons_true, back-cons_false}

@@ -1,11 +1,10 @@
 -- Patterns: characters, sets, elements.
-use Rattle.std.proofs.Common.{◌≡◌, ℕ, zero, suc, ◌+◌, ◌-◌, ◌<◌, ◌≤◌, List, [], ◌∷◌, ◌++◌, length, drop, Bool, true, false, not, ◌||◌, ◌==◌, if◌then◌else◌, Option, Some, None, option_map, refl, sym, ap, ap₂, subst, ◌∙◌, arith, ◌⊎◌, inl, inr}
+use Rattle.std.proofs.Common.{◌≡◌, ℕ, List, [], ◌∷◌, length, Bool, true, false, ◌||◌, ◌==◌, Option, Some, None, refl, sym, ap, ◌∙◌, arith}
 use Rattle.std.proofs.lemmas.Str.{chars-nil}
-use Rattle.std.proofs.lemmas.Bool.Decides.{nat_tests}
 use Rattle.std.specs.Str.{chars}
 use Rattle.std.specs.List.{list_any}
 use Rattle.tcltext.specs.Tree.{Text}
-use Rattle.tcltext.specs.Patterns.{is_between, set_items, after_set, set_holds, escaped_rest, element_rest}
+use Rattle.tcltext.specs.Patterns.{is_between, set_items, after_set, set_holds}
 use Rattle.tcltext.specs.Walks.{item_to, item_from, next_item, close_of}
 
 pub chars_empty : (bs : Text) → length bs ≡ 0 → chars bs ≡ []

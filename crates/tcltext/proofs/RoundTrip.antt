@@ -1,15 +1,15 @@
 -- What is written as a list is read as the same elements.
-use Rattle.std.proofs.Common.{◌≡◌, ◌≢◌, ℕ, zero, suc, ◌+◌, ◌<◌, ◌≤◌, List, [], ◌∷◌, ◌++◌, length, Bool, true, false, not, ◌||◌, ◌&&◌, ◌==◌, if◌then◌else◌, Option, Some, None, flat_map, refl, sym, ap, subst, ◌∙◌, arith, append_assoc, append-nil, ◌⊎◌, inl, inr}
+use Rattle.std.proofs.Common.{◌≡◌, ◌≢◌, ℕ, zero, suc, List, [], ◌∷◌, ◌++◌, Bool, true, false, not, ◌&&◌, ◌==◌, Option, Some, None, flat_map, refl, sym, ap, subst, ◌∙◌, arith, append_assoc, ◌⊎◌, inl, inr}
 use Rattle.std.proofs.lemmas.Bool.Decides.{nat_tests}
 use Rattle.std.specs.List.{list_all}
-use Rattle.tcltext.specs.Bytes.{is_plain, is_gap, is_special, backslash, hash, AllPass, MayBegin, DoesBegin}
+use Rattle.tcltext.specs.Bytes.{is_plain, backslash, hash, MayBegin, DoesBegin}
 use Rattle.tcltext.specs.Tree.{Text}
 use Rattle.tcltext.specs.Numerals.{is_space}
 use Rattle.tcltext.specs.Backslash as back
 use Rattle.tcltext.specs.Backslash.{Substitutes, letter_value, is_itself}
 use Rattle.tcltext.specs.ListGrammar as grammar
 use Rattle.tcltext.specs.ListGrammar.{Balanced, is_bare_byte, begins_element, IsElement, IsList}
-use Rattle.tcltext.specs.Lists.{is_marked, begins_bare, is_bare, closed_one, depth_after, goes_on, balances, letter_of, escape, escaped, braced, element_text, list_rest, list_text}
+use Rattle.tcltext.specs.Lists.{is_marked, begins_bare, is_bare, closed_one, depth_after, goes_on, balances, letter_of, escape, escaped, element_text, list_rest, list_text}
 use Rattle.tcltext.proofs.Sound.{is_byte, is_no_byte, true_false}
 
 -- Braces: what closes behind so many more

@@ -1,5 +1,5 @@
 -- What backslashes stand for (Tcl(n), rule 8).
-use Rattle.std.specs.Prelude.{◌≡◌, ◌≢◌, ℕ, ◌+◌, ◌*◌, ◌<◌, ◌≤◌, List, [], ◌∷◌, ◌++◌, length, Bool, true, false, not, ◌||◌, ◌&&◌, ◌==◌, nat_lt, nat_le, if◌then◌else◌, Option, Some, None, ◌⊎◌, encode_utf8}
+use Rattle.std.specs.Prelude.{◌≡◌, ℕ, ◌+◌, ◌*◌, ◌<◌, ◌≤◌, [], ◌∷◌, ◌++◌, length, Bool, true, false, not, ◌||◌, ◌&&◌, ◌==◌, nat_lt, if◌then◌else◌, Option, Some, None, ◌⊎◌, encode_utf8}
 use Rattle.std.specs.Char.{digit_value}
 use Rattle.tcltext.specs.Bytes.{newline, backslash, AllPass, MayBegin}
 use Rattle.tcltext.specs.Tree.{Text}

@@ -1,5 +1,5 @@
 -- The grammar of lists: which texts are lists, with their elements, by cases on the elements over whole texts.
-use Rattle.std.specs.Prelude.{◌≡◌, ◌≢◌, ℕ, List, [], ◌∷◌, ◌++◌, Bool, true, not, ◌||◌, ◌==◌, ◌⊎◌}
+use Rattle.std.specs.Prelude.{◌≡◌, ◌≢◌, ℕ, List, [], ◌∷◌, ◌++◌, Bool, not, ◌||◌, ◌==◌, ◌⊎◌}
 use Rattle.tcltext.specs.Bytes.{backslash, AllPass, MayBegin, DoesBegin}
 use Rattle.tcltext.specs.Tree.{Text}
 use Rattle.tcltext.specs.Grammar.{Parted}

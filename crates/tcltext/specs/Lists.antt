@@ -1,10 +1,8 @@
 -- The text that stands for a list of texts.
-use Rattle.std.specs.Prelude.{◌≡◌, ℕ, zero, suc, List, [], ◌∷◌, ◌++◌, Bool, true, false, not, ◌||◌, ◌&&◌, ◌==◌, if◌then◌else◌, Option, Some, None, flat_map}
+use Rattle.std.specs.Prelude.{ℕ, zero, suc, List, [], ◌∷◌, ◌++◌, Bool, false, not, ◌||◌, ◌&&◌, ◌==◌, if◌then◌else◌, Option, Some, None, flat_map}
 use Rattle.std.specs.List.{list_all}
 use Rattle.tcltext.specs.Bytes.{is_gap, is_special, is_plain, backslash, hash}
 use Rattle.tcltext.specs.Tree.{Text}
-use Rattle.tcltext.specs.Reading.{begins}
-use Rattle.tcltext.specs.Numerals.{is_nil}
 
 -- what has a meaning in a list or a script: white space, " $ ; [ ] { } \
 abbrev pub is_marked : ℕ → Bool

@@ -1,5 +1,5 @@
 -- Numbers as texts (Tcl(n) and expr(n), with the classes of this project): the class of a text, and its value.
-use Rattle.std.specs.Prelude.{◌≡◌, ℕ, ℤ, pos, negsuc, zero, suc, ◌+◌, ◌*◌, ◌^◌, List, [], ◌∷◌, Bool, true, false, ◌||◌, ◌&&◌, ◌==◌, nat_lt, nat_le, if◌then◌else◌, Option, Some, None, map, codes, bytes_eq}
+use Rattle.std.specs.Prelude.{ℕ, pos, negsuc, zero, suc, ◌+◌, ◌*◌, ◌^◌, [], ◌∷◌, Bool, true, false, ◌||◌, ◌&&◌, ◌==◌, nat_lt, nat_le, if◌then◌else◌, Option, Some, None, map, codes, bytes_eq}
 use Rattle.std.specs.Char.{digit_value, to_ascii_lowercase}
 use Rattle.tcltext.specs.Bytes.{newline, is_blank}
 use Rattle.tcltext.specs.Tree.{Text}

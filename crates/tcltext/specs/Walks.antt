@@ -1,5 +1,5 @@
 -- How far a pattern's elements up to its next star match a text.
-use Rattle.std.specs.Prelude.{◌≡◌, ℕ, zero, suc, ◌≤◌, ◌<◌, List, [], ◌∷◌, length, drop, Option, Some, None, false, ◌==◌, ◌↔◌, if◌then◌else◌}
+use Rattle.std.specs.Prelude.{◌≡◌, ℕ, suc, ◌≤◌, ◌<◌, [], ◌∷◌, length, drop, Option, Some, None, false, ◌==◌, ◌↔◌, if◌then◌else◌}
 use Rattle.std.specs.Str.{chars}
 use Rattle.tcltext.specs.Tree.{Text}
 use Rattle.tcltext.specs.Patterns.{element_rest, Matches}

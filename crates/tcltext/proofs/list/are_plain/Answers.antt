@@ -1,4 +1,4 @@
-use Rattle.std.proofs.Common.{◌≡◌, ◌==◌, length, ap, ◌∙◌}
+use Rattle.std.proofs.Common.{◌==◌, length, ap, ◌∙◌}
 use Rattle.tcltext.specs.Bytes.{is_plain}
 use Rattle.tcltext.proofs.ListLemmas.{no_more}
 use Rattle.tcltext.proofs.list.are_plain.Goals as goal

@@ -1,4 +1,4 @@
-use Rattle.std.proofs.Common.{◌≡◌, ◌++◌, ◌∷◌, [], ap, sym, ◌∙◌, lit<, rules, string_bytes}
+use Rattle.std.proofs.Common.{◌++◌, ◌∷◌, [], ap, ◌∙◌, lit<, rules, string_bytes}
 use Rattle.tcltext.specs.Lists.{letter_of}
 use Rattle.tcltext.proofs.ListLemmas.{escapes-end, escapes-more, escapes-shorter, letter_ascii}
 use Rattle.tcltext.proofs.list.push_escapes.Goals as goal

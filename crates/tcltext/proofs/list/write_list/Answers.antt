@@ -1,4 +1,4 @@
-use Rattle.std.proofs.Common.{◌≡◌, ◌++◌, map, ap, subst, sym, ◌∙◌, string_bytes}
+use Rattle.std.proofs.Common.{◌++◌, map, ap, subst, sym, ◌∙◌}
 use Rattle.tcltext.specs.ListGrammar.{IsList}
 use Rattle.tcltext.specs.Lists.{list_text}
 use Rattle.tcltext.proofs.RoundTrip.{list_is}

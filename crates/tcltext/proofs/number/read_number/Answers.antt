@@ -1,4 +1,4 @@
-use Rattle.std.proofs.Common.{◌≡◌, sym, ap, ◌∙◌}
+use Rattle.std.proofs.Common.{sym, ap, ◌∙◌}
 use Rattle.tcltext.specs.Numerals.{trimmed, whole_of}
 use Rattle.tcltext.proofs.NumberLemmas.{class-some, class-fraction, class-text, numeral-is}
 use Rattle.tcltext.proofs.number.read_number.Goals as goal

@@ -1,4 +1,4 @@
-use Rattle.std.proofs.Common.{◌≡◌, sym, ◌∙◌, arith}
+use Rattle.std.proofs.Common.{sym, ◌∙◌, arith}
 use Rattle.tcltext.proofs.NumberLemmas.{trim-more, trim-stop}
 use Rattle.tcltext.proofs.number.trim_end.Goals as goal
 

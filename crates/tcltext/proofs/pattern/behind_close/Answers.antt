@@ -1,4 +1,4 @@
-use Rattle.std.proofs.Common.{◌≡◌, [], sym, ap, ◌∙◌, if◌then◌else◌}
+use Rattle.std.proofs.Common.{[], sym, ap, ◌∙◌, if◌then◌else◌}
 use Rattle.std.proofs.lemmas.Str.{chars-nil}
 use Rattle.std.specs.Str.{chars}
 use Rattle.tcltext.specs.Walks.{close_of}

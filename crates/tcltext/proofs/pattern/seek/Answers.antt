@@ -1,4 +1,4 @@
-use Rattle.std.proofs.Common.{◌≡◌, rules}
+use Rattle.std.proofs.Common.{rules}
 use Rattle.std.specs.Str.{chars}
 use Rattle.tcltext.proofs.WalkLemmas.{sought-more, sought-end, sought-found}
 use Rattle.tcltext.proofs.pattern.seek.Goals as goal

@@ -1,4 +1,4 @@
-use Rattle.std.proofs.Common.{◌≡◌, ◌==◌, false, sym, ap, ◌∙◌, rules, arith}
+use Rattle.std.proofs.Common.{sym, rules, arith}
 use Rattle.std.specs.Str.{chars}
 use Rattle.tcltext.proofs.Complete.{no_test}
 use Rattle.tcltext.proofs.WalkLemmas.{led-none, led-more, led-star, led-short, led-fail, led-whole, led-left}
