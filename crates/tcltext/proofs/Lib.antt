@@ -12,3 +12,4 @@ pub mod PatternLemmas
 pub mod WalkLemmas
 pub mod ListLemmas
 pub mod RoundTrip
+pub mod OneList

@@ -5,10 +5,9 @@ use Rattle.std.specs.List.{list_all}
 use Rattle.tcltext.specs.Bytes.{is_plain, backslash, hash, MayBegin, DoesBegin}
 use Rattle.tcltext.specs.Tree.{Text}
 use Rattle.tcltext.specs.Numerals.{is_space}
-use Rattle.tcltext.specs.Backslash as back
-use Rattle.tcltext.specs.Backslash.{Substitutes, letter_value, is_itself}
+use Rattle.tcltext.specs.Backslash.{after_backslash}
 use Rattle.tcltext.specs.ListGrammar as grammar
-use Rattle.tcltext.specs.ListGrammar.{Balanced, is_bare_byte, begins_element, IsElement, IsList}
+use Rattle.tcltext.specs.ListGrammar.{Balanced, Bare, begins_element, IsElement, IsList}
 use Rattle.tcltext.specs.Lists.{is_marked, begins_bare, is_bare, closed_one, depth_after, goes_on, balances, letter_of, escape, escaped, element_text, list_rest, list_text}
 use Rattle.tcltext.proofs.Sound.{is_byte, is_no_byte, true_false}
 
@@ -64,101 +63,99 @@ closes (b ∷ bs) d h =
     step_cases d g.0 b bs (b == 92) (b == 123) (b == 125) refl refl refl g.1 (closes bs g.0 g.2)
 
 -- Backslashes
-plain_byte : (b : ℕ) → is_plain b ≡ true → (is_bare_byte b ≡ true) × ((b == backslash) ≡ false)
+plain_byte : (b : ℕ) → is_plain b ≡ true → (is_space b ≡ false) × ((b == backslash) ≡ false)
 plain_byte b h = (grind (arith, nat_tests), grind (arith, nat_tests))
 
 marked_or_plain : (b : ℕ) (t : Bool) → is_marked b ≡ t → (is_marked b ≡ true) ⊎ (is_plain b ≡ true)
 marked_or_plain b true h = inl h
 marked_or_plain b false h = inr (ap not h)
 
+unmarked : (t : Bool) → not t ≡ true → t ≡ false
+unmarked true h = cc
+unmarked false h = refl
+
 -- a marked byte that is no white space but the blank stands for itself
-itself_cases : (b : ℕ) (a c d e g i j k l : Bool) → (b == 32) ≡ a → (b == 59) ≡ c → (b == 34) ≡ d → (b == 36) ≡ e → (b == 91) ≡ g → (b == 93) ≡ i → (b == 123) ≡ j → (b == 125) ≡ k → (b == 92) ≡ l
-    → is_marked b ≡ true → (b == 10) ≡ false → (b == 9) ≡ false → (b == 13) ≡ false → (b == 11) ≡ false → (b == 12) ≡ false → is_itself b ≡ true
-itself_cases b true c d e g i j k l a' c' d' e' g' i' j' k' l' h n t r v f = subst (λ x. is_itself x ≡ true) (sym (is_byte b 32 a')) refl
-itself_cases b false true d e g i j k l a' c' d' e' g' i' j' k' l' h n t r v f = subst (λ x. is_itself x ≡ true) (sym (is_byte b 59 c')) refl
-itself_cases b false false true e g i j k l a' c' d' e' g' i' j' k' l' h n t r v f = subst (λ x. is_itself x ≡ true) (sym (is_byte b 34 d')) refl
-itself_cases b false false false true g i j k l a' c' d' e' g' i' j' k' l' h n t r v f = subst (λ x. is_itself x ≡ true) (sym (is_byte b 36 e')) refl
-itself_cases b false false false false true i j k l a' c' d' e' g' i' j' k' l' h n t r v f = subst (λ x. is_itself x ≡ true) (sym (is_byte b 91 g')) refl
-itself_cases b false false false false false true j k l a' c' d' e' g' i' j' k' l' h n t r v f = subst (λ x. is_itself x ≡ true) (sym (is_byte b 93 i')) refl
-itself_cases b false false false false false false true k l a' c' d' e' g' i' j' k' l' h n t r v f = subst (λ x. is_itself x ≡ true) (sym (is_byte b 123 j')) refl
-itself_cases b false false false false false false false true l a' c' d' e' g' i' j' k' l' h n t r v f = subst (λ x. is_itself x ≡ true) (sym (is_byte b 125 k')) refl
-itself_cases b false false false false false false false false true a' c' d' e' g' i' j' k' l' h n t r v f = subst (λ x. is_itself x ≡ true) (sym (is_byte b 92 l')) refl
-itself_cases b false false false false false false false false false a' c' d' e' g' i' j' k' l' h n t r v f = absurd (true_false (sym (rw (n, t, r, v, f, a', c', d', e', g', i', j', k', l') at h)))
+itself_cases : (b : ℕ) (bs : Text) (a c d e g i j k l : Bool) → (b == 32) ≡ a → (b == 59) ≡ c → (b == 34) ≡ d → (b == 36) ≡ e → (b == 91) ≡ g → (b == 93) ≡ i → (b == 123) ≡ j → (b == 125) ≡ k → (b == 92) ≡ l
+    → is_marked b ≡ true → (b == 10) ≡ false → (b == 9) ≡ false → (b == 13) ≡ false → (b == 11) ≡ false → (b == 12) ≡ false → after_backslash (b ∷ bs) ≡ Some (b ∷ [], bs)
+itself_cases b bs true c d e g i j k l a' c' d' e' g' i' j' k' l' h n t r v f = subst (λ x. after_backslash (x ∷ bs) ≡ Some (x ∷ [], bs)) (sym (is_byte b 32 a')) refl
+itself_cases b bs false true d e g i j k l a' c' d' e' g' i' j' k' l' h n t r v f = subst (λ x. after_backslash (x ∷ bs) ≡ Some (x ∷ [], bs)) (sym (is_byte b 59 c')) refl
+itself_cases b bs false false true e g i j k l a' c' d' e' g' i' j' k' l' h n t r v f = subst (λ x. after_backslash (x ∷ bs) ≡ Some (x ∷ [], bs)) (sym (is_byte b 34 d')) refl
+itself_cases b bs false false false true g i j k l a' c' d' e' g' i' j' k' l' h n t r v f = subst (λ x. after_backslash (x ∷ bs) ≡ Some (x ∷ [], bs)) (sym (is_byte b 36 e')) refl
+itself_cases b bs false false false false true i j k l a' c' d' e' g' i' j' k' l' h n t r v f = subst (λ x. after_backslash (x ∷ bs) ≡ Some (x ∷ [], bs)) (sym (is_byte b 91 g')) refl
+itself_cases b bs false false false false false true j k l a' c' d' e' g' i' j' k' l' h n t r v f = subst (λ x. after_backslash (x ∷ bs) ≡ Some (x ∷ [], bs)) (sym (is_byte b 93 i')) refl
+itself_cases b bs false false false false false false true k l a' c' d' e' g' i' j' k' l' h n t r v f = subst (λ x. after_backslash (x ∷ bs) ≡ Some (x ∷ [], bs)) (sym (is_byte b 123 j')) refl
+itself_cases b bs false false false false false false false true l a' c' d' e' g' i' j' k' l' h n t r v f = subst (λ x. after_backslash (x ∷ bs) ≡ Some (x ∷ [], bs)) (sym (is_byte b 125 k')) refl
+itself_cases b bs false false false false false false false false true a' c' d' e' g' i' j' k' l' h n t r v f = subst (λ x. after_backslash (x ∷ bs) ≡ Some (x ∷ [], bs)) (sym (is_byte b 92 l')) refl
+itself_cases b bs false false false false false false false false false a' c' d' e' g' i' j' k' l' h n t r v f = absurd (true_false (sym (rw (n, t, r, v, f, a', c', d', e', g', i', j', k', l') at h)))
 
-marked_itself : (b : ℕ) → is_marked b ≡ true → (b == 10) ≡ false → (b == 9) ≡ false → (b == 13) ≡ false → (b == 11) ≡ false → (b == 12) ≡ false → is_itself b ≡ true
-marked_itself b h n t r v f = itself_cases b (b == 32) (b == 59) (b == 34) (b == 36) (b == 91) (b == 93) (b == 123) (b == 125) (b == 92) refl refl refl refl refl refl refl refl refl h n t r v f
+marked_itself : (b : ℕ) (bs : Text) → is_marked b ≡ true → (b == 10) ≡ false → (b == 9) ≡ false → (b == 13) ≡ false → (b == 11) ≡ false → (b == 12) ≡ false → after_backslash (b ∷ bs) ≡ Some (b ∷ [], bs)
+marked_itself b bs h n t r v f = itself_cases b bs (b == 32) (b == 59) (b == 34) (b == 36) (b == 91) (b == 93) (b == 123) (b == 125) (b == 92) refl refl refl refl refl refl refl refl refl h n t r v f
 
-letter_cases : (b : ℕ) (bs ts : Text) (n t r v f : Bool) → (b == 10) ≡ n → (b == 9) ≡ t → (b == 13) ≡ r → (b == 11) ≡ v → (b == 12) ≡ f → is_marked b ≡ true
-    → Substitutes is_bare_byte bs ts → Substitutes is_bare_byte (backslash ∷ (letter_of b ∷ bs)) (b ∷ ts)
-letter_cases b bs ts true t r v f n' t' r' v' f' m s = rw n' (subst (λ x. Substitutes is_bare_byte (backslash ∷ (110 ∷ bs)) (x ∷ ts)) (sym (is_byte b 10 n')) (back.letter refl s))
-letter_cases b bs ts false true r v f n' t' r' v' f' m s = rw (n', t') (subst (λ x. Substitutes is_bare_byte (backslash ∷ (116 ∷ bs)) (x ∷ ts)) (sym (is_byte b 9 t')) (back.letter refl s))
-letter_cases b bs ts false false true v f n' t' r' v' f' m s = rw (n', t', r') (subst (λ x. Substitutes is_bare_byte (backslash ∷ (114 ∷ bs)) (x ∷ ts)) (sym (is_byte b 13 r')) (back.letter refl s))
-letter_cases b bs ts false false false true f n' t' r' v' f' m s = rw (n', t', r', v') (subst (λ x. Substitutes is_bare_byte (backslash ∷ (118 ∷ bs)) (x ∷ ts)) (sym (is_byte b 11 v')) (back.letter refl s))
-letter_cases b bs ts false false false false true n' t' r' v' f' m s = rw (n', t', r', v', f') (subst (λ x. Substitutes is_bare_byte (backslash ∷ (102 ∷ bs)) (x ∷ ts)) (sym (is_byte b 12 f')) (back.letter refl s))
-letter_cases b bs ts false false false false false n' t' r' v' f' m s = rw (n', t', r', v', f') (back.itself (marked_itself b m n' t' r' v' f') s)
+letter_cases : (b : ℕ) (bs : Text) (n t r v f : Bool) → (b == 10) ≡ n → (b == 9) ≡ t → (b == 13) ≡ r → (b == 11) ≡ v → (b == 12) ≡ f → is_marked b ≡ true
+    → after_backslash (letter_of b ∷ bs) ≡ Some (b ∷ [], bs)
+letter_cases b bs true t r v f n' t' r' v' f' m = subst (λ x. after_backslash (letter_of x ∷ bs) ≡ Some (x ∷ [], bs)) (sym (is_byte b 10 n')) refl
+letter_cases b bs false true r v f n' t' r' v' f' m = subst (λ x. after_backslash (letter_of x ∷ bs) ≡ Some (x ∷ [], bs)) (sym (is_byte b 9 t')) refl
+letter_cases b bs false false true v f n' t' r' v' f' m = subst (λ x. after_backslash (letter_of x ∷ bs) ≡ Some (x ∷ [], bs)) (sym (is_byte b 13 r')) refl
+letter_cases b bs false false false true f n' t' r' v' f' m = subst (λ x. after_backslash (letter_of x ∷ bs) ≡ Some (x ∷ [], bs)) (sym (is_byte b 11 v')) refl
+letter_cases b bs false false false false true n' t' r' v' f' m = subst (λ x. after_backslash (letter_of x ∷ bs) ≡ Some (x ∷ [], bs)) (sym (is_byte b 12 f')) refl
+letter_cases b bs false false false false false n' t' r' v' f' m = ap (λ x. after_backslash (x ∷ bs)) (same_letter b n' t' r' v' f') ∙ marked_itself b bs m n' t' r' v' f' where
+  same_letter : (b : ℕ) → (b == 10) ≡ false → (b == 9) ≡ false → (b == 13) ≡ false → (b == 11) ≡ false → (b == 12) ≡ false → letter_of b ≡ b
+  same_letter b n t r v f = rw (n, t, r, v, f) refl
 
-escape_means : (b : ℕ) (bs ts : Text) → Substitutes is_bare_byte bs ts → Substitutes is_bare_byte (escape b ++ bs) (b ∷ ts)
-escape_means b bs ts s = elim (marked_or_plain b (is_marked b) refl) [
-  | inl m ↦ rw m (letter_cases b bs ts (b == 10) (b == 9) (b == 13) (b == 11) (b == 12) refl refl refl refl refl m s)
-  | inr h ↦ (let u = unmarked (is_marked b) h in let two = plain_byte b h in rw u (back.plain two.0 two.1 s))
-] where
-  unmarked : (t : Bool) → not t ≡ true → t ≡ false
-  unmarked true h = cc
-  unmarked false h = refl
+escape_means : (b : ℕ) (bs ts rest : Text) → Bare bs ts rest → Bare (escape b ++ bs) (b ∷ ts) rest
+escape_means b bs ts rest s = elim (marked_or_plain b (is_marked b) refl) [
+  | inl m ↦ rw m (grammar.Bare.substituted (b ∷ []) bs (letter_cases b bs (b == 10) (b == 9) (b == 13) (b == 11) (b == 12) refl refl refl refl refl m) s)
+  | inr h ↦ (let u = unmarked (is_marked b) h in let two = plain_byte b h in rw u (grammar.Bare.plain two.0 two.1 s))
+]
 
-escapes_mean : (e : Text) → Substitutes is_bare_byte (flat_map escape e) e
-escapes_mean [] = back.nothing
-escapes_mean (b ∷ e) = escape_means b (flat_map escape e) e (escapes_mean e)
-
-plain_means : (e : Text) → list_all is_plain e ≡ true → Substitutes is_bare_byte e e
-plain_means [] h = back.nothing
-plain_means (b ∷ e) h =
-    let two = both (is_plain b) (list_all is_plain e) h in
-    let one = plain_byte b two.0 in
-    back.plain one.0 one.1 (plain_means e two.1)
-  where
-    both : (s t : Bool) → (s && t) ≡ true → (s ≡ true) × (t ≡ true)
-    both true t h = (refl, h)
-    both false t h = cc
-
--- Elements
-plain_begins : (b : ℕ) → is_plain b ≡ true → begins_element b ≡ true
-plain_begins b h = grind (arith, nat_tests)
+escapes_mean : (e rest : Text) → MayBegin is_space rest → Bare (flat_map escape e ++ rest) e rest
+escapes_mean [] rest h = grammar.Bare.stop h
+escapes_mean (b ∷ e) rest h = subst (λ x. Bare x (b ∷ e) rest) (sym (append_assoc (escape b) (flat_map escape e) rest)) (escape_means b (flat_map escape e ++ rest) e rest (escapes_mean e rest h))
 
 both_hold : (s t : Bool) → (s && t) ≡ true → (s ≡ true) × (t ≡ true)
 both_hold true t h = (refl, h)
 both_hold false t h = cc
 
-bare_element : (e : Text) → is_bare e ≡ true → IsElement e e
-bare_element [] h = cc
-bare_element (b ∷ e) h =
+plain_means : (e rest : Text) → list_all is_plain e ≡ true → MayBegin is_space rest → Bare (e ++ rest) e rest
+plain_means [] rest h k = grammar.Bare.stop k
+plain_means (b ∷ e) rest h k =
+    let two = both_hold (is_plain b) (list_all is_plain e) h in
+    let one = plain_byte b two.0 in
+    grammar.Bare.plain one.0 one.1 (plain_means e rest two.1 k)
+
+-- Elements
+plain_begins : (b : ℕ) → is_plain b ≡ true → begins_element b ≡ true
+plain_begins b h = grind (arith, nat_tests)
+
+bare_element : (e rest : Text) → is_bare e ≡ true → MayBegin is_space rest → IsElement (e ++ rest) e rest
+bare_element [] rest h k = cc
+bare_element (b ∷ e) rest h k =
     let two = both_hold (begins_bare (b ∷ e)) (list_all is_plain (b ∷ e)) h in
-    grammar.bare (plain_begins b (both_hold (is_plain b) (list_all is_plain e) two.1).0) (plain_means (b ∷ e) two.1)
+    grammar.IsElement.bare (plain_begins b (both_hold (is_plain b) (list_all is_plain e) two.1).0) (plain_means (b ∷ e) rest two.1 k)
 
 escape_begins : (b : ℕ) (bs : Text) → DoesBegin begins_element (escape b ++ bs)
 escape_begins b bs = elim (marked_or_plain b (is_marked b) refl) [
   | inl m ↦ rw m refl
   | inr h ↦ (let u = unmarked (is_marked b) h in rw u (plain_begins b h))
-] where
-  unmarked : (t : Bool) → not t ≡ true → t ≡ false
-  unmarked true h = cc
-  unmarked false h = refl
+]
 
-escaped_cases : (b : ℕ) (e : Text) (t : Bool) → (b == hash) ≡ t → IsElement (escaped (b ∷ e)) (b ∷ e)
-escaped_cases b e true t = rw t (grammar.bare refl (subst (λ x. Substitutes is_bare_byte (backslash ∷ (hash ∷ flat_map escape e)) (x ∷ e)) (sym (is_byte b hash t)) (back.itself refl (escapes_mean e))))
-escaped_cases b e false t = rw t (grammar.bare (escape_begins b (flat_map escape e)) (escapes_mean (b ∷ e)))
+escaped_cases : (b : ℕ) (e rest : Text) (t : Bool) → (b == hash) ≡ t → MayBegin is_space rest → IsElement (escaped (b ∷ e) ++ rest) (b ∷ e) rest
+escaped_cases b e rest true t k =
+    rw t (grammar.IsElement.bare refl (subst (λ x. Bare (backslash ∷ (hash ∷ (flat_map escape e ++ rest))) (x ∷ e) rest) (sym (is_byte b hash t)) (grammar.Bare.substituted (hash ∷ []) (flat_map escape e ++ rest) refl (escapes_mean e rest k))))
+escaped_cases b e rest false t k =
+    rw t (grammar.IsElement.bare (subst (DoesBegin begins_element) (sym (append_assoc (escape b) (flat_map escape e) rest)) (escape_begins b (flat_map escape e ++ rest))) (escapes_mean (b ∷ e) rest k))
 
-escaped_element : (e : Text) → balances 0 e ≡ false → IsElement (escaped e) e
-escaped_element [] h = cc
-escaped_element (b ∷ e) h = escaped_cases b e (b == hash) refl
+escaped_element : (e rest : Text) → balances 0 e ≡ false → MayBegin is_space rest → IsElement (escaped e ++ rest) e rest
+escaped_element [] rest h k = cc
+escaped_element (b ∷ e) rest h k = escaped_cases b e rest (b == hash) refl k
 
-element_cases : (e : Text) (s t : Bool) → is_bare e ≡ s → balances 0 e ≡ t → IsElement (element_text e) e
-element_cases e true t s' t' = rw s' (bare_element e s')
-element_cases e false true s' t' = rw (s', t') (grammar.in_braces (closes e 0 t'))
-element_cases e false false s' t' = rw (s', t') (escaped_element e t')
+element_cases : (e rest : Text) (s t : Bool) → is_bare e ≡ s → balances 0 e ≡ t → MayBegin is_space rest → IsElement (element_text e ++ rest) e rest
+element_cases e rest true t s' t' k = rw s' (bare_element e rest s' k)
+element_cases e rest false true s' t' k = rw (s', t') (grammar.IsElement.in_braces rest (append_assoc e (125 ∷ []) rest) (closes e 0 t'))
+element_cases e rest false false s' t' k = rw (s', t') (escaped_element e rest t' k)
 
-element_is : (e : Text) → IsElement (element_text e) e
-element_is e = element_cases e (is_bare e) (balances 0 e) refl refl
+element_is : (e rest : Text) → MayBegin is_space rest → IsElement (element_text e ++ rest) e rest
+element_is e rest k = element_cases e rest (is_bare e) (balances 0 e) refl refl k
 
 -- Lists
 rest_begins : (es : List Text) → MayBegin is_space (list_rest es)
@@ -167,25 +164,27 @@ rest_begins (e ∷ es) = refl
 
 rest_is : (es : List Text) → IsList (list_rest es) es
 rest_is [] = tt
-rest_is (e ∷ es) = inl (record {
-  first = 32 ∷ [];
-  second = element_text e;
-  third = list_rest es;
+rest_is (e ∷ es) = record {
+  spaces = 32 ∷ [];
+  body = element_text e ++ list_rest es;
+  rest = list_rest es;
   whole = refl;
-  is_first_part = (refl, tt);
-  is_second_part = element_is e;
-  is_third_part = (rest_begins es, rest_is es);
-})
+  are_spaces = (refl, tt);
+  is_element = element_is e (list_rest es) (rest_begins es);
+  is_parted = rest_begins es;
+  more = rest_is es;
+}
 
 -- The text of a list is a list with its elements.
 pub list_is : (es : List Text) → IsList (list_text es) es
 list_is [] = tt
-list_is (e ∷ es) = inl (record {
-  first = [];
-  second = element_text e;
-  third = list_rest es;
+list_is (e ∷ es) = record {
+  spaces = [];
+  body = element_text e ++ list_rest es;
+  rest = list_rest es;
   whole = refl;
-  is_first_part = tt;
-  is_second_part = element_is e;
-  is_third_part = (rest_begins es, rest_is es);
-})
+  are_spaces = tt;
+  is_element = element_is e (list_rest es) (rest_begins es);
+  is_parted = rest_begins es;
+  more = rest_is es;
+}

@@ -18,7 +18,7 @@ mod reading;
 mod tests;
 mod text;
 
-pub use laws::{first_bad_character, list_round_trip, one_script, script_of_grammar};
+pub use laws::{first_bad_character, list_round_trip, one_list, one_script, script_of_grammar};
 pub use list::write_list;
 pub use number::read_number;
 pub use pattern::glob_match;

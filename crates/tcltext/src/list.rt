@@ -19,7 +19,8 @@ pub fn write_list(alloc: Global, elements: &[&str]) -> Result<String, AllocError
 }
 
 fn push_list(text: &mut String, elements: &[&str]) -> Result<(), AllocError>
-    ensures { OnOk result (string_bytes text.new ≡ string_bytes text.old ++ list_text (map (λ e. e.now) elements.now)) }
+    ensures { OnOk result (string_bytes text.new
+        ≡ string_bytes text.old ++ list_text (map (λ e. e.now) elements.now)) }
 {
     match elements {
         [] => Ok(()),
@@ -32,7 +33,8 @@ fn push_list(text: &mut String, elements: &[&str]) -> Result<(), AllocError>
 
 // The elements behind the first, each behind a space.
 fn push_rest(text: &mut String, elements: &[&str]) -> Result<(), AllocError>
-    ensures { OnOk result (string_bytes text.new ≡ string_bytes text.old ++ list_rest (map (λ e. e.now) elements.now)) }
+    ensures { OnOk result (string_bytes text.new
+        ≡ string_bytes text.old ++ list_rest (map (λ e. e.now) elements.now)) }
 {
     let mut rest = elements;
     while let [element, after @ ..] = rest {
@@ -158,7 +160,8 @@ fn push_escapes(text: &mut String, plain: &str) -> Result<(), AllocError>
 
 // The marked byte in front, and what follows it.
 fn split_marked(text: &str) -> Option<(u8, &str)>
-    ensures { MatchOption result (begins_marked text.now ≡ false) (λ p. (text.now ≡ p.0 ∷ p.1.now) × (is_marked p.0 ≡ true)) }
+    ensures { MatchOption result (begins_marked text.now ≡ false)
+        (λ p. (text.now ≡ p.0 ∷ p.1.now) × (is_marked p.0 ≡ true)) }
 {
     match text.as_bytes() {
         [b, ..] if is_marked(*b) => Some((*b, text.split_at(1).1)),

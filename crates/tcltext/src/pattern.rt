@@ -19,7 +19,8 @@ pub fn glob_match(pattern: &str, text: &str) -> bool
 
 // The first character, and what follows it.
 fn split_char(text: &str) -> Option<(char, &str)>
-    ensures { MatchOption result (chars text.now ≡ []) (λ p. (chars text.now ≡ p.0 ∷ chars p.1.now) × (length p.1.now < length text.now)) }
+    ensures { MatchOption result (chars text.now ≡ [])
+        (λ p. (chars text.now ≡ p.0 ∷ chars p.1.now) × (length p.1.now < length text.now)) }
 {
     let c = text.chars().next()?;
     Some((c, text.split_at(c.len_utf8()).1))

@@ -1,0 +1,7 @@
+use Rattle.std.proofs.Common.{List}
+use Rattle.tcltext.specs.Tree.{Text}
+use Rattle.tcltext.proofs.OneList.{one_list}
+use Rattle.tcltext.proofs.laws.one_list.Goals as goal
+
+pub returns : goal.returns
+returns c = λ bs es fs. one_list es fs bs
