@@ -3,6 +3,9 @@ use Rattle.std.specs.Prelude.{◌≡◌, refl, codes, [], ◌∷◌, Ok, Err}
 use Rattle.tcltext.specs.Tree.{literal}
 use Rattle.tcltext.specs.Reading.{script_of, script_at, command_at, word_at, after_gap}
 use Rattle.std.specs.Prelude.{pos, negsuc}
+use Rattle.std.specs.Prelude.{Some, None}
+use lib.Utf8.{encode}
+use Rattle.tcltext.specs.Backslash.{after_backslash}
 use Rattle.tcltext.specs.Lists.{list_text}
 use Rattle.tcltext.specs.Numerals.{numeral}
 use Rattle.tcltext.specs.declared.Numeral.TheVariants.{Whole, Fraction}
@@ -33,3 +36,20 @@ small_octal = refl
 no_octal : numeral (codes "08") ≡ Fraction
 unfolding numeral
 no_octal = refl
+
+octal_stops : after_backslash (codes "4001") ≡ Some (32 ∷ [], codes "01")
+unfolding encode
+octal_stops = refl
+
+two_digits : after_backslash (codes "x414") ≡ Some (codes "A", codes "4")
+unfolding encode
+two_digits = refl
+
+no_digits : after_backslash (codes "xg") ≡ Some (codes "x", codes "g")
+no_digits = refl
+
+half_pair : after_backslash (codes "uD800") ≡ None
+half_pair = refl
+
+whole_line : after_backslash (codes "\n \tb") ≡ Some (codes " ", codes "b")
+whole_line = refl

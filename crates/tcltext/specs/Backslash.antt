@@ -1,5 +1,5 @@
 -- What backslashes stand for (Tcl(n), rule 8).
-use Rattle.std.specs.Prelude.{◌≡◌, ℕ, zero, suc, ◌+◌, ◌*◌, List, [], ◌∷◌, Bool, false, ◌||◌, ◌&&◌, ◌==◌, nat_lt, nat_le, if◌then◌else◌, Option, Some, None, encode_utf8}
+use Rattle.std.specs.Prelude.{ℕ, zero, suc, ◌+◌, ◌*◌, [], ◌∷◌, Bool, false, ◌||◌, ◌&&◌, ◌==◌, nat_lt, nat_le, if◌then◌else◌, Option, Some, None, encode_utf8}
 use Rattle.std.specs.Char.{digit_value}
 use Rattle.tcltext.specs.Bytes.{newline}
 use Rattle.tcltext.specs.Tree.{Text}

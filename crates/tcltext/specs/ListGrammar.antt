@@ -1,5 +1,5 @@
 -- The grammar of lists: which texts are lists, with their elements (Tcl(n), list words as lindex(n) reads them), by cases on the elements.
-use Rattle.std.specs.Prelude.{◌≡◌, ◌≢◌, ℕ, List, [], ◌∷◌, ◌++◌, Bool, true, false, not, ◌||◌, ◌==◌, Some}
+use Rattle.std.specs.Prelude.{◌≡◌, ◌≢◌, ℕ, List, [], ◌∷◌, ◌++◌, Bool, false, not, ◌||◌, ◌==◌, Some}
 use Rattle.tcltext.specs.Bytes.{backslash, AllPass, MayBegin, DoesBegin}
 use Rattle.tcltext.specs.Tree.{Text}
 use Rattle.tcltext.specs.Numerals.{is_space}

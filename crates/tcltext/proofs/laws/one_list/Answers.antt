@@ -1,5 +1,3 @@
-use Rattle.std.proofs.Common.{List}
-use Rattle.tcltext.specs.Tree.{Text}
 use Rattle.tcltext.proofs.OneList.{one_list}
 use Rattle.tcltext.proofs.laws.one_list.Goals as goal
 
