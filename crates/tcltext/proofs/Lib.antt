@@ -7,3 +7,9 @@ pub mod Turns
 pub mod Complete
 pub mod FaultLemmas
 pub mod Answered
+pub mod NumberLemmas
+pub mod PatternLemmas
+pub mod WalkLemmas
+pub mod ListLemmas
+pub mod RoundTrip
+pub mod OneList

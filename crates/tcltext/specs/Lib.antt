@@ -4,3 +4,9 @@ pub mod View
 pub mod Grammar
 pub mod Faults
 pub mod Reading
+pub mod Numerals
+pub mod Backslash
+pub mod ListGrammar
+pub mod Lists
+pub mod Patterns
+pub mod Walks

@@ -1,5 +1,6 @@
 ghost use Rattle.std.specs.Prelude.{◌≡◌, ◌<◌, ◌∷◌, false, MatchOption};
 ghost use Rattle.tcltext.specs.Bytes.{is_blank, is_end, is_gap, is_special, is_plain};
+ghost use Rattle.tcltext.specs.Lists.{is_marked};
 ghost use Rattle.tcltext.specs.Reading.{in_class, front, back, word_ends, command_ends, begins, ends_comment, escapes_next, after_comment, after_gap};
 
 use crate::Class;
@@ -29,13 +30,20 @@ fn is_special(b: u8) -> bool
     b == b'"' || b == b'$' || b == b'[' || b == b']' || b == b'{' || b == b'}' || b == b'\\'
 }
 
+// What has a meaning in a list or a script.
+pub(crate) fn is_marked(b: u8) -> bool
+    ensures { result ≡ is_marked b }
+{
+    is_gap(b) || is_special(b)
+}
+
 fn in_class(class: Class, b: u8) -> bool
     ensures { result ≡ in_class class b }
 {
     match class {
         Class::Blank => is_blank(b),
         Class::Gap => is_gap(b),
-        Class::Plain => !(is_gap(b) || is_special(b)),
+        Class::Plain => !is_marked(b),
     }
 }
 
@@ -71,7 +79,7 @@ pub(crate) fn split_front(text: &str, class: Class) -> (&str, &str)
 }
 
 /// What follows the first byte, which is ASCII.
-fn after_mark(text: &str, mark: u8) -> Option<&str>
+pub(crate) fn after_mark(text: &str, mark: u8) -> Option<&str>
     requires { mark < 128 }
     ensures some { MatchOption result (begins mark text.now ≡ false) (λ rest. text.now ≡ mark ∷ rest.now) }
 {

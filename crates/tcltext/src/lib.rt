@@ -10,12 +10,18 @@ use thiserror::Error;
 
 mod bytes;
 mod laws;
+mod list;
+mod number;
+mod pattern;
 mod reading;
 #[cfg(test)]
 mod tests;
 mod text;
 
-pub use laws::{first_bad_character, one_script, script_of_grammar};
+pub use laws::{first_bad_character, list_round_trip, one_list, one_script, script_of_grammar};
+pub use list::write_list;
+pub use number::read_number;
+pub use pattern::glob_match;
 pub use text::parse_script;
 
 /// A script: its commands, in order.
@@ -41,6 +47,19 @@ pub struct Word<'a> {
 pub enum Part<'a> {
     /// A slice of the script's text that stands for itself.
     Literal(&'a str),
+}
+
+/// A text as a number.
+#[derive(Clone, Copy, Debug, PartialEq, Eq)]
+pub enum Numeral {
+    /// A whole number of 64 bits with a sign.
+    Whole(i64),
+    /// A whole number outside 64 bits.
+    TooLarge,
+    /// A number with a fraction or an exponent, an infinity, or what is not a number.
+    Fraction,
+    /// No number.
+    Text,
 }
 
 /// What is wrong with a text. A place is in bytes, from 0.
@@ -120,6 +139,19 @@ impl<T: Drop> From<AllocFailed<T>> for ReadError {
     fn from(_e: AllocFailed<T>) -> ReadError {
         ReadError::Memory
     }
+}
+
+/// How far a pattern's elements up to its next star match a text.
+#[derive(Clone, Copy)]
+pub(crate) enum Reached<'a> {
+    /// What follows the star, and the rest of the text.
+    Star(&'a str, &'a str),
+    /// The pattern matches the whole text.
+    Whole,
+    /// An element fails, or text is left.
+    Mismatch,
+    /// The text ends before the elements.
+    Short,
 }
 
 /// Which bytes a run is made of.

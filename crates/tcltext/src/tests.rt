@@ -79,3 +79,69 @@ fn limit(rt: HostRuntime) -> Result<(), Fail> {
     assert!(rt; matches!(parse_script(rt.alloc(), &text), Err(TextFault::TooLong)));
     Ok(())
 }
+
+#[test]
+fn numbers(rt: HostRuntime) {
+    assert_eq!(rt; read_number("010"), Numeral::Whole(8));
+    assert_eq!(rt; read_number(" 0x1F "), Numeral::Whole(31));
+    assert_eq!(rt; read_number("-0o17"), Numeral::Whole(-15));
+    assert_eq!(rt; read_number("0b101"), Numeral::Whole(5));
+    assert_eq!(rt;
+        read_number("-9223372036854775808"),
+        Numeral::Whole(i64::MIN)
+    );
+    assert_eq!(rt; read_number("9223372036854775808"), Numeral::TooLarge);
+    assert_eq!(rt; read_number("08"), Numeral::Fraction);
+    assert_eq!(rt; read_number("5."), Numeral::Fraction);
+    assert_eq!(rt; read_number("1e3"), Numeral::Fraction);
+    assert_eq!(rt; read_number("Inf"), Numeral::Fraction);
+    assert_eq!(rt; read_number("."), Numeral::Text);
+    assert_eq!(rt; read_number("0x"), Numeral::Text);
+    assert_eq!(rt; read_number("- 5"), Numeral::Text);
+    assert_eq!(rt; read_number(""), Numeral::Text);
+}
+
+#[test]
+fn patterns(rt: HostRuntime) -> Result<(), Fail> {
+    assert!(rt; glob_match("[c-a]x", "bx"));
+    assert!(rt; glob_match("[ab", "a"));
+    assert!(rt; !glob_match("[ab", "c"));
+    assert!(rt; glob_match("\\*", "*"));
+    assert!(rt; !glob_match("\\*", "a"));
+    assert!(rt; glob_match("*.[ch]", "x.c"));
+    assert!(rt; !glob_match("\\", ""));
+    assert!(rt; glob_match("?\u{e9}*", "\u{e9}\u{e9}"));
+    let text = "a".repeat(rt.alloc(), 100_000)?;
+    assert!(rt;
+        glob_match(
+            "*a*a*a*a*a*a*a*a*a*a*a*a*a*a*a*a*a*a*a*a*a*a*a*a*a*a*a*a*a*a",
+            &text
+        )
+    );
+    assert!(rt;
+        !glob_match(
+            "*a*a*a*a*a*a*a*a*a*a*a*a*a*a*a*a*a*a*a*a*a*a*a*a*a*a*a*a*a*b",
+            &text
+        )
+    );
+    Ok(())
+}
+
+#[test]
+fn lists(rt: HostRuntime) -> Result<(), Fail> {
+    assert_eq!(rt;
+        write_list(rt.alloc(), &["a", "", "b c", "d}"])?.as_str(),
+        "a {} {b c} d\\}"
+    );
+    assert_eq!(rt; write_list(rt.alloc(), &["#x", "y#"])?.as_str(), "{#x} y#");
+    assert_eq!(rt;
+        write_list(rt.alloc(), &["a\\b", "{"])?.as_str(),
+        "a\\\\b \\{"
+    );
+    assert_eq!(rt;
+        write_list(rt.alloc(), &["#\\\n", "\u{e9}{\t"])?.as_str(),
+        "\\#\\\\\\n \u{e9}\\{\\t"
+    );
+    assert_eq!(rt; write_list(rt.alloc(), &[])?.as_str(), "");
+    Ok(())
+}
