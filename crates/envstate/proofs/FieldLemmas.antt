@@ -1,7 +1,7 @@
 -- Lists of texts, parted, joined and each once.
 use Rattle.std.proofs.Common.{◌≡◌, ℕ, Bool, true, false, cond, not, List, [], ◌∷◌, ◌++◌, refl, sym, ap, ◌∙◌, suc, ◌||◌, ◌&&◌, ◌<◌, ◌≤◌, ◌-◌, arith, length, take, get_or, append-nil, append_assoc, take_all, Bor, nat_eq}
 use Rattle.std.proofs.Common.{drop as cut}
-use Rattle.std.specs.Prelude.{filter, flat_map, map, bytes_eq}
+use Rattle.std.specs.Prelude.{flat_map, bytes_eq}
 use Rattle.std.proofs.lemmas.Bool.Decides.{nat_tests}
 use Rattle.std.specs.List.{join_with_byte, list_any}
 use Rattle.indexmap.specs.IndexSet.{insert_key}

@@ -10,3 +10,4 @@ pub mod FieldLemmas
 pub mod LoadedExamples
 pub mod StackLemmas
 pub mod LoadedReading
+pub mod LoadedWriting

@@ -1,5 +1,5 @@
 -- Reading the loaded texts.
-use Rattle.std.proofs.Common.{◌≡◌, ℕ, suc, Bool, true, false, cond, not, ◌+◌, ◌||◌, ◌&&◌, ◌<◌, ◌≤◌, ◌-◌, List, [], ◌∷◌, ◌++◌, refl, sym, ap, ◌∙◌, arith, length, append_assoc, append-nil, take, get_or, take_all, Bor, nat_eq, Option, Some, None, Result, Ok, Err, string_bytes, map, Vec, Global}
+use Rattle.std.proofs.Common.{◌≡◌, ℕ, suc, Bool, true, false, cond, not, ◌+◌, ◌&&◌, ◌<◌, ◌≤◌, ◌-◌, List, [], ◌∷◌, ◌++◌, refl, sym, ap, ◌∙◌, arith, length, append_assoc, append-nil, take, get_or, take_all, Bor, nat_eq, Option, Some, None, Result, Ok, Err, map, Vec, Global}
 use Rattle.std.proofs.Common.{drop as cut}
 use Rattle.std.specs.Prelude.{filter, bytes_eq, if◌then◌else◌}
 use Rattle.std.specs.List.{slice_split, list_all, position_or_len}
@@ -18,8 +18,8 @@ use Rattle.envstate.specs.Texts.{Text, shown}
 use Rattle.envstate.specs.Changes.{are_distinct}
 use Rattle.envstate.specs.PathTexts.{firsts}
 use Rattle.std.specs.Vec.{vec_len}
-use Rattle.envstate.specs.LoadedTexts.{names_variable, files_variable, conflicts_variable, prereqs_variable, elements_in, ampersand, is_empty, are_consistent, parts_of, first_part, later_parts, first_element, words_in, element_in, has_names, names_of_group, conflicts_among, prereqs_among}
-use Rattle.envstate.specs.Loaded.{Entry, entries_from, first_in, loaded_in, texts_in, groups_in}
+use Rattle.envstate.specs.LoadedTexts.{names_variable, files_variable, conflicts_variable, prereqs_variable, elements_in, is_empty, are_consistent, parts_of, first_part, later_parts, first_element, words_in, element_in, has_names, names_of_group, conflicts_among, prereqs_among}
+use Rattle.envstate.specs.Loaded.{Entry, entries_from, first_in, loaded_in, texts_in}
 use Rattle.envstate.specs.Environment.{Environment, lookup}
 use Rattle.envstate.proofs.TextLemmas.{same_text, bytes_eq-symmetric}
 

@@ -9,8 +9,8 @@ use Rattle.modulename.specs.ModuleName.{is_module_name}
 use Rattle.envstate.specs.Texts.{Text, has}
 use Rattle.envstate.specs.PathTexts.{colon, text_of, firsts}
 use Rattle.envstate.specs.LoadedTexts.{names_variable, files_variable, conflicts_variable, prereqs_variable, elements_in, is_empty, are_consistent, first_element, words_in, conflicts_among, prereqs_among, has_names, element_of, group_text}
-use Rattle.envstate.specs.Environment.{Environment, lookup, with_value}
-use Rattle.envstate.specs.Changes.{are_distinct}
+use Rattle.envstate.specs.Environment.{Environment, lookup}
+use Rattle.envstate.specs.Changes.{Edit, applied, are_distinct}
 use Rattle.envstate.specs.Refused.{Refused, inconsistent}
 use Rattle.envstate.specs.declared.entry.Loaded.{Loaded}
 use Rattle.envstate.specs.declared.fault.EnvFault.{EnvFault}
@@ -78,11 +78,14 @@ prereq_elements (x ∷ xs) = if has_groups x.prereqs then element_of x.name (map
 abbrev pub prereqs_text : List Entry → Option Text
 prereqs_text entries = text_of (prereq_elements entries)
 
+-- what is written of the list
+abbrev pub loaded_edits : List Entry → List Edit
+loaded_edits entries =
+    (names_variable, names_text entries) ∷ (files_variable, files_text entries) ∷ (conflicts_variable, conflicts_text entries) ∷ (prereqs_variable, prereqs_text entries) ∷ []
+
 -- the environment with this list in the four variables
 abbrev pub with_loaded : Environment → List Entry → Environment
-with_loaded e entries =
-    with_value (with_value (with_value (with_value e names_variable (names_text entries)) files_variable (files_text entries))
-    conflicts_variable (conflicts_text entries)) prereqs_variable (prereqs_text entries)
+with_loaded e entries = applied (loaded_edits entries) e
 
 -- a path has a byte, and no colon
 abbrev pub is_path : Text → Bool
@@ -94,7 +97,7 @@ is_group group = has_names group && list_all is_module_name group
 
 -- an entry that is read again as it was written, but for repeated conflicts
 abbrev pub is_entry : Entry → Bool
-is_entry x = is_module_name x.name && is_path x.path && list_all is_module_name x.conflicts && list_all is_group x.prereqs
+is_entry x = (is_module_name x.name && is_path x.path) && (list_all is_module_name x.conflicts && list_all is_group x.prereqs)
 
 -- Each entry can be written, no module stands twice, and no entry has a conflict twice.
 pub record IsLoadedList (entries : List Entry) : Type 0 where
@@ -135,20 +138,25 @@ dropped_from e name (Some entries) = if has name (names_of entries) then Ok (wit
 abbrev pub dropped_loaded : Environment → Text → Result Environment Refused
 dropped_loaded e name = dropped_from e name (loaded_in e)
 
-abbrev pub conflicts_named : Text → List Entry → List Text
-conflicts_named name [] = []
-conflicts_named name (x ∷ xs) = if bytes_eq name x.name then x.conflicts else conflicts_named name xs
+-- the entry of a module
+abbrev pub entry_named : Text → List Entry → Option Entry
+entry_named name [] = None
+entry_named name (x ∷ xs) = if bytes_eq name x.name then Some x else entry_named name xs
 
-abbrev pub prereqs_named : Text → List Entry → List (List Text)
-prereqs_named name [] = []
-prereqs_named name (x ∷ xs) = if bytes_eq name x.name then x.prereqs else prereqs_named name xs
+abbrev pub conflicts_of_entry : Option Entry → List Text
+conflicts_of_entry None = []
+conflicts_of_entry (Some x) = x.conflicts
+
+abbrev pub prereqs_of_entry : Option Entry → List (List Text)
+prereqs_of_entry None = []
+prereqs_of_entry (Some x) = x.prereqs
 
 -- what a loaded module conflicts with; nothing where it is not loaded
 abbrev pub conflicts_in : Environment → Text → Option (List Text)
-conflicts_in e name = option_map (conflicts_named name) (loaded_in e)
+conflicts_in e name = option_map (λ entries. conflicts_of_entry (entry_named name entries)) (loaded_in e)
 
 abbrev pub prereqs_in : Environment → Text → Option (List (List Text))
-prereqs_in e name = option_map (prereqs_named name) (loaded_in e)
+prereqs_in e name = option_map (λ entries. prereqs_of_entry (entry_named name entries)) (loaded_in e)
 
 abbrev pub texts_in : Vec (String Global) Global → List Text
 texts_in v = map string_bytes v.items

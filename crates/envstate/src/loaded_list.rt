@@ -1,28 +1,27 @@
 //! The loaded modules, which four variables list.
-ghost use Rattle.std.specs.Prelude.{◌≡◌, ◌==◌, ◌&&◌, ◌++◌, [], ◌∷◌, not, length, map, filter, bytes_eq, if◌then◌else◌, OnOk, OnErr, IfOk, IfErr};
+ghost use Rattle.std.specs.Prelude.{◌≡◌, ◌==◌, ◌&&◌, ◌++◌, [], ◌∷◌, not, length, map, filter, bytes_eq, if◌then◌else◌, OnOk, IfOk};
 ghost use Rattle.std.specs.List.{list_all};
 ghost use Rattle.std.specs.Option.{option_map, option_or};
 ghost use Rattle.modulename.specs.ModuleName.{is_module_name};
 ghost use Rattle.envstate.specs.Texts.{Text, shown};
 ghost use Rattle.envstate.specs.LoadedTexts.{are_consistent, parts_of, first_part, first_element, words_in, conflicts_among, prereqs_among, names_of_group, has_names, element_in};
-ghost use Rattle.envstate.specs.Loaded.{Lists, Answers, texts_in, groups_in, entry_of, entries_from, loaded_in, added_loaded, dropped_loaded, conflicts_in, prereqs_in};
-ghost use Rattle.envstate.specs.Refused.{Edits};
+ghost use Rattle.envstate.specs.Loaded.{Lists, Answers, texts_in, groups_in, entry_of, entries_from, loaded_in, entry_named, conflicts_in, prereqs_in};
 
 use crate::entry::Loaded;
 use crate::env::Env;
 use crate::fault::EnvFault;
-use crate::fields::{are_distinct, copies, elements, names_among, once, parts};
+use crate::fields::{are_distinct, copies, elements, names_among, once, parts, slices};
 use indexmap::IndexMap;
 use modulename::is_module_name;
 use std::alloc::{AllocError, Global};
 
-const NAMES: &str = "LOADEDMODULES";
+pub(crate) const NAMES: &str = "LOADEDMODULES";
 
-const FILES: &str = "_LMFILES_";
+pub(crate) const FILES: &str = "_LMFILES_";
 
-const CONFLICTS: &str = "__MODULES_LMCONFLICT";
+pub(crate) const CONFLICTS: &str = "__MODULES_LMCONFLICT";
 
-const PREREQS: &str = "__MODULES_LMPREREQ";
+pub(crate) const PREREQS: &str = "__MODULES_LMPREREQ";
 
 /// The first element of each module.
 type FirstElements<'a> = IndexMap<&'a str, &'a str>;
@@ -218,23 +217,33 @@ pub fn loaded(alloc: Global, env: &Env) -> Result<Vec<Loaded>, EnvFault>
     Ok(entries)
 }
 
-/// Adds a module behind the loaded ones, and writes the four variables anew. A conflict that is there twice is kept once.
-///
-/// The answer is `Inconsistent` where that of `loaded` is, and where the entry could not be read again: its module is
-/// loaded, a name in it is ill spelled, its path is empty or holds a colon, or one of its groups has no names.
-pub fn add_loaded(alloc: Global, env: &mut Env, entry: &Loaded) -> Result<(), EnvFault>
-    ensures { Edits result env.old env.new (added_loaded env.old (entry_of entry.now)) }
+/// The entry of a module.
+pub(crate) fn find<'a>(list: &'a [Loaded], name: &str) -> Option<&'a Loaded>
+    ensures { option_map (λ x. entry_of x.now) result ≡ entry_named name.now (map entry_of list.entry.now) }
 {
-    Err(EnvFault::OutOfMemory)
+    let mut rest = list;
+    while let [entry, after @ ..] = rest {
+        if entry.name.as_str() == name {
+            return Some(entry);
+        }
+        rest = after;
+    }
+    None
 }
 
-/// Takes a module out of the loaded ones, and writes the four variables anew. Where it isn't loaded nothing changes.
-///
-/// The answer is `Inconsistent` where that of `loaded` is.
-pub fn drop_loaded(alloc: Global, env: &mut Env, name: &str) -> Result<(), EnvFault>
-    ensures { Edits result env.old env.new (dropped_loaded env.old name.now) }
+/// Groups of names, copied.
+pub(crate) fn copy_groups(
+    alloc: Global,
+    groups: &[Vec<String>],
+) -> Result<Vec<Vec<String>>, AllocError>
+    ensures { IfOk result (λ v. groups_in v ≡ map texts_in groups.now) }
 {
-    Err(EnvFault::OutOfMemory)
+    let mut copied = Vec::new(alloc);
+    for group in groups {
+        let names = slices(alloc, group.as_slice())?;
+        copied.push(copies(alloc, names.as_slice())?)?;
+    }
+    Ok(copied)
 }
 
 /// The names that a loaded module conflicts with, each once; none where it isn't loaded.
@@ -243,7 +252,12 @@ pub fn drop_loaded(alloc: Global, env: &mut Env, name: &str) -> Result<(), EnvFa
 pub fn conflicts_of(alloc: Global, env: &Env, name: &str) -> Result<Vec<String>, EnvFault>
     ensures { Answers texts_in result (conflicts_in env.now name.now) }
 {
-    Err(EnvFault::OutOfMemory)
+    let list = loaded(alloc, env)?;
+    let Some(entry) = find(list.as_slice(), name) else {
+        return Ok(Vec::new(alloc));
+    };
+    let names = slices(alloc, entry.conflicts.as_slice())?;
+    Ok(copies(alloc, names.as_slice())?)
 }
 
 /// The groups of names of which a loaded module needs one each; none where it isn't loaded.
@@ -252,5 +266,9 @@ pub fn conflicts_of(alloc: Global, env: &Env, name: &str) -> Result<Vec<String>,
 pub fn prereqs_of(alloc: Global, env: &Env, name: &str) -> Result<Vec<Vec<String>>, EnvFault>
     ensures { Answers groups_in result (prereqs_in env.now name.now) }
 {
-    Err(EnvFault::OutOfMemory)
+    let list = loaded(alloc, env)?;
+    let Some(entry) = find(list.as_slice(), name) else {
+        return Ok(Vec::new(alloc));
+    };
+    Ok(copy_groups(alloc, entry.prereqs.as_slice())?)
 }

@@ -1,4 +1,4 @@
-use Rattle.std.proofs.Common.{ap, sym, ◌∙◌}
+use Rattle.std.proofs.Common.{ap, ◌∙◌}
 use Rattle.envstate.specs.Texts.{shown}
 use Rattle.envstate.proofs.LoadedReading.{conflicts-from, ok_texts}
 use Rattle.envstate.proofs.loaded_list.conflict_names.Goals as goal

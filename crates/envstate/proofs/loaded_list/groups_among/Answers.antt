@@ -1,4 +1,3 @@
-use Rattle.std.proofs.Common.{ap, sym, ◌∙◌}
 use Rattle.envstate.specs.Loaded.{groups_in}
 use Rattle.envstate.proofs.LoadedReading.{groups-turn}
 use Rattle.envstate.proofs.loaded_list.groups_among.Goals as goal

@@ -1,5 +1,5 @@
 use Rattle.std.proofs.Common.{◌≡◌, ◌++◌, length}
-use Rattle.envstate.specs.Texts.{Text, shown}
+use Rattle.envstate.specs.Texts.{shown}
 use Rattle.envstate.specs.LoadedTexts.{prereqs_among}
 use Rattle.envstate.specs.Loaded.{groups_in}
 use Rattle.envstate.proofs.loaded_list.groups_among.Given as goal

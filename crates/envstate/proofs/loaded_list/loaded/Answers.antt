@@ -1,7 +1,6 @@
 use Rattle.std.proofs.Common.{ap, ◌∙◌, sym}
 use Rattle.envstate.specs.Texts.{shown}
-use Rattle.envstate.specs.LoadedTexts.{elements_in, element_in, first_element, are_consistent}
-use Rattle.envstate.specs.Loaded.{entries_from}
+use Rattle.envstate.specs.LoadedTexts.{elements_in, are_consistent}
 use Rattle.envstate.proofs.LoadedReading.{read_is}
 use Rattle.envstate.proofs.loaded_list.loaded.Goals as goal
 
