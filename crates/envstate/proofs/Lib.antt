@@ -6,8 +6,5 @@ pub mod RoundTrip
 pub mod Readable
 pub mod ChangeLemmas
 pub mod Examples
-pub mod FieldLemmas
-pub mod LoadedExamples
-pub mod StackLemmas
-pub mod LoadedReading
-pub mod LoadedWriting
+pub mod PathSteps
+pub mod PathEditLemmas

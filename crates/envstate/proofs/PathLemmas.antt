@@ -22,7 +22,7 @@ there : (xs : List Text) (x y : Text) (b : Bool) → bytes_eq y x ≡ b → has 
 there xs x y true e h = ap (λ (t : Text). has t xs) (same_text y x e) ∙ h
 there xs x y false e h = refl
 
-has-added_if : (xs : List Text) (x y : Text) (end : End) (t : Bool) → has x xs ≡ t → has y (cond t xs (placed xs x end)) ≡ (bytes_eq y x || has y xs)
+pub has-added_if : (xs : List Text) (x y : Text) (end : End) (t : Bool) → has x xs ≡ t → has y (cond t xs (placed xs x end)) ≡ (bytes_eq y x || has y xs)
 has-added_if xs x y end true h = there xs x y (bytes_eq y x) refl h
 has-added_if xs x y end false h = has-placed xs x y end
 

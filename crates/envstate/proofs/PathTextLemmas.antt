@@ -1,22 +1,22 @@
 -- The texts of a path variable.
-use Rattle.std.proofs.Common.{◌≡◌, ℕ, ◌-◌, ◌<◌, ◌≤◌, Bool, true, false, cond, not, ◌||◌, ◌&&◌, List, [], ◌∷◌, ◌++◌, refl, sym, ap, ◌∙◌, arith, leb, Option, Some, None, Bor, take, get_or, append-nil, append_assoc, take_all, Result, Ok, Err, string_bytes}
-use Rattle.std.specs.Prelude.{filter, bytes_eq, unwrap_or, if◌then◌else◌}
-use Rattle.std.specs.Option.{option_or, option_copied, option_map, is_some, IsSome}
+use Rattle.std.proofs.Common.{◌≡◌, ℕ, ◌-◌, ◌<◌, ◌≤◌, Bool, true, false, cond, not, ◌||◌, List, [], ◌∷◌, ◌++◌, refl, sym, ap, ◌∙◌, arith, Option, Some, None, Bor, take, get_or, append-nil, append_assoc, take_all, Result, Ok, Err, string_bytes}
+use Rattle.std.specs.Prelude.{filter, bytes_eq, if◌then◌else◌}
+use Rattle.std.specs.Option.{option_or, option_copied, option_map, is_some}
 use Rattle.std.specs.Result.{IfOk}
 use Rattle.std.specs.declared.string.String.{String}
 use Rattle.std.specs.List.{list_any}
 use Rattle.std.proofs.Math.ListN.{length}
 use Rattle.std.proofs.Common.{drop as cut}
-use Rattle.std.proofs.lemmas.Bool.Decides.{nat_tests}
 use Rattle.std.specs.HashMap.{UpdatesBy}
 use Rattle.std.proofs.lemmas.Map.Text.{hash_map_updates_str}
 use Rattle.indexmap.specs.IndexMap.{IndexMap}
+use Rattle.indexmap.specs.IndexSet.{insert_key}
 use Rattle.envstate.specs.Texts.{Text, has}
-use Rattle.envstate.specs.Paths.{PathState, drop, without}
-use Rattle.envstate.specs.PathTexts.{colon, joined, text_of, after_colons, with_new, firsts, pairs_of, elements_of, state_of, counter_fields, is_lone_empty, counted, paired, counter_in, seen}
+use Rattle.envstate.specs.Paths.{without}
+use Rattle.envstate.specs.PathTexts.{colon, joined, text_of, after_colons, firsts, counted, paired}
+use Rattle.envstate.specs.Tables.{counter_in}
 use Rattle.envstate.specs.Texts.{shown}
-use Rattle.envstate.proofs.TextLemmas.{same_text, bytes_eq-symmetric, has-without, has-push, filter-without}
-use Rattle.envstate.proofs.PathLemmas.{same_state}
+use Rattle.envstate.proofs.TextLemmas.{same_text, bytes_eq-symmetric, has-push, filter-without}
 
 or_none : {A : Type 0} (o : Option A) → o ≡ option_or o None
 or_none (Some x) = refl
@@ -39,11 +39,6 @@ pub or_assoc : {A : Type 0} (a b c : Option A) → option_or (option_or a b) c �
 or_assoc (Some x) b c = refl
 or_assoc None b c = refl
 
--- an element that isn't there
-absent_at : (b h : Bool) (n : ℕ) → (b ≡ true → h ≡ false) → (if h then n else 0) ≡ (if h then n else 0) - (if b then 1 else 0)
-absent_at true h n e = let f : h ≡ false = e refl in rw f (omega arith)
-absent_at false h n e = omega arith
-
 pub or_left : (a b : Bool) → (a || b) ≡ false → a ≡ false
 or_left true b e = e
 or_left false b e = refl
@@ -59,43 +54,6 @@ without-absent x (y ∷ ys) h =
     let e : bytes_eq y x ≡ false = bytes_eq-symmetric y x ∙ or_left (bytes_eq x y) (has x ys) h in
     rw e (ap (λ (l : List Text). y ∷ l) (without-absent x ys (or_right (bytes_eq x y) (has x ys) h)))
 
-pub drop-absent : {S : Type 0} (xs : List (Bor Text)) (m : IndexMap (Bor Text) ℕ S) (x : Text) → has x (shown xs) ≡ false → seen xs m ≡ drop (seen xs m) x
-drop-absent xs m x h = same_state _ _
-    (rw h (sym (without-absent x (shown xs) h)))
-    (λ y. absent_at (bytes_eq y x) (has y (shown xs)) (unwrap_or (counter_in m y) 1) (λ b. ap (λ (t : Text). has t (shown xs)) (same_text y x b) ∙ h))
-
--- an element that is counted more than once
-fewer_at : (b h : Bool) (n : ℕ) (o : Option ℕ) → (b ≡ true → o ≡ Some n) → (b ≡ true → h ≡ true) → (if h then unwrap_or (cond b (Some (n - 1)) o) 1 else 0) ≡ (if h then unwrap_or o 1 else 0) - (if b then 1 else 0)
-fewer_at true h n o e f = rw (e refl, f refl) refl
-fewer_at false h n o e f = omega arith
-
-pub drop-counted : {S : Type 0} (xs : List (Bor Text)) (m k : IndexMap (Bor Text) ℕ S) (x : Text) (n : ℕ) → has x (shown xs) ≡ true → counter_in m x ≡ Some n → leb n 1 ≡ false
-    → ((y : Text) → counter_in k y ≡ cond (bytes_eq x y) (Some (n - 1)) (counter_in m y)) → seen xs k ≡ drop (seen xs m) x
-drop-counted xs m k x n h c more e = same_state _ _
-    (rw (h, c, more) refl)
-    (λ y. (rw (e y, bytes_eq-symmetric x y) (fewer_at (bytes_eq y x) (has y (shown xs)) n (counter_in m y) (λ b. ap (counter_in m) (same_text y x b) ∙ c) (λ b. ap (λ (t : Text). has t (shown xs)) (same_text y x b) ∙ h))))
-
--- an element that is counted once
-last_at : (b h : Bool) (n m : ℕ) → (b ≡ true → n ≡ m) → leb m 1 ≡ true → (if not b && h then n else 0) ≡ (if h then n else 0) - (if b then 1 else 0)
-last_at true true n m e l = let f : n ≡ m = e refl in grind (arith, nat_tests)
-last_at true false n m e l = refl
-last_at false h n m e l = omega arith
-
-pub drop-last : {S : Type 0} (xs ys : List (Bor Text)) (m : IndexMap (Bor Text) ℕ S) (x : Text) → has x (shown xs) ≡ true → leb (unwrap_or (counter_in m x) 1) 1 ≡ true
-    → shown ys ≡ without x (shown xs) → seen ys m ≡ drop (seen xs m) x
-drop-last xs ys m x h one e = same_state _ _
-    (rw (h, one) e)
-    (λ y. (rw (e, has-without (shown xs) x y)
-    (last_at (bytes_eq y x) (has y (shown xs)) (unwrap_or (counter_in m y) 1) (unwrap_or (counter_in m x) 1) (λ b. ap (λ (t : Text). unwrap_or (counter_in m t) 1) (same_text y x b)) one)))
-
-map_cond : (b : Bool) (z : Bor Text) (zs : List (Bor Text)) → shown (cond b (z ∷ zs) zs) ≡ cond b (z.now ∷ shown zs) (shown zs)
-map_cond true z zs = refl
-map_cond false z zs = refl
-
-pub shown-filter : (x : Text) (xs : List (Bor Text)) → shown (filter (λ y. not (bytes_eq y.now x)) xs) ≡ without x (shown xs)
-shown-filter x [] = refl
-shown-filter x (z ∷ zs) = map_cond (not (bytes_eq z.now x)) z _ ∙ ap (λ (l : List Text). cond (not (bytes_eq z.now x)) (z.now ∷ l) l) (shown-filter x zs)
-
 pub none_copied : (o : Option (Bor ℕ)) (b : Bool) → is_some o ≡ not b → b ≡ true → option_copied o ≡ None
 none_copied None b e h = refl
 none_copied (Some x) b e h = cc
@@ -104,20 +62,10 @@ pub has-shown : (x : Text) (xs : List (Bor Text)) → list_any (λ y. bytes_eq y
 has-shown x [] = refl
 has-shown x (y ∷ ys) = ap (λ (b : Bool). b || list_any (λ z. bytes_eq z.now x) ys) (bytes_eq-symmetric y.now x) ∙ ap (λ (b : Bool). bytes_eq x y.now || b) (has-shown x ys)
 
-pub some_from : (o : Option ℕ) (s n : ℕ) → Some s ≡ o → n ≡ unwrap_or o 1 → o ≡ Some n
-some_from (Some k) s n e h = ap Some (sym h)
-some_from None s n e h = cc
-
 pub or_left_over : (o : Option ℕ) (x : Text) (xs : List (Bor Text)) → length xs < 2 → option_or o (counted x (paired (shown xs))) ≡ o
 or_left_over o x [] h = sym (or_none o)
 or_left_over o x (y ∷ []) h = sym (or_none o)
 or_left_over o x (y ∷ z ∷ zs) h = absurd (omega arith)
-
-pub at_most_one : (n m : ℕ) → n ≡ m → n ≤ 1 → leb m 1 ≡ true
-at_most_one n m e h = grind (arith, nat_tests)
-
-pub more_than_one : (n : ℕ) → 1 < n → leb n 1 ≡ false
-more_than_one n h = grind (arith, nat_tests)
 
 take_whole : {A : Type 0} (xs : List A) (n : ℕ) → length xs ≤ n → take n xs ≡ xs
 take_whole xs n h = take_all n xs h
@@ -137,11 +85,9 @@ shown-push : (xs : List (Bor Text)) (x : Bor Text) → shown (xs ++ x ∷ []) �
 shown-push [] x = refl
 shown-push (y ∷ ys) x = ap (λ (l : List Text). y.now ∷ l) (shown-push ys x)
 
-pub new-absent : (xs ys : List (Bor Text)) (x : Bor Text) → has x.now (shown xs) ≡ false → ys ≡ xs ++ x ∷ [] → shown ys ≡ with_new (shown xs) x.now
-new-absent xs ys x h e = rw (e, h) (shown-push xs x)
-
-pub new-present : (xs : List Text) (x : Text) → has x xs ≡ true → xs ≡ with_new xs x
-new-present xs x h = rw h refl
+-- an element is put at the end unless it is there
+abbrev with_new : List Text → Text → List Text
+with_new xs x = if has x xs then xs else xs ++ x ∷ []
 
 -- one more element is looked at
 filter_twice_at : (a b : Bool) (f : Text) (ws vs : List Text) (p : Text → Bool) → p f ≡ not b → filter p ws ≡ vs → filter p (cond (not a) (f ∷ ws) ws) ≡ cond (not (a || b)) (f ∷ vs) vs
@@ -192,18 +138,14 @@ pub pair_given : {A E : Type 0} (r : Result (String A) E) (given : Option (Strin
 pair_given (Ok s) given text x d bs e shape h = λ fs k. text-pair (string_bytes s) (string_bytes text) fs x d (ap (option_map string_bytes) (sym e) ∙ k) (h ∙ shape)
 pair_given (Err s) given text x d bs e shape h = h
 
--- the elements and the counters that were read are the state
-pub seen-state_of : {S : Type 0} (t u : Option Text) (xs fields : List (Bor Text)) (m : IndexMap (Bor Text) ℕ S)
-    → paired (shown fields) ≡ pairs_of u → ((x : Text) → counter_in m x ≡ counted x (paired (shown fields)))
-    → ((pairs : List (Text × Text)) → ((x : Text) → counter_in m x ≡ counted x pairs) → shown xs ≡ elements_of t pairs) → seen xs m ≡ state_of t u
-seen-state_of t u xs fields m e c h =
-    let els : shown xs ≡ elements_of t (pairs_of u) = h (pairs_of u) (λ x. c x ∙ ap (counted x) e) in
-    same_state _ _ els (λ x. rw (els, c x, e) refl)
+inserted : (ks : List (Bor Text)) (x : Bor Text) (t : Bool) → has x.now (shown ks) ≡ t → shown (cond t ks (ks ++ x ∷ [])) ≡ with_new (shown ks) x.now
+inserted ks x true h = rw h refl
+inserted ks x false h = rw h (shown-push ks x)
 
-pub same_dropped : (s r t : PathState) (x : Text) → s ≡ drop r x → r ≡ t → s ≡ drop t x
-same_dropped s r t x e f = e ∙ ap (λ (q : PathState). drop q x) f
+has_key : (x : Bor Text) (ks : List (Bor Text)) → list_any (λ k. bytes_eq x.now k.now) ks ≡ has x.now (shown ks)
+has_key x [] = refl
+has_key x (k ∷ ks) = ap (λ (b : Bool). bytes_eq x.now k.now || b) (has_key x ks)
 
--- where counters are written there is an element
-pub some_fields : (xs : List Text) (s : PathState) → IsSome (text_of (counter_fields s (filter (λ x. leb 2 (s.counter x) || is_lone_empty xs) (firsts xs)))) → IsSome (text_of xs)
-some_fields [] s h = h
-some_fields (x ∷ xs) s h = refl
+-- the keys of a set, after one is inserted
+pub shown-insert_key : (ks ms : List (Bor Text)) (x : Bor Text) → ms ≡ insert_key (λ y z. bytes_eq y.now z.now) ks x → shown ms ≡ with_new (shown ks) x.now
+shown-insert_key ks ms x e = ap shown (e ∙ ap (λ (t : Bool). cond t ks (ks ++ x ∷ [])) (has_key x ks)) ∙ inserted ks x (has x.now (shown ks)) refl

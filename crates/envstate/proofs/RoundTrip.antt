@@ -1,10 +1,9 @@
 -- A state is read as it was written.
-use Rattle.std.proofs.Common.{◌≡◌, ℕ, ◌+◌, ◌-◌, ◌*◌, ◌/◌, ◌%◌, ◌^◌, ◌<◌, ◌≤◌, Bool, true, false, cond, not, ◌||◌, ◌&&◌, List, [], ◌∷◌, ◌++◌, map, refl, sym, ap, ◌∙◌, arith, ltb, leb, eqb, Option, Some, None, get_or, Bor, Result, Ok, Err, string_bytes}
+use Rattle.std.proofs.Common.{◌≡◌, ℕ, ◌+◌, ◌-◌, ◌*◌, ◌/◌, ◌%◌, ◌^◌, ◌<◌, ◌≤◌, Bool, true, false, cond, not, ◌||◌, ◌&&◌, List, [], ◌∷◌, ◌++◌, map, refl, sym, ap, ◌∙◌, arith, ltb, leb, eqb, Option, Some, None, get_or, Result, Ok, Err, string_bytes}
 use Rattle.std.specs.Prelude.{filter, flat_map, bytes_eq, unwrap_or, is_some, decimal, if◌then◌else◌}
 use Rattle.std.specs.Option.{option_or, option_and_then, option_map}
 use Rattle.std.specs.Result.{IfOk}
 use Rattle.std.specs.declared.string.String.{String}
-use Rattle.indexmap.specs.IndexMap.{IndexMap}
 use Rattle.std.specs.List.{list_any, onto_first, AllByRecursion}
 use Rattle.std.proofs.Math.ListN.{length}
 use Rattle.std.proofs.lemmas.Bool.Decides.{nat_tests}
@@ -13,9 +12,9 @@ use Rattle.std.proofs.lemmas.Map.Views.{any-filter_same}
 use Rattle.std.proofs.lemmas.Fmt.{decimal_by_steps, decimal_nonempty, first_decimal}
 use Rattle.envstate.specs.Texts.{Text, has}
 use Rattle.envstate.specs.Paths.{PathState}
-use Rattle.envstate.specs.PathTexts.{fields, joined, paired, most, number_from, counter_of, counted, pairs_of, elements_of, state_of, text_of, firsts, is_lone_empty, written, counter_fields, pairs_text, IsPlain, IsWritable, seen, pair_fields, count_in}
-use Rattle.envstate.specs.Texts.{shown}
-use Rattle.envstate.proofs.TextLemmas.{same_text, bytes_eq-same, has-without}
+use Rattle.envstate.specs.PathTexts.{fields, joined, paired, most, number_from, counter_of, counted, pairs_of, elements_of, state_of, text_of, firsts, is_lone_empty, written, counter_fields, pairs_text, IsPlain, IsWritable, pair_fields}
+use Rattle.envstate.specs.Tables.{Table, count_in, stated}
+use Rattle.envstate.proofs.TextLemmas.{same_text, has-without}
 use Rattle.envstate.proofs.PathLemmas.{same_state}
 use Rattle.envstate.proofs.PathTextLemmas.{or_left, or_right}
 
@@ -189,26 +188,17 @@ state_of-written s w =
     found_empty _ (s.counter []) (has [] s.elements) (leb 2 (s.counter [])) (is_lone_empty s.elements) (found [] l) lone there) in
     same_state _ _ (rw pairs elements) (λ x. rw (pairs, elements) (again (has x s.elements) (leb 2 (s.counter x)) (is_lone_empty s.elements) (s.counter x) (counted x (map (pair_of s) (written s))) (w.valid x) refl (found x)))
 
-or_true : (b : Bool) → (b || true) ≡ true
-or_true true = refl
-or_true false = refl
-
-members : (P : Text → Type 0) (xs : List Text) → ((x : Text) → has x xs ≡ true → P x) → AllByRecursion P xs
-members P [] h = tt
-members P (x ∷ xs) h = (h x (rw (bytes_eq-same x) refl), members P xs (λ y e. h y (rw e (or_true (bytes_eq y x)))))
-
 one_written : (b : Bool) (x d : Text) (s : PathState) (ws : List Text) (rest : List Text) → d ≡ decimal (s.counter x) → rest ≡ counter_fields s ws → (if b then x ∷ d ∷ [] else []) ++ rest ≡ counter_fields s (cond b (x ∷ ws) ws)
 one_written true x d s ws rest e h = rw (e, h) refl
 one_written false x d s ws rest e h = h
 
-counts_written : {S : Type 0} (xs : List (Bor Text)) (m : IndexMap (Bor Text) ℕ S) (lone : Bool) (fs : List Text) → AllByRecursion (λ x. has x (shown xs) ≡ true) fs
-    → flat_map (pair_fields (count_in m) lone) fs ≡ counter_fields (seen xs m) (filter (λ x. leb 2 ((seen xs m).counter x) || lone) fs)
-counts_written xs m lone [] h = refl
-counts_written xs m lone (f ∷ fs) h =
-    rw h.0 (one_written (leb 2 (count_in m f) || lone) f (decimal (count_in m f)) (seen xs m) _ _ (rw h.0 refl) (counts_written xs m lone fs h.1))
+pub counts_written : (xs : List Text) (table : Table) (lone : Bool) (fs : List Text)
+    → flat_map (pair_fields (count_in table) lone) fs ≡ counter_fields (stated xs table) (filter (λ x. leb 2 (count_in table x) || lone) fs)
+counts_written xs table lone [] = refl
+counts_written xs table lone (f ∷ fs) =
+    one_written (leb 2 (count_in table f) || lone) f (decimal (count_in table f)) (stated xs table) _ _ refl (counts_written xs table lone fs)
 
-pub pairs_written : {A E S : Type 0} (r : Result (Option (String A)) E) (xs : List (Bor Text)) (m : IndexMap (Bor Text) ℕ S) (lone : Bool) (once : List Text) → lone ≡ is_lone_empty (shown xs) → once ≡ firsts (shown xs)
-    → IfOk r (λ t. option_map string_bytes t ≡ text_of (flat_map (pair_fields (count_in m) lone) once)) → IfOk r (λ t. option_map string_bytes t ≡ pairs_text (seen xs m))
-pairs_written (Ok t) xs m lone once l e h =
-    h ∙ ap text_of (rw (l, e) (counts_written xs m (is_lone_empty (shown xs)) (firsts (shown xs)) (members (λ x. has x (shown xs) ≡ true) (firsts (shown xs)) (λ x q. sym (has-firsts x (shown xs)) ∙ q))))
-pairs_written (Err x) xs m lone once l e h = h
+pub pairs_written : {A E : Type 0} (r : Result (Option (String A)) E) (xs : List Text) (table : Table) (lone : Bool) (once : List Text) → lone ≡ is_lone_empty xs → once ≡ firsts xs
+    → IfOk r (λ t. option_map string_bytes t ≡ text_of (flat_map (pair_fields (count_in table) lone) once)) → IfOk r (λ t. option_map string_bytes t ≡ pairs_text (stated xs table))
+pairs_written (Ok t) xs table lone once l e h = h ∙ ap text_of ((rw (l, e) refl) ∙ counts_written xs table (is_lone_empty xs) (firsts xs))
+pairs_written (Err x) xs table lone once l e h = h

@@ -5,11 +5,7 @@ pub mod Refused
 pub mod Names
 pub mod Paths
 pub mod PathTexts
+pub mod Tables
 pub mod PathVariables
 pub mod PathRuns
-pub mod LoadedTexts
-pub mod Loaded
-pub mod Stacks
-pub mod StackTexts
-pub mod StackVariables
-pub mod StackRuns
+pub mod PathEdits

@@ -1,10 +1,8 @@
 -- The two texts of a path variable: what state they say, and which texts a state is written as.
-use Rattle.std.specs.Prelude.{◌≡◌, ℕ, ◌+◌, ◌-◌, ◌*◌, Bool, false, ◌&&◌, ◌||◌, List, [], ◌∷◌, ◌++◌, length, filter, flat_map, bytes_eq, nat_le, ◌==◌, if◌then◌else◌, Option, Some, None, is_some, unwrap_or, decimal}
+use Rattle.std.specs.Prelude.{◌≡◌, ℕ, ◌+◌, ◌-◌, ◌*◌, Bool, false, ◌&&◌, ◌||◌, List, [], ◌∷◌, length, filter, flat_map, bytes_eq, nat_le, ◌==◌, if◌then◌else◌, Option, Some, None, is_some, unwrap_or, decimal}
 use Rattle.std.specs.List.{slice_split, join_with_byte, list_any, AllByRecursion}
 use Rattle.std.specs.Option.{option_or}
-use Rattle.std.specs.Borrow.{Bor}
-use Rattle.indexmap.specs.IndexMap.{IndexMap, get_by}
-use Rattle.envstate.specs.Texts.{Text, has, shown}
+use Rattle.envstate.specs.Texts.{Text, has}
 use Rattle.envstate.specs.Paths.{PathState, IsPathState, CountersFit, without}
 
 -- between fields stands a colon
@@ -88,10 +86,6 @@ pairs_text s = text_of (counter_fields s (written s))
 abbrev pub after_colons : List Text → Text
 after_colons xs = flat_map (λ x. colon ∷ x) xs
 
--- an element is put at the end unless it is there
-abbrev pub with_new : List Text → Text → List Text
-with_new xs x = if has x xs then xs else xs ++ x ∷ []
-
 -- a text without a colon
 abbrev pub IsPlain : Text → Type 0
 IsPlain x = list_any (λ b. b == colon) x ≡ false
@@ -101,18 +95,6 @@ pub record IsWritable (s : PathState) : Type 0 where
   pub valid : IsPathState s
   pub fit : CountersFit s
   pub plain : AllByRecursion IsPlain s.elements
-
--- what a table of counters has for an element
-abbrev pub counter_in : {S : Type 0} → IndexMap (Bor Text) ℕ S → Text → Option ℕ
-counter_in m x = get_by (λ k. bytes_eq x k.now) m
-
--- the state that a list of elements and a table of counters stand for
-abbrev pub seen : {S : Type 0} → List (Bor Text) → IndexMap (Bor Text) ℕ S → PathState
-seen xs m = record { elements = shown xs; counter = λ x. if has x (shown xs) then unwrap_or (counter_in m x) 1 else 0 }
-
--- the counter of an element that is in the list
-abbrev pub count_in : {S : Type 0} → IndexMap (Bor Text) ℕ S → Text → ℕ
-count_in m x = unwrap_or (counter_in m x) 1
 
 -- the pair of one element, where its counter is written
 abbrev pub pair_fields : (Text → ℕ) → Bool → Text → List Text

@@ -1,0 +1,13 @@
+use Rattle.std.proofs.Common.{ap}
+use Rattle.envstate.specs.Texts.{shown}
+use Rattle.envstate.specs.PathTexts.{firsts}
+use Rattle.envstate.proofs.PathTextLemmas.{firsts-start, firsts-turn, shown-insert_key}
+use Rattle.envstate.proofs.path_texts.firsts.Goals as goal
+
+pub loop-rest-init : goal.loop-rest-init
+loop-rest-init c = firsts-start _ (firsts (shown c.args.elements.now)) (ap shown c.new-once.ensures.empty)
+
+pub loop-rest-preserved : goal.loop-rest-preserved
+loop-rest-preserved c =
+    firsts-turn (shown c.loop-rest.once.keys) (shown c.insert.new.self.keys) (firsts (shown c.args.elements.now)) c.loop-rest.rest.now _ c.in-len1-up.len_at_least
+    (shown-insert_key c.loop-rest.once.keys c.insert.new.self.keys _ c.in_ok-insert.ensures.keys) c.loop-rest.invariant
