@@ -4,11 +4,10 @@ use Rattle.std.proofs.Common.{drop as cut}
 use Rattle.std.specs.Prelude.{flat_map, bytes_eq}
 use Rattle.std.proofs.lemmas.Bool.Decides.{nat_tests}
 use Rattle.std.specs.List.{join_with_byte, list_any}
-use Rattle.indexmap.specs.IndexSet.{insert_key}
 use Rattle.envstate.specs.Texts.{Text, has, shown}
 use Rattle.envstate.specs.Paths.{without}
 use Rattle.envstate.specs.Changes.{are_distinct}
-use Rattle.envstate.specs.PathTexts.{firsts, with_new}
+use Rattle.envstate.specs.PathTexts.{firsts}
 use Rattle.envstate.proofs.TextLemmas.{has-without, bytes_eq-symmetric}
 use Rattle.envstate.proofs.PathTextLemmas.{or_left, or_right}
 
@@ -34,22 +33,6 @@ join-turn c text d [] all l e = absurd (omega arith)
 join-turn c text d (x ∷ xs) all l e =
     let w : take (length (x ∷ xs) - 1) xs ≡ xs = take_all _ xs (omega arith) in
     rw w (append_assoc (text ++ c ∷ []) x.now (after_separators c (shown xs)) ∙ append_assoc text (c ∷ []) (x.now ++ after_separators c (shown xs)) ∙ e)
-
-pub any-shown : (x : Text) (ks : List (Bor Text)) → list_any (λ y. bytes_eq x y.now) ks ≡ has x (shown ks)
-any-shown x [] = refl
-any-shown x (k ∷ ks) = ap (λ (b : Bool). bytes_eq x k.now || b) (any-shown x ks)
-
-shown-append : (xs ys : List (Bor Text)) → shown (xs ++ ys) ≡ shown xs ++ shown ys
-shown-append [] ys = refl
-shown-append (x ∷ xs) ys = ap (λ (l : List Text). x.now ∷ l) (shown-append xs ys)
-
-inserted_at : (b : Bool) (ks : List (Bor Text)) (k : Bor Text) → shown (cond b ks (ks ++ k ∷ [])) ≡ cond b (shown ks) (shown ks ++ k.now ∷ [])
-inserted_at true ks k = refl
-inserted_at false ks k = shown-append ks (k ∷ [])
-
--- a set that a text is put into
-pub shown-insert : (ks : List (Bor Text)) (k : Bor Text) → shown (insert_key (λ x y. bytes_eq x.now y.now) ks k) ≡ with_new (shown ks) k.now
-shown-insert ks k = inserted_at (list_any (λ y. bytes_eq k.now y.now) ks) ks k ∙ ap (λ (b : Bool). cond b (shown ks) (shown ks ++ k.now ∷ [])) (any-shown k.now ks)
 
 -- each once, and those that stand once
 has-drop_at : (b c d : Bool) (x y : Text) → bytes_eq x y ≡ d → (d ≡ true → b ≡ c) → (d ≡ false → b ≡ (not d && c)) → (d || (not d && b)) ≡ (d || c)

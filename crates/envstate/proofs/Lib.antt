@@ -8,3 +8,8 @@ pub mod ChangeLemmas
 pub mod Examples
 pub mod PathSteps
 pub mod PathEditLemmas
+pub mod FieldLemmas
+pub mod LoadedReading
+pub mod LoadedWriting
+pub mod LoadedExamples
+pub mod StackLemmas

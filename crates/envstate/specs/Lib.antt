@@ -9,3 +9,9 @@ pub mod Tables
 pub mod PathVariables
 pub mod PathRuns
 pub mod PathEdits
+pub mod LoadedTexts
+pub mod Loaded
+pub mod Stacks
+pub mod StackTexts
+pub mod StackVariables
+pub mod StackRuns

@@ -3,15 +3,25 @@
 #![tactic(auto)]
 
 mod difference;
+mod entry;
 mod env;
 mod fault;
+mod fields;
 pub mod laws;
+mod loaded_edits;
+mod loaded_list;
 mod names;
 mod path_texts;
 mod paths;
+pub mod stack_laws;
+mod stacks;
 
 pub use difference::{Change, changes};
+pub use entry::Loaded;
 pub use env::Env;
 pub use fault::EnvFault;
+pub use loaded_edits::{add_loaded, drop_loaded};
+pub use loaded_list::{conflicts_of, loaded, prereqs_of};
 pub use names::{is_protected, is_variable_name};
 pub use paths::{End, add_path, drop_path};
+pub use stacks::{pop_value, push_value};

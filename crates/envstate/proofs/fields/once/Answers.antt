@@ -1,8 +1,7 @@
-use Rattle.std.proofs.Common.{ap, ◌∙◌}
+use Rattle.std.proofs.Common.{ap}
 use Rattle.envstate.specs.Texts.{shown}
 use Rattle.envstate.specs.PathTexts.{firsts}
-use Rattle.envstate.proofs.PathTextLemmas.{firsts-start, firsts-turn}
-use Rattle.envstate.proofs.FieldLemmas.{shown-insert}
+use Rattle.envstate.proofs.PathTextLemmas.{firsts-start, firsts-turn, shown-insert_key}
 use Rattle.envstate.proofs.fields.once.Goals as goal
 
 pub loop-rest-init : goal.loop-rest-init
@@ -11,4 +10,4 @@ loop-rest-init c = firsts-start _ (firsts (shown c.args.texts.now)) (ap shown c.
 pub loop-rest-preserved : goal.loop-rest-preserved
 loop-rest-preserved c =
     firsts-turn (shown c.loop-rest.done.keys) (shown c.insert.new.self.keys) (firsts (shown c.args.texts.now)) c.loop-rest.rest.now _ c.in-len1-up.len_at_least
-    (ap shown c.in_ok-insert.ensures.keys ∙ shown-insert c.loop-rest.done.keys _) c.loop-rest.invariant
+    (shown-insert_key c.loop-rest.done.keys c.insert.new.self.keys _ c.in_ok-insert.ensures.keys) c.loop-rest.invariant
