@@ -13,3 +13,4 @@ pub mod LoadedReading
 pub mod LoadedWriting
 pub mod LoadedExamples
 pub mod StackLemmas
+pub mod StackReading

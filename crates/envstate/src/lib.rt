@@ -14,6 +14,7 @@ mod names;
 mod path_texts;
 mod paths;
 pub mod stack_laws;
+mod stack_texts;
 mod stacks;
 
 pub use difference::{Change, changes};
