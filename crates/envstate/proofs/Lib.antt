@@ -14,3 +14,4 @@ pub mod LoadedWriting
 pub mod LoadedExamples
 pub mod StackLemmas
 pub mod StackReading
+pub mod StackEdits
