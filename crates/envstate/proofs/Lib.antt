@@ -8,3 +8,4 @@ pub mod ChangeLemmas
 pub mod Examples
 pub mod PathSteps
 pub mod PathEditLemmas
+pub mod PathOrderLemmas

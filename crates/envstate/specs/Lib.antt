@@ -9,3 +9,4 @@ pub mod Tables
 pub mod PathVariables
 pub mod PathRuns
 pub mod PathEdits
+pub mod PathOrder

@@ -15,3 +15,6 @@ pub use env::Env;
 pub use fault::EnvFault;
 pub use names::{is_protected, is_variable_name};
 pub use paths::{End, add_path, drop_path};
+
+#[cfg(test)]
+mod tests;
