@@ -121,11 +121,19 @@ fn counters(rt: HostRuntime) -> Result<(), Fail> {
     Ok(())
 }
 
+/// The number of the refusal, or 0.
+fn refusal(edited: &Result<(), EnvFault>) -> u16 {
+    match edited {
+        Ok(_) => 0,
+        Err(fault) => fault.number(),
+    }
+}
+
 #[test]
 fn refusals(rt: HostRuntime) {
     let alloc = rt.alloc();
     let mut env = Env::new(alloc);
-    for (name, element, number) in [
+    for (name, element, want) in [
         ("1P", "a:b", 32),
         ("", "a", 32),
         ("LOADEDMODULES", "a:b", 33),
@@ -134,11 +142,8 @@ fn refusals(rt: HostRuntime) {
         ("P", "a:b", 37),
         ("P", "a\0b", 37),
     ] {
-        let added = add_path(alloc, &mut env, name, &[element], End::Front);
-        assert!(rt;
-            matches!(added, Err(fault) if fault.number() == number),
-            "at {name}"
-        );
+        let number = refusal(&add_path(alloc, &mut env, name, &[element], End::Front));
+        assert_eq!(rt; number, want, "at {name}");
     }
 }
 
