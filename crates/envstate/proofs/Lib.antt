@@ -8,6 +8,7 @@ pub mod ChangeLemmas
 pub mod Examples
 pub mod PathSteps
 pub mod PathEditLemmas
+pub mod PathOrderLemmas
 pub mod FieldLemmas
 pub mod LoadedReading
 pub mod LoadedWriting
@@ -15,3 +16,4 @@ pub mod LoadedExamples
 pub mod StackLemmas
 pub mod StackReading
 pub mod StackEdits
+pub mod StackAgain

@@ -33,17 +33,17 @@ plain_char c h k l =
 pub special_small : (c : ℕ) → is_special c ≡ true → c < 128
 special_small c h = grind (arith, nat_tests)
 
-plain_element : (c : ℕ) (t : Text) → is_special c ≡ false → stack_elements (c ∷ t) ≡ onto_first c (stack_elements t)
+pub plain_element : (c : ℕ) (t : Text) → is_special c ≡ false → stack_elements (c ∷ t) ≡ onto_first c (stack_elements t)
 plain_element c [] h = rw (or_right (nat_eq c 92) (nat_eq c 58) h) refl
 plain_element c (k ∷ t) h = rw (or_right (nat_eq c 92) (nat_eq c 58) h, or_left (nat_eq c 92) (nat_eq c 58) h) refl
 
-special_element : (c : ℕ) (t : Text) → is_special c ≡ true → stack_elements (92 ∷ c ∷ t) ≡ onto_first c (stack_elements t)
+pub special_element : (c : ℕ) (t : Text) → is_special c ≡ true → stack_elements (92 ∷ c ∷ t) ≡ onto_first c (stack_elements t)
 special_element c t h = rw h refl
 
 other_element : (c : ℕ) (t : Text) → is_special c ≡ false → stack_elements (92 ∷ c ∷ t) ≡ onto_first 92 (stack_elements (c ∷ t))
 other_element c t h = rw h refl
 
-colon_element : (t : Text) → stack_elements (58 ∷ t) ≡ [] ∷ stack_elements t
+pub colon_element : (t : Text) → stack_elements (58 ∷ t) ≡ [] ∷ stack_elements t
 colon_element [] = refl
 colon_element (k ∷ t) = refl
 
