@@ -8,8 +8,12 @@ pub mod ChangeLemmas
 pub mod Examples
 pub mod PathSteps
 pub mod PathEditLemmas
+pub mod PathOrderLemmas
 pub mod FieldLemmas
 pub mod LoadedReading
 pub mod LoadedWriting
 pub mod LoadedExamples
 pub mod StackLemmas
+pub mod StackReading
+pub mod StackEdits
+pub mod StackAgain

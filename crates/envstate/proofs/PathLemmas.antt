@@ -179,3 +179,32 @@ Stands-restored start now count k none =
     same_state now start
     (sym (filter_itself start.elements now.elements (λ y e. or_nothing _ _ (count y) (k.inside y) (none y) e)) ∙ k.order)
     (λ x. let a : now.counter x ≡ start.counter x + count x = k.counters x in let b : count x ≡ 0 = none x in omega arith)
+
+-- the law step by step
+
+valid_from : (h g : Bool) (n m k : ℕ) → h ≡ (g || ltb 0 k) → g ≡ ltb 0 m → n ≡ m + k → h ≡ ltb 0 n
+valid_from h g n m k e f s = grind (arith, nat_tests)
+
+kept_from : (start now : PathState) (live : Text → ℕ) → IsPathState start → Stands start live now → Kept start live now
+kept_from start now live is s = record {
+  valid = λ x. valid_from _ _ _ _ _ (s.inside x) (is x) (s.counters x);
+  order = s.order;
+  counters = s.counters;
+}
+
+stands_from : (start now : PathState) (live : Text → ℕ) → IsPathState start → Kept start live now → Stands start live now
+stands_from start now live is k = record {
+  order = k.order;
+  inside = λ x. either_test _ _ _ _ _ (k.valid x) (is x) (k.counters x);
+  counters = k.counters;
+}
+
+pub Stands-start : (start : PathState) → IsPathState start → Stands start (λ _. 0) start
+Stands-start start is = stands_from start start (λ _. 0) is (nothing_live start is)
+
+pub Stands-add_all : (start now : PathState) (live : Text → ℕ) (xs : List Text) (end : End) → IsPathState start → Stands start live now → Stands start (λ x. live x + count_by (bytes_eq x) xs) (add_all now xs end)
+Stands-add_all start now live xs end is s = stands_from start (add_all now xs end) _ is (kept_add_all start live now xs end is (kept_from start now live is s))
+
+pub Stands-drop_all : (start now : PathState) (live : Text → ℕ) (xs : List Text) → IsPathState start → Stands start live now → ((x : Text) → count_by (bytes_eq x) xs ≤ live x)
+    → Stands start (λ x. live x - count_by (bytes_eq x) xs) (drop_all now xs)
+Stands-drop_all start now live xs is s h = stands_from start (drop_all now xs) _ is (kept_drop_all start live now xs is (kept_from start now live is s) h)

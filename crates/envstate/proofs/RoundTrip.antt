@@ -118,7 +118,7 @@ kept_one : (b : Bool) (x : Text) (xs : List Text) → IsPlain x → AllByRecursi
 kept_one true x xs h k = (h, k)
 kept_one false x xs h k = k
 
-plain_filter : (p : Text → Bool) (xs : List Text) → AllByRecursion IsPlain xs → AllByRecursion IsPlain (filter p xs)
+pub plain_filter : (p : Text → Bool) (xs : List Text) → AllByRecursion IsPlain xs → AllByRecursion IsPlain (filter p xs)
 plain_filter p [] h = h
 plain_filter p (x ∷ xs) h = kept_one (p x) x (filter p xs) h.0 (plain_filter p xs h.1)
 

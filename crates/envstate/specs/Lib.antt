@@ -9,6 +9,7 @@ pub mod Tables
 pub mod PathVariables
 pub mod PathRuns
 pub mod PathEdits
+pub mod PathOrder
 pub mod LoadedTexts
 pub mod Loaded
 pub mod Stacks

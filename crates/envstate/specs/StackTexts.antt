@@ -1,11 +1,16 @@
 -- The text of a stack: elements `module&value`, newest first, joined by colons, with escapes.
-use Rattle.std.specs.Prelude.{ℕ, Bool, true, false, not, ◌&&◌, ◌||◌, ◌==◌, List, [], ◌∷◌, ◌++◌, map, if◌then◌else◌, Option, Some, None}
+use Rattle.std.specs.Prelude.{ℕ, Bool, true, false, not, ◌&&◌, ◌||◌, ◌==◌, List, [], ◌∷◌, ◌++◌, map, string_bytes, if◌then◌else◌, Option, Some, None}
 use Rattle.std.specs.List.{onto_first, list_all, list_any}
 use Rattle.std.specs.Option.{option_map, option_and_then}
+use Rattle.std.specs.declared.vec.Vec.{Vec}
+use Rattle.std.specs.declared.alloc.Global.{Global}
+use Rattle.envstate.specs.declared.stack_texts.StackItem.{StackItem}
+use Rattle.envstate.specs.declared.stack_texts.Reading.{Reading}
 use Rattle.envstate.specs.Texts.{Text}
+use Rattle.envstate.specs.Changes.{are_distinct}
 use Rattle.envstate.specs.PathTexts.{colon, text_of}
 use Rattle.envstate.specs.LoadedTexts.{ampersand}
-use Rattle.envstate.specs.Stacks.{Item, holds}
+use Rattle.envstate.specs.Stacks.{Item, has_owner}
 
 abbrev pub backslash : ℕ
 backslash = 92
@@ -48,12 +53,23 @@ abbrev pub items_of_elements : List Text → Option (List Item)
 items_of_elements [] = Some []
 items_of_elements (element ∷ elements) = option_and_then (λ item. option_map (λ items. item ∷ items) (items_of_elements elements)) (item_of element)
 
--- a bottom stands last, and no owner has two elements
+abbrev pub is_nothing : List Item → Bool
+is_nothing [] = true
+is_nothing (item ∷ items) = false
+
+-- an item without an owner stands last
+abbrev pub bottoms_last : List Item → Bool
+bottoms_last [] = true
+bottoms_last (item ∷ items) = (has_owner item.0 || is_nothing items) && bottoms_last items
+
+abbrev pub owners_of : List Item → List Text
+owners_of [] = []
+owners_of ((None, value) ∷ items) = owners_of items
+owners_of ((Some owner, value) ∷ items) = owner ∷ owners_of items
+
+-- a bottom stands last, and no owner has two items
 abbrev pub is_stack : List Item → Bool
-is_stack [] = true
-is_stack ((None, value) ∷ []) = true
-is_stack ((None, value) ∷ item ∷ items) = false
-is_stack ((Some owner, value) ∷ items) = not (holds owner items) && is_stack items
+is_stack items = bottoms_last items && are_distinct (owners_of items)
 
 abbrev pub only_stack : List Item → Option (List Item)
 only_stack items = if is_stack items then Some items else None
@@ -63,9 +79,12 @@ abbrev pub items_in : Option Text → Option (List Item)
 items_in None = Some []
 items_in (Some t) = option_and_then only_stack (items_of_elements (stack_elements t))
 
+abbrev pub owner_text : Option Text → Text
+owner_text None = []
+owner_text (Some owner) = owner
+
 abbrev pub element_text : Item → Text
-element_text (None, value) = ampersand ∷ value
-element_text (Some owner, value) = owner ++ ampersand ∷ value
+element_text item = owner_text item.0 ++ ampersand ∷ item.1
 
 -- no item unsets the variable
 abbrev pub stack_text : List Item → Option Text
@@ -80,3 +99,21 @@ can_own (Some (c ∷ cs)) = not (list_any (λ b. b == ampersand) (c ∷ cs))
 -- what a text can say
 abbrev pub is_writable_stack : List Item → Bool
 is_writable_stack items = is_stack items && list_all (λ item. can_own item.0) items
+
+-- what has been read of a text: the elements that have ended, the one that has begun, and whether a backslash was last
+abbrev pub begun : Text → List Text → List Text
+begun text [] = text ∷ []
+begun text (element ∷ elements) = (text ++ element) ∷ elements
+
+abbrev pub after_escape : Bool → Text → Text
+after_escape escapes rest = if escapes then backslash ∷ rest else rest
+
+-- the elements of a text, of which so much has been read, and this is left
+abbrev pub read_on : Reading → Text → List Text
+read_on reading rest = map string_bytes reading.elements.items ++ begun (string_bytes reading.element) (stack_elements (after_escape reading.escapes rest))
+
+abbrev pub item_in : StackItem → Item
+item_in item = (option_map string_bytes item.owner, string_bytes item.value)
+
+abbrev pub items_seen : Vec StackItem Global → List Item
+items_seen v = map item_in v.items

@@ -27,6 +27,9 @@ pub enum End {
     Back,
 }
 
+/// The counter of an element that leaves the list when it is dropped.
+const LAST: u64 = 1;
+
 fn is_element(text: &str) -> bool
     ensures { result ≡ is_element text.now }
 {
@@ -204,7 +207,7 @@ fn drop_one(counters: &mut Counters<'_>, element: &str)
     ensures { (x : Text) → counter_in counters.new x ≡ lowered (counter_in counters.old) element.now x }
 {
     let count = counters.get(element).copied().unwrap_or(0);
-    if count <= 1 {
+    if count <= LAST {
         let _ = counters.swap_remove(element);
         return;
     }

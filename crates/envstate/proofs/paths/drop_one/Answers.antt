@@ -3,13 +3,13 @@ use Rattle.std.specs.Prelude.{unwrap_or}
 use Rattle.envstate.proofs.PathSteps.{counter_dropped, counter_lowered}
 use Rattle.envstate.proofs.paths.drop_one.Goals as goal
 
-pub returns-then-count-le1 : goal.returns-then-count-le1
-returns-then-count-le1 c =
+pub returns-then-count-le-LAST : goal.returns-then-count-le-LAST
+returns-then-count-le-LAST c =
     counter_dropped c.args.counters.now c.swap_remove.new.self c.args.element.now c.unwrap_or-count.result
-    (c.unwrap_or-count.ensures ∙ ap (λ o. unwrap_or o 0) (c.copied.ensures ∙ c.get.ensures.value)) c.if-count-le1.true c.swap_remove.ensures.updates
+    (c.unwrap_or-count.ensures ∙ ap (λ o. unwrap_or o 0) (c.copied.ensures ∙ c.get.ensures.value)) c.if-count-le-LAST.true c.swap_remove.ensures.updates
 
 pub returns-in-Some : goal.returns-in-Some
 returns-in-Some c =
     counter_lowered c.args.counters.now (c.get_mut.follows.lender (c.unwrap_or-count.result - 1)) c.args.element.now c.unwrap_or-count.result
-    (c.unwrap_or-count.ensures ∙ ap (λ o. unwrap_or o 0) (c.copied.ensures ∙ c.get.ensures.value)) c.if-count-le1.false
+    (c.unwrap_or-count.ensures ∙ ap (λ o. unwrap_or o 0) (c.copied.ensures ∙ c.get.ensures.value)) c.if-count-le-LAST.false
     ((c.get_mut.follows.holds (c.unwrap_or-count.result - 1)).3 (search rules))

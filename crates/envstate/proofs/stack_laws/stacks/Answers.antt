@@ -1,6 +1,10 @@
-use Rattle.envstate.proofs.stack_laws.stacks.Goals as goal
+use Rattle.std.proofs.Common.{[], ap, ◌∙◌}
+use Rattle.envstate.specs.StackRuns.{standing}
 use Rattle.envstate.proofs.StackLemmas.{after-standing}
-use Rattle.std.proofs.Common.{[]}
+use Rattle.envstate.proofs.stack_laws.stacks.Goals as goal
 
-pub returns : goal.returns
-returns c = λ start edits h k. after-standing start [] edits h k
+pub returns-clause-stands : goal.returns-clause-stands
+returns-clause-stands c = λ start edits h k. after-standing start [] edits h k
+
+pub returns-clause-restored : goal.returns-clause-restored
+returns-clause-restored c = λ start edits h k none. after-standing start [] edits h k ∙ ap (standing start) none

@@ -1,0 +1,106 @@
+-- A stack that is written is read as it was.
+use Rattle.std.proofs.Common.{◌≡◌, ℕ, Bool, true, false, cond, not, ◌||◌, ◌&&◌, List, [], ◌∷◌, ◌++◌, refl, sym, ap, ◌∙◌, arith, length, nat_eq, Option, Some, None, map}
+use Rattle.std.specs.Prelude.{bytes_eq, if◌then◌else◌}
+use Rattle.std.specs.List.{onto_first, list_all, list_any}
+use Rattle.std.specs.Option.{option_map}
+use Rattle.std.proofs.lemmas.Bool.{false≢true}
+use Rattle.envstate.specs.Texts.{Text}
+use Rattle.envstate.specs.Names.{stack_name}
+use Rattle.envstate.specs.Environment.{Environment, lookup, with_value}
+use Rattle.envstate.specs.PathTexts.{text_of, joined}
+use Rattle.envstate.specs.Stacks.{Item, StackState}
+use Rattle.envstate.specs.StackTexts.{is_special, escaped, stack_elements, cut, owner_of, owner_text, item_of, items_of_elements, is_stack, only_stack, items_in, element_text, stack_text, can_own, is_writable_stack}
+use Rattle.envstate.specs.StackVariables.{stack_from, stack_in, with_stack}
+use Rattle.envstate.proofs.TextLemmas.{same_text, bytes_eq-same}
+use Rattle.envstate.proofs.EnvLemmas.{lookup-with_value}
+use Rattle.envstate.proofs.StackReading.{plain_element, special_element, colon_element}
+
+both_true : (a b : Bool) → (a && b) ≡ true → (a ≡ true) × (b ≡ true)
+both_true true true h = (refl, refl)
+both_true true false h = absurd (false≢true h)
+both_true false b h = absurd (false≢true h)
+
+-- one more character of an element
+escaped_step : (c : ℕ) (b : Bool) (t : Text) → is_special c ≡ b → stack_elements (cond b (92 ∷ c ∷ t) (c ∷ t)) ≡ onto_first c (stack_elements t)
+escaped_step c true t h = special_element c t h
+escaped_step c false t h = plain_element c t h
+
+cond-append : (b : Bool) (c : ℕ) (x t : Text) → cond b (92 ∷ c ∷ x) (c ∷ x) ++ t ≡ cond b (92 ∷ c ∷ (x ++ t)) (c ∷ (x ++ t))
+cond-append true c x t = refl
+cond-append false c x t = refl
+
+-- what follows an element: nothing, or a colon and the rest
+elements_last : (x : Text) → stack_elements (escaped x ++ []) ≡ x ∷ []
+elements_last [] = refl
+elements_last (c ∷ x) = ap stack_elements (cond-append (is_special c) c (escaped x) []) ∙ escaped_step c (is_special c) (escaped x ++ []) refl ∙ ap (onto_first c) (elements_last x)
+
+elements_more : (x t : Text) → stack_elements (escaped x ++ 58 ∷ t) ≡ x ∷ stack_elements t
+elements_more [] t = colon_element t
+elements_more (c ∷ x) t =
+    ap stack_elements (cond-append (is_special c) c (escaped x) (58 ∷ t)) ∙ escaped_step c (is_special c) (escaped x ++ 58 ∷ t) refl ∙ ap (onto_first c) (elements_more x t)
+
+append-nothing : (x : Text) → x ++ [] ≡ x
+append-nothing [] = refl
+append-nothing (c ∷ x) = ap (λ (t : Text). c ∷ t) (append-nothing x)
+
+elements_all : (x : Text) (xs : List Text) → stack_elements (joined (map escaped (x ∷ xs))) ≡ x ∷ xs
+elements_all x [] = ap stack_elements (sym (append-nothing (escaped x))) ∙ elements_last x
+elements_all x (y ∷ xs) = elements_more x (joined (map escaped (y ∷ xs))) ∙ ap (λ (l : List Text). x ∷ l) (elements_all y xs)
+
+map-twice : (items : List Item) → map (λ item. escaped (element_text item)) items ≡ map escaped (map element_text items)
+map-twice [] = refl
+map-twice (i ∷ is) = ap (λ (l : List Text). escaped (element_text i) ∷ l) (map-twice is)
+
+-- an owner that can be read again
+cut_plain : (o v : Text) → list_any (λ b. nat_eq b 38) o ≡ false → cut (o ++ 38 ∷ v) ≡ Some (o, v)
+cut_plain [] v h = refl
+cut_plain (c ∷ o) v h = at (nat_eq c 38) refl (cut_plain o v)
+  where
+    at : (b : Bool) → nat_eq c 38 ≡ b → (list_any (λ d. nat_eq d 38) o ≡ false → cut (o ++ 38 ∷ v) ≡ Some (o, v)) → cut ((c ∷ o) ++ 38 ∷ v) ≡ Some (c ∷ o, v)
+    at true e ih = absurd (false≢true (sym (rw e at h)))
+    at false e ih = let k : list_any (λ d. nat_eq d 38) o ≡ false = rw e at h in rw (e, ih k) refl
+
+not_false : (b : Bool) → not b ≡ true → b ≡ false
+not_false true h = absurd (false≢true h)
+not_false false h = refl
+
+item_again : (o : Option Text) (v : Text) → can_own o ≡ true → item_of (owner_text o ++ 38 ∷ v) ≡ Some (o, v)
+item_again None v h = refl
+item_again (Some []) v h = absurd (false≢true h)
+item_again (Some (c ∷ o)) v h = rw (cut_plain (c ∷ o) v (not_false _ h)) refl
+
+items_again : (items : List Item) → list_all (λ item. can_own item.0) items ≡ true → items_of_elements (map element_text items) ≡ Some items
+items_again [] h = refl
+items_again (i ∷ is) h =
+    let k = both_true (can_own i.0) (list_all (λ item. can_own item.0) is) h in
+    rw (item_again i.0 i.1 k.0, items_again is k.1) refl
+
+stack_only : (items : List Item) → is_stack items ≡ true → only_stack items ≡ Some items
+stack_only items h = rw h refl
+
+pub stack_again : (items : List Item) → is_writable_stack items ≡ true → items_in (stack_text items) ≡ Some items
+stack_again [] h = refl
+stack_again (i ∷ is) h =
+    let k = both_true (is_stack (i ∷ is)) (list_all (λ item. can_own item.0) (i ∷ is)) h in
+    let e : stack_elements (joined (map (λ item. escaped (element_text item)) (i ∷ is))) ≡ map element_text (i ∷ is) = ap (λ (l : List Text). stack_elements (joined l)) (map-twice (i ∷ is)) ∙ elements_all (element_text i) (map element_text is) in
+    rw (e, items_again (i ∷ is) k.1) (stack_only (i ∷ is) k.0)
+
+-- the stack's variable is another
+name_apart : (name : Text) → bytes_eq name (stack_name name) ≡ false
+name_apart name = apart (bytes_eq name (stack_name name)) refl
+  where
+    apart : (b : Bool) → bytes_eq name (stack_name name) ≡ b → b ≡ false
+    apart true e = let l : length name ≡ length (stack_name name) = ap length (same_text name (stack_name name) e) in absurd (omega arith)
+    apart false e = refl
+
+found_at : (e : Environment) (name : Text) (value text : Option Text) → lookup (with_value (with_value e name value) (stack_name name) text) (stack_name name) ≡ text
+found_at e name value text =
+    lookup-with_value (with_value e name value) (stack_name name) text (stack_name name) ∙ ap (λ (b : Bool). cond b text (lookup (with_value e name value) (stack_name name))) (bytes_eq-same (stack_name name))
+
+value_at : (e : Environment) (name : Text) (value text : Option Text) → lookup (with_value (with_value e name value) (stack_name name) text) name ≡ value
+value_at e name value text =
+    lookup-with_value (with_value e name value) (stack_name name) text name ∙ ap (λ (b : Bool). cond b text (lookup (with_value e name value) name)) (name_apart name)
+    ∙ lookup-with_value e name value name ∙ ap (λ (b : Bool). cond b value (lookup e name)) (bytes_eq-same name)
+
+pub stack_found : (e : Environment) (name : Text) (s : StackState) → is_writable_stack s.items ≡ true → stack_in (with_stack e name s) name ≡ Some s
+stack_found e name s h = rw (found_at e name s.value (stack_text s.items), value_at e name s.value (stack_text s.items), stack_again s.items h) refl
