@@ -4,9 +4,11 @@ use Rattle.std.specs.List.{list_all, starts_with}
 use Rattle.envstate.specs.Texts.{Text}
 use Rattle.envstate.specs.Refused.{Refused, bad_variable, protected}
 
+-- a letter or an underscore
 abbrev pub is_name_start : ℕ → Bool
 is_name_start b = (nat_le 65 b && nat_le b 90) || (nat_le 97 b && nat_le b 122) || b == 95
 
+-- a letter, a digit or an underscore
 abbrev pub is_name_byte : ℕ → Bool
 is_name_byte b = is_name_start b || (nat_le 48 b && nat_le b 57)
 

@@ -9,6 +9,7 @@ pub data Edit : Type 0 where
   Add : (xs : List Text) (end : End) → Edit
   Drop : (xs : List Text) → Edit
 
+-- the state after the edits, the first of them first
 abbrev pub after : List Edit → PathState → PathState
 after [] s = s
 after (Add xs end ∷ edits) s = after edits (add_all s xs end)
@@ -20,6 +21,7 @@ adds [] x = 0
 adds (Add xs end ∷ edits) x = count_by (bytes_eq x) xs + adds edits x
 adds (Drop xs ∷ edits) x = adds edits x
 
+-- how often they drop it
 abbrev pub drops : List Edit → Text → ℕ
 drops [] x = 0
 drops (Add xs end ∷ edits) x = drops edits x

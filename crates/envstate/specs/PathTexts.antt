@@ -9,9 +9,11 @@ use Rattle.envstate.specs.Paths.{PathState, IsPathState, CountersFit, without}
 abbrev pub colon : ℕ
 colon = 58
 
+-- the parts of a text between its colons
 abbrev pub fields : Text → List Text
 fields t = slice_split (λ b. b == colon) t
 
+-- parts with colons between them
 abbrev pub joined : List Text → Text
 joined xs = join_with_byte colon xs
 
@@ -21,6 +23,7 @@ paired [] = []
 paired (x ∷ []) = []
 paired (x ∷ n ∷ rest) = (x, n) ∷ paired rest
 
+-- the largest counter
 abbrev pub most : ℕ
 most = 4294967295
 
@@ -39,6 +42,7 @@ abbrev pub counted : Text → List (Text × Text) → Option ℕ
 counted x [] = None
 counted x (p ∷ ps) = option_or (if bytes_eq x p.0 then counter_of p.1 else None) (counted x ps)
 
+-- the pairs that a text of counters says, none where it is unset
 abbrev pub pairs_of : Option Text → List (Text × Text)
 pairs_of None = []
 pairs_of (Some u) = paired (fields u)
@@ -49,6 +53,7 @@ elements_of None pairs = []
 elements_of (Some []) pairs = if is_some (counted [] pairs) then [] ∷ [] else []
 elements_of (Some (b ∷ bs)) pairs = fields (b ∷ bs)
 
+-- the elements with the counters that are noted for them, and 1 where none is
 abbrev pub state_from : List Text → List (Text × Text) → PathState
 state_from xs pairs = record { elements = xs; counter = λ x. if has x xs then unwrap_or (counted x pairs) 1 else 0 }
 
@@ -76,9 +81,11 @@ is_lone_empty (x ∷ y ∷ ys) = false
 abbrev pub written : PathState → List Text
 written s = filter (λ x. nat_le 2 (s.counter x) || is_lone_empty s.elements) (firsts s.elements)
 
+-- each element and its counter, as fields
 abbrev pub counter_fields : PathState → List Text → List Text
 counter_fields s xs = flat_map (λ x. x ∷ decimal (s.counter x) ∷ []) xs
 
+-- the text of the counters, none where no counter is written
 abbrev pub pairs_text : PathState → Option Text
 pairs_text s = text_of (counter_fields s (written s))
 

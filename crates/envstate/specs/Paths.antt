@@ -59,10 +59,12 @@ abbrev pub add_back : PathState → List Text → PathState
 add_back s [] = s
 add_back s (x ∷ xs) = add_back (add s x Back) xs
 
+-- several at an end
 abbrev pub add_all : PathState → List Text → End → PathState
 add_all s xs Front = add_front s xs
 add_all s xs Back = add_back s xs
 
+-- several, the first of them first
 abbrev pub drop_all : PathState → List Text → PathState
 drop_all s [] = s
 drop_all s (x ∷ xs) = drop_all (drop s x) xs

@@ -17,6 +17,7 @@ counter_in m x = get_by (λ k. bytes_eq x k.now) m
 abbrev pub count_in : Table → Text → ℕ
 count_in table x = unwrap_or (table x) 0
 
+-- a counter that is not noted is 1
 abbrev pub one_if_absent : Option ℕ → ℕ
 one_if_absent count = unwrap_or count 1
 
