@@ -23,7 +23,7 @@ pub use env::Env;
 pub use fault::EnvFault;
 pub use loaded_edits::{add_loaded, drop_loaded};
 pub use loaded_list::{conflicts_of, loaded, prereqs_of};
-pub use names::{is_protected, is_variable_name};
+pub use names::{is_plain_value, is_protected, is_variable_name, share_name};
 pub use paths::{End, add_path, drop_path};
 pub use stacks::{pop_value, push_value};
 
