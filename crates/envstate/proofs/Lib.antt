@@ -12,6 +12,8 @@ pub mod PathOrderLemmas
 pub mod FieldLemmas
 pub mod LoadedReading
 pub mod LoadedWriting
+pub mod LoadedAgain
+pub mod LoadedReadable
 pub mod LoadedExamples
 pub mod StackLemmas
 pub mod StackReading

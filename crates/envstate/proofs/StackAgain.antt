@@ -1,15 +1,15 @@
 -- A stack that is written is read as it was.
-use Rattle.std.proofs.Common.{◌≡◌, ℕ, Bool, true, false, cond, not, ◌||◌, ◌&&◌, List, [], ◌∷◌, ◌++◌, refl, sym, ap, ◌∙◌, arith, length, nat_eq, Option, Some, None, map}
+use Rattle.std.proofs.Common.{◌≡◌, ℕ, Bool, true, false, cond, not, ◌||◌, ◌&&◌, List, [], ◌∷◌, ◌++◌, refl, sym, ap, ◌∙◌, subst, arith, length, nat_eq, Option, Some, None, map}
 use Rattle.std.specs.Prelude.{bytes_eq, if◌then◌else◌}
 use Rattle.std.specs.List.{onto_first, list_all, list_any}
-use Rattle.std.specs.Option.{option_map}
+use Rattle.std.specs.Option.{option_map, option_and_then}
 use Rattle.std.proofs.lemmas.Bool.{false≢true}
 use Rattle.envstate.specs.Texts.{Text}
 use Rattle.envstate.specs.Names.{stack_name}
 use Rattle.envstate.specs.Environment.{Environment, lookup, with_value}
 use Rattle.envstate.specs.PathTexts.{text_of, joined}
 use Rattle.envstate.specs.Stacks.{Item, StackState}
-use Rattle.envstate.specs.StackTexts.{is_special, escaped, stack_elements, cut, owner_of, owner_text, item_of, items_of_elements, is_stack, only_stack, items_in, element_text, stack_text, can_own, is_writable_stack}
+use Rattle.envstate.specs.StackTexts.{is_special, escaped, stack_elements, with_first, cut, owner_of, owner_text, item_of, items_of_elements, is_stack, only_stack, items_in, element_text, stack_text, can_own, is_writable_stack}
 use Rattle.envstate.specs.StackVariables.{stack_from, stack_in, with_stack}
 use Rattle.envstate.proofs.TextLemmas.{same_text, bytes_eq-same}
 use Rattle.envstate.proofs.EnvLemmas.{lookup-with_value}
@@ -104,3 +104,54 @@ value_at e name value text =
 
 pub stack_found : (e : Environment) (name : Text) (s : StackState) → is_writable_stack s.items ≡ true → stack_in (with_stack e name s) name ≡ Some s
 stack_found e name s h = rw (found_at e name s.value (stack_text s.items), value_at e name s.value (stack_text s.items), stack_again s.items h) refl
+
+-- What is read can be written.
+cut_more : (c : ℕ) (o : Option (Text × Text)) (p : Text × Text) → nat_eq c 38 ≡ false → option_map (with_first c) o ≡ Some p → ((q : Text × Text) → o ≡ Some q → list_any (λ b. nat_eq b 38) q.0 ≡ false) → list_any (λ b. nat_eq b 38) p.0 ≡ false
+cut_more c None p n h f = cc
+cut_more c (Some q) p n h f =
+    let e : with_first c q ≡ p = cc in
+    let g : list_any (λ b. nat_eq b 38) (c ∷ q.0) ≡ false = rw (n, f q refl) refl in
+    subst (λ (r : Text × Text). list_any (λ b. nat_eq b 38) r.0 ≡ false) e g
+
+cut_owner : (t : Text) (p : Text × Text) → cut t ≡ Some p → list_any (λ b. nat_eq b 38) p.0 ≡ false
+cut_owner [] p h = cc
+cut_owner (c ∷ cs) p h = at (nat_eq c 38) refl (λ q. cut_owner cs q)
+  where
+    at : (b : Bool) → nat_eq c 38 ≡ b → ((q : Text × Text) → cut cs ≡ Some q → list_any (λ d. nat_eq d 38) q.0 ≡ false) → list_any (λ d. nat_eq d 38) p.0 ≡ false
+    at true e ih = let k : Some ([], cs) ≡ Some p = rw e at h in let s : ([], cs) ≡ p = cc in subst (λ (r : Text × Text). list_any (λ d. nat_eq d 38) r.0 ≡ false) s refl
+    at false e ih = let k : option_map (with_first c) (cut cs) ≡ Some p = rw e at h in cut_more c (cut cs) p e k ih
+
+owner_can : (o : Text) → list_any (λ b. nat_eq b 38) o ≡ false → can_own (owner_of o) ≡ true
+owner_can [] h = refl
+owner_can (c ∷ cs) h = rw h refl
+
+item_can : (o : Option (Text × Text)) (item : Item) → option_map (λ p. (owner_of p.0, p.1)) o ≡ Some item → ((p : Text × Text) → o ≡ Some p → list_any (λ b. nat_eq b 38) p.0 ≡ false) → can_own item.0 ≡ true
+item_can None item h f = cc
+item_can (Some p) item h f =
+    let e : (owner_of p.0, p.1) ≡ item = cc in
+    subst (λ (i : Item). can_own i.0 ≡ true) e (owner_can p.0 (f p refl))
+
+all_can : (o : Option Item) (r : Option (List Item)) (items : List Item) → option_and_then (λ item. option_map (λ is. item ∷ is) r) o ≡ Some items
+    → ((i : Item) → o ≡ Some i → can_own i.0 ≡ true) → ((is : List Item) → r ≡ Some is → list_all (λ i. can_own i.0) is ≡ true) → list_all (λ i. can_own i.0) items ≡ true
+all_can None r items h f g = cc
+all_can (Some i) None items h f g = cc
+all_can (Some i) (Some is) items h f g =
+    let e : i ∷ is ≡ items = cc in
+    let k : list_all (λ j. can_own j.0) (i ∷ is) ≡ true = rw (f i refl, g is refl) refl in
+    subst (λ (l : List Item). list_all (λ j. can_own j.0) l ≡ true) e k
+
+items_can : (es : List Text) (items : List Item) → items_of_elements es ≡ Some items → list_all (λ i. can_own i.0) items ≡ true
+items_can [] items h = let e : [] ≡ items = cc in subst (λ (l : List Item). list_all (λ j. can_own j.0) l ≡ true) e refl
+items_can (e ∷ es) items h = all_can (item_of e) (items_of_elements es) items h (λ i k. item_can (cut e) i k (cut_owner e)) (items_can es)
+
+only_can : (b : Bool) (is items : List Item) → (if b then Some is else None) ≡ Some items → list_all (λ i. can_own i.0) is ≡ true → b ≡ is_stack is → is_writable_stack items ≡ true
+only_can true is items h k e = let s : is ≡ items = cc in let w : is_writable_stack is ≡ true = rw (sym e, k) refl in subst (λ (l : List Item). is_writable_stack l ≡ true) s w
+only_can false is items h k e = cc
+
+text_can : (r : Option (List Item)) (items : List Item) → option_and_then only_stack r ≡ Some items → ((is : List Item) → r ≡ Some is → list_all (λ i. can_own i.0) is ≡ true) → is_writable_stack items ≡ true
+text_can None items h f = cc
+text_can (Some is) items h f = only_can (is_stack is) is items h (f is refl) refl
+
+pub stack_readable : (t : Option Text) (items : List Item) → items_in t ≡ Some items → is_writable_stack items ≡ true
+stack_readable None items h = let e : [] ≡ items = cc in subst (λ (l : List Item). is_writable_stack l ≡ true) e refl
+stack_readable (Some t) items h = text_can (items_of_elements (stack_elements t)) items h (items_can (stack_elements t))

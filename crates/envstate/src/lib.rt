@@ -9,6 +9,7 @@ mod fault;
 mod fields;
 pub mod laws;
 mod loaded_edits;
+pub mod loaded_laws;
 mod loaded_list;
 mod names;
 mod path_texts;

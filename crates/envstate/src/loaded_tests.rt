@@ -35,8 +35,8 @@ fn says(
         && env.get("__MODULES_LMPREREQ") == prereqs
 }
 
-fn is_inconsistent(result: Result<(), EnvFault>) -> bool {
-    match result {
+fn is_inconsistent(outcome: Result<(), EnvFault>) -> bool {
+    match outcome {
         Err(EnvFault::Inconsistent) => true,
         _ => false,
     }
@@ -219,8 +219,8 @@ fn values_are_pushed_and_popped(rt: HostRuntime) -> Result<(), Fail> {
     Ok(())
 }
 
-fn is_bad_stack(result: Result<(), EnvFault>) -> bool {
-    match result {
+fn is_bad_stack(outcome: Result<(), EnvFault>) -> bool {
+    match outcome {
         Err(EnvFault::BadStack(_)) => true,
         _ => false,
     }

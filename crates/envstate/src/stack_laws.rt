@@ -21,8 +21,10 @@ pub fn stack_steps()
     ensures pop { (start : StackState) (pushes : List (Text × Text)) (owner : Text) → IsOwnedStart start → holds owner start.items ≡ false → pop (standing start pushes) owner ≡ standing start (other_pushes owner pushes) }
 {}
 
-/// The text that a stack is written as says that stack, also where it stands in an environment.
+/// The text that a stack is written as says that stack, also where it stands in an environment, and what a text says
+/// can be written.
 pub fn stack_texts()
     ensures read_again { (items : List Item) → is_writable_stack items ≡ true → items_in (stack_text items) ≡ Some items }
+    ensures writable { (t : Option Text) (items : List Item) → items_in t ≡ Some items → is_writable_stack items ≡ true }
     ensures found { (e : Environment) (name : Text) (s : StackState) → is_writable_stack s.items ≡ true → stack_in (with_stack e name s) name ≡ Some s }
 {}

@@ -223,9 +223,9 @@ pub fn pop_value(alloc: Global, env: &mut Env, var: &str, owner: &str) -> Result
         return Ok(());
     }
     let was_top = is_on_top(items.as_slice(), owner);
-    let mut stack = items;
-    take_out(&mut stack, owner);
-    let value = value_after(alloc, was_top, stack.as_slice(), env.get(var))?;
-    settle(&mut stack);
-    write_stack(alloc, env, var, value, name, stack.as_slice())
+    let mut left = items;
+    take_out(&mut left, owner);
+    let value = value_after(alloc, was_top, left.as_slice(), env.get(var))?;
+    settle(&mut left);
+    write_stack(alloc, env, var, value, name, left.as_slice())
 }
