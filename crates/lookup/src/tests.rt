@@ -138,6 +138,12 @@ fn opens_nothing_but_files_and_folders_on_a_disk(rt: HostRuntime) -> Result<(), 
     for path in ["/dev/zero", "/nothing/at/all", "/dev/null/below"] {
         assert!(rt; tree.entries(path)?.is_none(), "{path}");
     }
+    // The system writes this file anew at each reading, so only an answer that was kept is the same again.
+    let fresh = "/proc/sys/kernel/random/uuid";
+    let first = tree.read(fresh)?.ok_or("no file")?;
+    let again = tree.read(fresh)?.ok_or("no file")?;
+    assert_eq!(rt; first.len(), 37);
+    assert_eq!(rt; first.as_slice(), again.as_slice());
     let devices = tree.entries("/dev")?.ok_or("no folder")?;
     let mut has_null = false;
     for name in &devices {
