@@ -9,12 +9,12 @@ mod fault;
 mod fields;
 pub mod laws;
 mod loaded_edits;
-pub mod loaded_laws;
+mod loaded_laws;
 mod loaded_list;
 mod names;
 mod path_texts;
 mod paths;
-pub mod stack_laws;
+mod stack_laws;
 mod stack_texts;
 mod stacks;
 
