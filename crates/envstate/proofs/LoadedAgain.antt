@@ -257,7 +257,7 @@ conflict_good (x ∷ xs) h =
     at (has_names x.conflicts) (element_good x.name x.conflicts (good x k.0).name (names_words x.conflicts (good x k.0).conflicts)) (conflict_good xs k.1)
   where
     at : (b : Bool) → (not (is_empty (element_of x.name x.conflicts)) && lacks 58 (element_of x.name x.conflicts)) ≡ true → are_elements (conflict_elements xs) ≡ true
-      → are_elements (cond b (element_of x.name x.conflicts ∷ conflict_elements xs) (conflict_elements xs)) ≡ true
+        → are_elements (cond b (element_of x.name x.conflicts ∷ conflict_elements xs) (conflict_elements xs)) ≡ true
     at true e r = and_both (not (is_empty (element_of x.name x.conflicts)) && lacks 58 (element_of x.name x.conflicts)) (are_elements (conflict_elements xs)) e r
     at false e r = r
 
@@ -268,7 +268,7 @@ prereq_good (x ∷ xs) h =
     at (has_groups x.prereqs) (element_good x.name (map group_text x.prereqs) (good x k.0).name (groups_words x.prereqs (good x k.0).prereqs)) (prereq_good xs k.1)
   where
     at : (b : Bool) → (not (is_empty (element_of x.name (map group_text x.prereqs))) && lacks 58 (element_of x.name (map group_text x.prereqs))) ≡ true → are_elements (prereq_elements xs) ≡ true
-      → are_elements (cond b (element_of x.name (map group_text x.prereqs) ∷ prereq_elements xs) (prereq_elements xs)) ≡ true
+        → are_elements (cond b (element_of x.name (map group_text x.prereqs) ∷ prereq_elements xs) (prereq_elements xs)) ≡ true
     at true e r = and_both (not (is_empty (element_of x.name (map group_text x.prereqs))) && lacks 58 (element_of x.name (map group_text x.prereqs))) (are_elements (prereq_elements xs)) e r
     at false e r = r
 
@@ -292,7 +292,7 @@ no_conflicts n (x ∷ xs) h f =
     (no_conflicts n xs k.1 (or_right (bytes_eq n x.name) (has n (names_of xs)) f))
   where
     at : (b : Bool) → first_element n (element_of x.name x.conflicts ∷ conflict_elements xs) ≡ first_element n (conflict_elements xs) → first_element n (conflict_elements xs) ≡ None
-      → first_element n (cond b (element_of x.name x.conflicts ∷ conflict_elements xs) (conflict_elements xs)) ≡ None
+        → first_element n (cond b (element_of x.name x.conflicts ∷ conflict_elements xs) (conflict_elements xs)) ≡ None
     at true e r = e ∙ r
     at false e r = r
 
@@ -305,7 +305,7 @@ no_prereqs n (x ∷ xs) h f =
     (no_prereqs n xs k.1 (or_right (bytes_eq n x.name) (has n (names_of xs)) f))
   where
     at : (b : Bool) → first_element n (element_of x.name (map group_text x.prereqs) ∷ prereq_elements xs) ≡ first_element n (prereq_elements xs) → first_element n (prereq_elements xs) ≡ None
-      → first_element n (cond b (element_of x.name (map group_text x.prereqs) ∷ prereq_elements xs) (prereq_elements xs)) ≡ None
+        → first_element n (cond b (element_of x.name (map group_text x.prereqs) ∷ prereq_elements xs) (prereq_elements xs)) ≡ None
     at true e r = e ∙ r
     at false e r = r
 
@@ -330,6 +330,7 @@ found_here x xs h k f = (conflicts (has_names x.conflicts) refl, prereqs (has_gr
         let p = element_parts x.name x.conflicts (good x h).name (names_words x.conflicts (good x h).conflicts) in
         ap words_in (first_same x.name (element_of x.name x.conflicts) (conflict_elements xs) x.conflicts p) ∙ ap later_parts p
     conflicts false e = ap words_in (no_conflicts x.name xs k f) ∙ sym (no_words x.conflicts e)
+
     prereqs : (b : Bool) → has_groups x.prereqs ≡ b → words_in (first_element x.name (cond b (element_of x.name (map group_text x.prereqs) ∷ prereq_elements xs) (prereq_elements xs))) ≡ map group_text x.prereqs
     prereqs true e =
         let p = element_parts x.name (map group_text x.prereqs) (good x h).name (groups_words x.prereqs (good x h).prereqs) in
@@ -345,6 +346,7 @@ found_behind x y xs h f g = (conflicts (has_names x.conflicts), prereqs (has_gro
     conflicts true =
         ap words_in (first_other y.name x.name (element_of x.name x.conflicts) (conflict_elements xs) x.conflicts (element_parts x.name x.conflicts (good x h).name (names_words x.conflicts (good x h).conflicts)) f) ∙ g.0
     conflicts false = g.0
+
     prereqs : (b : Bool) → words_in (first_element y.name (cond b (element_of x.name (map group_text x.prereqs) ∷ prereq_elements xs) (prereq_elements xs))) ≡ map group_text y.prereqs
     prereqs true =
         ap words_in (first_other y.name x.name (element_of x.name (map group_text x.prereqs)) (prereq_elements xs) (map group_text x.prereqs) (element_parts x.name (map group_text x.prereqs) (good x h).name (groups_words x.prereqs (good x h).prereqs)) f) ∙ g.1
