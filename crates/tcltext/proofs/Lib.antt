@@ -8,8 +8,6 @@ pub mod Complete
 pub mod FaultLemmas
 pub mod Answered
 pub mod NumberLemmas
-pub mod PatternLemmas
-pub mod WalkLemmas
 pub mod ListLemmas
 pub mod RoundTrip
 pub mod OneList

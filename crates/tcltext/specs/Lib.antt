@@ -8,5 +8,3 @@ pub mod Numerals
 pub mod Backslash
 pub mod ListGrammar
 pub mod Lists
-pub mod Patterns
-pub mod Walks

@@ -12,7 +12,6 @@ mod bytes;
 mod laws;
 mod list;
 mod number;
-mod pattern;
 mod reading;
 #[cfg(test)]
 mod tests;
@@ -21,7 +20,6 @@ mod text;
 pub use laws::{first_bad_character, list_round_trip, one_list, one_script, script_of_grammar};
 pub use list::write_list;
 pub use number::read_number;
-pub use pattern::glob_match;
 pub use text::parse_script;
 
 /// A script: its commands, in order.
@@ -139,19 +137,6 @@ impl<T: Drop> From<AllocFailed<T>> for ReadError {
     fn from(_e: AllocFailed<T>) -> ReadError {
         ReadError::Memory
     }
-}
-
-/// How far a pattern's elements up to its next star match a text.
-#[derive(Clone, Copy)]
-pub(crate) enum Reached<'a> {
-    /// What follows the star, and the rest of the text.
-    Star(&'a str, &'a str),
-    /// The pattern matches the whole text.
-    Whole,
-    /// An element fails, or text is left.
-    Mismatch,
-    /// The text ends before the elements.
-    Short,
 }
 
 /// Which bytes a run is made of.

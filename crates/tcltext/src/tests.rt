@@ -102,32 +102,6 @@ fn numbers(rt: HostRuntime) {
 }
 
 #[test]
-fn patterns(rt: HostRuntime) -> Result<(), Fail> {
-    assert!(rt; glob_match("[c-a]x", "bx"));
-    assert!(rt; glob_match("[ab", "a"));
-    assert!(rt; !glob_match("[ab", "c"));
-    assert!(rt; glob_match("\\*", "*"));
-    assert!(rt; !glob_match("\\*", "a"));
-    assert!(rt; glob_match("*.[ch]", "x.c"));
-    assert!(rt; !glob_match("\\", ""));
-    assert!(rt; glob_match("?\u{e9}*", "\u{e9}\u{e9}"));
-    let text = "a".repeat(rt.alloc(), 100_000)?;
-    assert!(rt;
-        glob_match(
-            "*a*a*a*a*a*a*a*a*a*a*a*a*a*a*a*a*a*a*a*a*a*a*a*a*a*a*a*a*a*a",
-            &text
-        )
-    );
-    assert!(rt;
-        !glob_match(
-            "*a*a*a*a*a*a*a*a*a*a*a*a*a*a*a*a*a*a*a*a*a*a*a*a*a*a*a*a*a*b",
-            &text
-        )
-    );
-    Ok(())
-}
-
-#[test]
 fn lists(rt: HostRuntime) -> Result<(), Fail> {
     assert_eq!(rt;
         write_list(rt.alloc(), &["a", "", "b c", "d}"])?.as_str(),
