@@ -10,10 +10,11 @@ unset LOADEDMODULES _LMFILES_ || true
 
 # The text is captured first, and evaluated only where the command was accepted.
 module() {
-    if text=$("$MODULECMD" sh "$@"); then
-        eval "$text"
-        unset text
+    if _module_text="$("$MODULECMD" sh "$@")"; then
+        eval "unset _module_text
+$_module_text"
     else
+        unset _module_text
         return 1
     fi
 }
