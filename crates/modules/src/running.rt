@@ -227,7 +227,7 @@ fn unload<T: Tree>(
 
 /// Runs a request over an environment, which stays as it is, and a tree of modulefiles.
 ///
-/// It is refused as the request's step over the tree is, or by 31 for want of memory, or by 43 where the device failed
+/// It is refused as the request's step over the tree is, or for want of memory (1, 31 or 41), or by 43 where the device failed
 /// in this call.
 pub fn run<T: Tree>(
     alloc: Global,
