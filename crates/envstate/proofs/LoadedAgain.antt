@@ -1,21 +1,21 @@
 -- A loaded list that is written is read as it was.
-use Rattle.std.proofs.Common.{◌≡◌, ℕ, suc, Bool, true, false, cond, not, ◌||◌, ◌&&◌, List, [], ◌∷◌, ◌++◌, refl, sym, ap, ◌∙◌, subst, arith, length, nat_eq, Option, Some, None, map}
-use Rattle.std.specs.Prelude.{filter, bytes_eq, if◌then◌else◌}
+use Rattle.std.proofs.Common.{◌≡◌, ℕ, suc, Bool, true, false, cond, not, ◌||◌, ◌&&◌, List, [], ◌∷◌, ◌++◌, refl, sym, ap, ◌∙◌, arith, length, nat_eq, Option, Some, None, map}
+use Rattle.std.specs.Prelude.{bytes_eq, if◌then◌else◌}
 use Rattle.std.specs.List.{slice_split, join_with_byte, onto_first, list_all, list_any, AllByRecursion}
 use Rattle.std.proofs.lemmas.Bool.{false≢true}
 use Rattle.std.proofs.lemmas.Bool.Decides.{nat_tests}
 use Rattle.modulename.specs.ModuleName.{is_forbidden, is_part, parts, is_module_name}
 use Rattle.envstate.specs.Texts.{Text, has}
 use Rattle.envstate.specs.Paths.{without}
-use Rattle.envstate.specs.Environment.{Environment, lookup, with_value}
-use Rattle.envstate.specs.Changes.{are_distinct, applied}
+use Rattle.envstate.specs.Environment.{Environment, lookup}
+use Rattle.envstate.specs.Changes.{are_distinct}
 use Rattle.envstate.specs.PathTexts.{fields, joined, text_of, firsts}
 use Rattle.envstate.specs.LoadedTexts.{names_variable, files_variable, conflicts_variable, prereqs_variable, elements_in, is_empty, are_consistent, parts_of, first_part, later_parts, first_element, words_in, names_among, conflicts_among, names_of_group, has_names, prereqs_among, element_of, group_text}
-use Rattle.envstate.specs.Loaded.{Entry, names_of, entries_from, first_in, entries_in, loaded_in, names_text, files_text, conflict_elements, conflicts_text, has_groups, prereq_elements, prereqs_text, loaded_edits, with_loaded, is_path, is_group, is_entry, IsLoadedList, entry_named, conflicts_of_entry, prereqs_of_entry}
-use Rattle.envstate.proofs.TextLemmas.{same_text, bytes_eq-same, bytes_eq-symmetric}
+use Rattle.envstate.specs.Loaded.{Entry, names_of, entries_from, entries_in, loaded_in, names_text, files_text, conflict_elements, conflicts_text, has_groups, prereq_elements, prereqs_text, with_loaded, is_path, is_group, is_entry, IsLoadedList}
+use Rattle.envstate.proofs.TextLemmas.{bytes_eq-same, bytes_eq-symmetric}
 use Rattle.envstate.proofs.EnvLemmas.{lookup-with_value}
 use Rattle.envstate.proofs.PathTextLemmas.{or_left, or_right}
-use Rattle.envstate.proofs.FieldLemmas.{without-absent, has-firsts}
+use Rattle.envstate.proofs.FieldLemmas.{without-absent}
 
 pub both_true : (a b : Bool) → (a && b) ≡ true → (a ≡ true) × (b ≡ true)
 both_true true true h = (refl, refl)
@@ -257,7 +257,7 @@ conflict_good (x ∷ xs) h =
     at (has_names x.conflicts) (element_good x.name x.conflicts (good x k.0).name (names_words x.conflicts (good x k.0).conflicts)) (conflict_good xs k.1)
   where
     at : (b : Bool) → (not (is_empty (element_of x.name x.conflicts)) && lacks 58 (element_of x.name x.conflicts)) ≡ true → are_elements (conflict_elements xs) ≡ true
-      → are_elements (cond b (element_of x.name x.conflicts ∷ conflict_elements xs) (conflict_elements xs)) ≡ true
+        → are_elements (cond b (element_of x.name x.conflicts ∷ conflict_elements xs) (conflict_elements xs)) ≡ true
     at true e r = and_both (not (is_empty (element_of x.name x.conflicts)) && lacks 58 (element_of x.name x.conflicts)) (are_elements (conflict_elements xs)) e r
     at false e r = r
 
@@ -268,7 +268,7 @@ prereq_good (x ∷ xs) h =
     at (has_groups x.prereqs) (element_good x.name (map group_text x.prereqs) (good x k.0).name (groups_words x.prereqs (good x k.0).prereqs)) (prereq_good xs k.1)
   where
     at : (b : Bool) → (not (is_empty (element_of x.name (map group_text x.prereqs))) && lacks 58 (element_of x.name (map group_text x.prereqs))) ≡ true → are_elements (prereq_elements xs) ≡ true
-      → are_elements (cond b (element_of x.name (map group_text x.prereqs) ∷ prereq_elements xs) (prereq_elements xs)) ≡ true
+        → are_elements (cond b (element_of x.name (map group_text x.prereqs) ∷ prereq_elements xs) (prereq_elements xs)) ≡ true
     at true e r = and_both (not (is_empty (element_of x.name (map group_text x.prereqs))) && lacks 58 (element_of x.name (map group_text x.prereqs))) (are_elements (prereq_elements xs)) e r
     at false e r = r
 
@@ -292,7 +292,7 @@ no_conflicts n (x ∷ xs) h f =
     (no_conflicts n xs k.1 (or_right (bytes_eq n x.name) (has n (names_of xs)) f))
   where
     at : (b : Bool) → first_element n (element_of x.name x.conflicts ∷ conflict_elements xs) ≡ first_element n (conflict_elements xs) → first_element n (conflict_elements xs) ≡ None
-      → first_element n (cond b (element_of x.name x.conflicts ∷ conflict_elements xs) (conflict_elements xs)) ≡ None
+        → first_element n (cond b (element_of x.name x.conflicts ∷ conflict_elements xs) (conflict_elements xs)) ≡ None
     at true e r = e ∙ r
     at false e r = r
 
@@ -305,7 +305,7 @@ no_prereqs n (x ∷ xs) h f =
     (no_prereqs n xs k.1 (or_right (bytes_eq n x.name) (has n (names_of xs)) f))
   where
     at : (b : Bool) → first_element n (element_of x.name (map group_text x.prereqs) ∷ prereq_elements xs) ≡ first_element n (prereq_elements xs) → first_element n (prereq_elements xs) ≡ None
-      → first_element n (cond b (element_of x.name (map group_text x.prereqs) ∷ prereq_elements xs) (prereq_elements xs)) ≡ None
+        → first_element n (cond b (element_of x.name (map group_text x.prereqs) ∷ prereq_elements xs) (prereq_elements xs)) ≡ None
     at true e r = e ∙ r
     at false e r = r
 
@@ -330,6 +330,7 @@ found_here x xs h k f = (conflicts (has_names x.conflicts) refl, prereqs (has_gr
         let p = element_parts x.name x.conflicts (good x h).name (names_words x.conflicts (good x h).conflicts) in
         ap words_in (first_same x.name (element_of x.name x.conflicts) (conflict_elements xs) x.conflicts p) ∙ ap later_parts p
     conflicts false e = ap words_in (no_conflicts x.name xs k f) ∙ sym (no_words x.conflicts e)
+
     prereqs : (b : Bool) → has_groups x.prereqs ≡ b → words_in (first_element x.name (cond b (element_of x.name (map group_text x.prereqs) ∷ prereq_elements xs) (prereq_elements xs))) ≡ map group_text x.prereqs
     prereqs true e =
         let p = element_parts x.name (map group_text x.prereqs) (good x h).name (groups_words x.prereqs (good x h).prereqs) in
@@ -345,6 +346,7 @@ found_behind x y xs h f g = (conflicts (has_names x.conflicts), prereqs (has_gro
     conflicts true =
         ap words_in (first_other y.name x.name (element_of x.name x.conflicts) (conflict_elements xs) x.conflicts (element_parts x.name x.conflicts (good x h).name (names_words x.conflicts (good x h).conflicts)) f) ∙ g.0
     conflicts false = g.0
+
     prereqs : (b : Bool) → words_in (first_element y.name (cond b (element_of x.name (map group_text x.prereqs) ∷ prereq_elements xs) (prereq_elements xs))) ≡ map group_text y.prereqs
     prereqs true =
         ap words_in (first_other y.name x.name (element_of x.name (map group_text x.prereqs)) (prereq_elements xs) (map group_text x.prereqs) (element_parts x.name (map group_text x.prereqs) (good x h).name (groups_words x.prereqs (good x h).prereqs)) f) ∙ g.1
