@@ -178,7 +178,7 @@ pub record IsGood (x : Entry) : Type 0 where
   pub conflicts : list_all is_module_name x.conflicts ≡ true
   pub prereqs : list_all is_group x.prereqs ≡ true
 
-good : (x : Entry) → is_entry x ≡ true → IsGood x
+pub good : (x : Entry) → is_entry x ≡ true → IsGood x
 good x h =
     let k = both_true (is_module_name x.name && is_path x.path) (list_all is_module_name x.conflicts && list_all is_group x.prereqs) h in
     let n = both_true (is_module_name x.name) (is_path x.path) k.0 in

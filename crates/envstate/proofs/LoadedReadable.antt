@@ -42,7 +42,7 @@ fewer_pass p q (x ∷ xs) h = at (q x) (both_true (p x) (list_all p xs) h).0 (fe
     at true k r = and_both (p x) (list_all p (filter q xs)) k r
     at false k r = r
 
-firsts_pass : (p : Text → Bool) (xs : List Text) → list_all p xs ≡ true → list_all p (firsts xs) ≡ true
+pub firsts_pass : (p : Text → Bool) (xs : List Text) → list_all p xs ≡ true → list_all p (firsts xs) ≡ true
 firsts_pass p [] h = refl
 firsts_pass p (x ∷ xs) h =
     let k = both_true (p x) (list_all p xs) h in
@@ -83,7 +83,7 @@ distinct_fewer q (x ∷ xs) h =
     at true f r = and_both (not (has x (filter q xs))) (are_distinct (filter q xs)) (rw f refl) r
     at false f r = r
 
-distinct_firsts : (xs : List Text) → are_distinct (firsts xs) ≡ true
+pub distinct_firsts : (xs : List Text) → are_distinct (firsts xs) ≡ true
 distinct_firsts [] = refl
 distinct_firsts (x ∷ xs) =
     and_both (not (has x (without x (firsts xs)))) (are_distinct (without x (firsts xs)))
