@@ -3,7 +3,7 @@ use Rattle.std.proofs.Common.{◌≡◌, ℕ, Bool, true, false, cond, not, List
 use Rattle.std.proofs.Common.{drop as cut}
 use Rattle.std.specs.Prelude.{flat_map, bytes_eq}
 use Rattle.std.proofs.lemmas.Bool.Decides.{nat_tests}
-use Rattle.std.specs.List.{join_with_byte, list_any}
+use Rattle.std.specs.List.{join_with_byte}
 use Rattle.envstate.specs.Texts.{Text, has, shown}
 use Rattle.envstate.specs.Paths.{without}
 use Rattle.envstate.specs.Changes.{are_distinct}

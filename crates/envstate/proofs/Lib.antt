@@ -14,6 +14,7 @@ pub mod LoadedReading
 pub mod LoadedWriting
 pub mod LoadedAgain
 pub mod LoadedReadable
+pub mod LoadedEdits
 pub mod LoadedExamples
 pub mod StackLemmas
 pub mod StackReading

@@ -1,21 +1,21 @@
 -- A loaded list that is written is read as it was.
-use Rattle.std.proofs.Common.{◌≡◌, ℕ, suc, Bool, true, false, cond, not, ◌||◌, ◌&&◌, List, [], ◌∷◌, ◌++◌, refl, sym, ap, ◌∙◌, subst, arith, length, nat_eq, Option, Some, None, map}
-use Rattle.std.specs.Prelude.{filter, bytes_eq, if◌then◌else◌}
+use Rattle.std.proofs.Common.{◌≡◌, ℕ, suc, Bool, true, false, cond, not, ◌||◌, ◌&&◌, List, [], ◌∷◌, ◌++◌, refl, sym, ap, ◌∙◌, arith, length, nat_eq, Option, Some, None, map}
+use Rattle.std.specs.Prelude.{bytes_eq, if◌then◌else◌}
 use Rattle.std.specs.List.{slice_split, join_with_byte, onto_first, list_all, list_any, AllByRecursion}
 use Rattle.std.proofs.lemmas.Bool.{false≢true}
 use Rattle.std.proofs.lemmas.Bool.Decides.{nat_tests}
 use Rattle.modulename.specs.ModuleName.{is_forbidden, is_part, parts, is_module_name}
 use Rattle.envstate.specs.Texts.{Text, has}
 use Rattle.envstate.specs.Paths.{without}
-use Rattle.envstate.specs.Environment.{Environment, lookup, with_value}
-use Rattle.envstate.specs.Changes.{are_distinct, applied}
+use Rattle.envstate.specs.Environment.{Environment, lookup}
+use Rattle.envstate.specs.Changes.{are_distinct}
 use Rattle.envstate.specs.PathTexts.{fields, joined, text_of, firsts}
 use Rattle.envstate.specs.LoadedTexts.{names_variable, files_variable, conflicts_variable, prereqs_variable, elements_in, is_empty, are_consistent, parts_of, first_part, later_parts, first_element, words_in, names_among, conflicts_among, names_of_group, has_names, prereqs_among, element_of, group_text}
-use Rattle.envstate.specs.Loaded.{Entry, names_of, entries_from, first_in, entries_in, loaded_in, names_text, files_text, conflict_elements, conflicts_text, has_groups, prereq_elements, prereqs_text, loaded_edits, with_loaded, is_path, is_group, is_entry, IsLoadedList, entry_named, conflicts_of_entry, prereqs_of_entry}
-use Rattle.envstate.proofs.TextLemmas.{same_text, bytes_eq-same, bytes_eq-symmetric}
+use Rattle.envstate.specs.Loaded.{Entry, names_of, entries_from, entries_in, loaded_in, names_text, files_text, conflict_elements, conflicts_text, has_groups, prereq_elements, prereqs_text, with_loaded, is_path, is_group, is_entry, IsLoadedList}
+use Rattle.envstate.proofs.TextLemmas.{bytes_eq-same, bytes_eq-symmetric}
 use Rattle.envstate.proofs.EnvLemmas.{lookup-with_value}
 use Rattle.envstate.proofs.PathTextLemmas.{or_left, or_right}
-use Rattle.envstate.proofs.FieldLemmas.{without-absent, has-firsts}
+use Rattle.envstate.proofs.FieldLemmas.{without-absent}
 
 pub both_true : (a b : Bool) → (a && b) ≡ true → (a ≡ true) × (b ≡ true)
 both_true true true h = (refl, refl)
@@ -178,7 +178,7 @@ pub record IsGood (x : Entry) : Type 0 where
   pub conflicts : list_all is_module_name x.conflicts ≡ true
   pub prereqs : list_all is_group x.prereqs ≡ true
 
-good : (x : Entry) → is_entry x ≡ true → IsGood x
+pub good : (x : Entry) → is_entry x ≡ true → IsGood x
 good x h =
     let k = both_true (is_module_name x.name && is_path x.path) (list_all is_module_name x.conflicts && list_all is_group x.prereqs) h in
     let n = both_true (is_module_name x.name) (is_path x.path) k.0 in

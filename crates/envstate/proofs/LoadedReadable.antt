@@ -1,17 +1,16 @@
 -- A loaded list that was read can be written.
-use Rattle.std.proofs.Common.{◌≡◌, ℕ, suc, Bool, true, false, cond, not, ◌||◌, ◌&&◌, List, [], ◌∷◌, ◌++◌, refl, sym, ap, ◌∙◌, subst, arith, length, nat_eq, Option, Some, None, map}
+use Rattle.std.proofs.Common.{◌≡◌, ℕ, Bool, true, false, cond, not, ◌&&◌, List, [], ◌∷◌, refl, ap, ◌∙◌, subst, arith, length, nat_eq, Option, Some, None}
 use Rattle.std.specs.Prelude.{filter, bytes_eq, if◌then◌else◌}
 use Rattle.std.specs.List.{slice_split, onto_first, list_all, list_any}
-use Rattle.std.proofs.lemmas.Bool.{false≢true}
 use Rattle.std.proofs.lemmas.Bool.Decides.{nat_tests}
 use Rattle.modulename.specs.ModuleName.{is_module_name}
 use Rattle.envstate.specs.Texts.{Text, has}
 use Rattle.envstate.specs.Paths.{without}
 use Rattle.envstate.specs.Environment.{Environment, lookup}
 use Rattle.envstate.specs.Changes.{are_distinct}
-use Rattle.envstate.specs.PathTexts.{fields, firsts}
+use Rattle.envstate.specs.PathTexts.{firsts}
 use Rattle.envstate.specs.LoadedTexts.{names_variable, files_variable, conflicts_variable, prereqs_variable, elements_in, is_empty, are_consistent, words_in, names_among, conflicts_among, names_of_group, has_names, prereqs_among}
-use Rattle.envstate.specs.Loaded.{Entry, names_of, entries_from, first_in, entries_in, loaded_in, is_path, is_group, is_entry, IsLoadedList}
+use Rattle.envstate.specs.Loaded.{Entry, names_of, entries_from, first_in, loaded_in, is_path, is_group, is_entry, IsLoadedList}
 use Rattle.envstate.proofs.TextLemmas.{has-without, bytes_eq-same}
 use Rattle.envstate.proofs.PathTextLemmas.{or_left, or_right}
 use Rattle.envstate.proofs.LoadedAgain.{both_true, and_both, not_is, lacks, all_lack, lacks_any}
@@ -43,7 +42,7 @@ fewer_pass p q (x ∷ xs) h = at (q x) (both_true (p x) (list_all p xs) h).0 (fe
     at true k r = and_both (p x) (list_all p (filter q xs)) k r
     at false k r = r
 
-firsts_pass : (p : Text → Bool) (xs : List Text) → list_all p xs ≡ true → list_all p (firsts xs) ≡ true
+pub firsts_pass : (p : Text → Bool) (xs : List Text) → list_all p xs ≡ true → list_all p (firsts xs) ≡ true
 firsts_pass p [] h = refl
 firsts_pass p (x ∷ xs) h =
     let k = both_true (p x) (list_all p xs) h in
@@ -84,7 +83,7 @@ distinct_fewer q (x ∷ xs) h =
     at true f r = and_both (not (has x (filter q xs))) (are_distinct (filter q xs)) (rw f refl) r
     at false f r = r
 
-distinct_firsts : (xs : List Text) → are_distinct (firsts xs) ≡ true
+pub distinct_firsts : (xs : List Text) → are_distinct (firsts xs) ≡ true
 distinct_firsts [] = refl
 distinct_firsts (x ∷ xs) =
     and_both (not (has x (without x (firsts xs)))) (are_distinct (without x (firsts xs)))

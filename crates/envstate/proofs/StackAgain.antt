@@ -1,5 +1,5 @@
 -- A stack that is written is read as it was.
-use Rattle.std.proofs.Common.{◌≡◌, ℕ, Bool, true, false, cond, not, ◌||◌, ◌&&◌, List, [], ◌∷◌, ◌++◌, refl, sym, ap, ◌∙◌, subst, arith, length, nat_eq, Option, Some, None, map}
+use Rattle.std.proofs.Common.{◌≡◌, ℕ, Bool, true, false, cond, not, ◌&&◌, List, [], ◌∷◌, ◌++◌, refl, sym, ap, ◌∙◌, subst, arith, length, nat_eq, Option, Some, None, map}
 use Rattle.std.specs.Prelude.{bytes_eq, if◌then◌else◌}
 use Rattle.std.specs.List.{onto_first, list_all, list_any}
 use Rattle.std.specs.Option.{option_map, option_and_then}
@@ -7,10 +7,10 @@ use Rattle.std.proofs.lemmas.Bool.{false≢true}
 use Rattle.envstate.specs.Texts.{Text}
 use Rattle.envstate.specs.Names.{stack_name}
 use Rattle.envstate.specs.Environment.{Environment, lookup, with_value}
-use Rattle.envstate.specs.PathTexts.{text_of, joined}
+use Rattle.envstate.specs.PathTexts.{joined}
 use Rattle.envstate.specs.Stacks.{Item, StackState}
 use Rattle.envstate.specs.StackTexts.{is_special, escaped, stack_elements, with_first, cut, owner_of, owner_text, item_of, items_of_elements, is_stack, only_stack, items_in, element_text, stack_text, can_own, is_writable_stack}
-use Rattle.envstate.specs.StackVariables.{stack_from, stack_in, with_stack}
+use Rattle.envstate.specs.StackVariables.{stack_in, with_stack}
 use Rattle.envstate.proofs.TextLemmas.{same_text, bytes_eq-same}
 use Rattle.envstate.proofs.EnvLemmas.{lookup-with_value}
 use Rattle.envstate.proofs.StackReading.{plain_element, special_element, colon_element}

@@ -1,5 +1,5 @@
 -- Edits of stacks, put together from their parts.
-use Rattle.std.proofs.Common.{◌≡◌, Bool, true, false, cond, not, ◌||◌, List, [], ◌∷◌, refl, sym, ap, ◌∙◌, Option, Some, None, Result, Ok, Err, string_bytes, map}
+use Rattle.std.proofs.Common.{◌≡◌, Bool, true, false, cond, not, ◌||◌, List, [], ◌∷◌, refl, sym, ap, ◌∙◌, Option, Some, None, Ok, Err, string_bytes, map}
 use Rattle.std.specs.Prelude.{filter, if◌then◌else◌, is_some}
 use Rattle.std.specs.Option.{option_map}
 use Rattle.std.specs.List.{list_any}
@@ -8,10 +8,10 @@ use Rattle.std.specs.declared.alloc.Global.{Global}
 use Rattle.envstate.specs.Texts.{Text}
 use Rattle.envstate.specs.Names.{stack_name}
 use Rattle.envstate.specs.Environment.{Environment, lookup}
-use Rattle.envstate.specs.Stacks.{Item, StackState, is_owner, has_owner, holds, without_owner, visible, push, pop, settled, on_top}
+use Rattle.envstate.specs.Stacks.{Item, is_owner, has_owner, holds, without_owner, visible, push, settled, on_top}
 use Rattle.envstate.specs.StackTexts.{items_in, item_in}
 use Rattle.envstate.specs.StackVariables.{stack_from, stack_in, with_stack, push_refusal, pop_refusal, pushed_on, popped_from, pushed_value, popped_value}
-use Rattle.envstate.specs.Refused.{Refused, bad_stack, unless}
+use Rattle.envstate.specs.Refused.{bad_stack}
 use Rattle.envstate.specs.declared.stack_texts.StackItem.{StackItem}
 
 owned_is : (o : Option (String Global)) → is_some o ≡ has_owner (option_map string_bytes o)

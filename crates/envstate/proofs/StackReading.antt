@@ -1,7 +1,6 @@
 -- Reading and writing the texts of stacks.
-use Rattle.std.proofs.Common.{◌≡◌, ℕ, suc, Bool, true, false, cond, not, ◌+◌, ◌||◌, ◌&&◌, ◌<◌, ◌≤◌, ◌-◌, ◌≢◌, List, [], ◌∷◌, ◌++◌, refl, sym, ap, ◌∙◌, subst, arith, length, append_assoc, append-nil, take, get_or, take_all, nat_eq, Option, Some, None, Bor, string_bytes, map, inl, inr, Result, Ok, Err}
+use Rattle.std.proofs.Common.{◌≡◌, ℕ, suc, Bool, true, false, cond, ◌&&◌, ◌<◌, ◌≤◌, ◌≢◌, List, [], ◌∷◌, ◌++◌, refl, sym, ap, ◌∙◌, subst, arith, length, append_assoc, append-nil, get_or, nat_eq, Option, Some, None, Bor, string_bytes, map, inl, inr, Result, Ok, Err}
 use Rattle.std.specs.Prelude.{if◌then◌else◌, encode_utf8}
-use Rattle.std.specs.Option.{option_map}
 use Rattle.std.specs.List.{onto_first}
 use Rattle.std.proofs.lemmas.Bool.{cases_lt}
 use Rattle.std.proofs.lemmas.Bool.Decides.{nat_tests}

@@ -23,6 +23,7 @@ pub record Entry : Type 0 where
   pub conflicts : List Text
   pub prereqs : List (List Text)
 
+-- the names of the entries
 abbrev pub names_of : List Entry → List Text
 names_of entries = map (λ x. x.name) entries
 
@@ -38,6 +39,7 @@ entries_from conflicts prereqs (name ∷ names) (file ∷ files) =
       prereqs = prereqs_among (words_in (prereqs name));
     } ∷ entries_from conflicts prereqs names files
 
+-- the first element that a text has for a module
 abbrev pub first_in : Option Text → Text → Option Text
 first_in text name = first_element name (elements_in text)
 
@@ -48,6 +50,7 @@ entries_in names files conflicts prereqs =
     then Some (entries_from (first_in conflicts) (first_in prereqs) (elements_in names) (elements_in files))
     else None
 
+-- the loaded modules of an environment; none where they are inconsistent
 abbrev pub loaded_in : Environment → Option (List Entry)
 loaded_in e = entries_in (lookup e names_variable) (lookup e files_variable) (lookup e conflicts_variable) (lookup e prereqs_variable)
 
@@ -55,6 +58,7 @@ loaded_in e = entries_in (lookup e names_variable) (lookup e files_variable) (lo
 abbrev pub names_text : List Entry → Option Text
 names_text entries = text_of (names_of entries)
 
+-- the paths, in the same order
 abbrev pub files_text : List Entry → Option Text
 files_text entries = text_of (map (λ x. x.path) entries)
 
@@ -63,9 +67,11 @@ abbrev pub conflict_elements : List Entry → List Text
 conflict_elements [] = []
 conflict_elements (x ∷ xs) = if has_names x.conflicts then element_of x.name x.conflicts ∷ conflict_elements xs else conflict_elements xs
 
+-- what the modules conflict with
 abbrev pub conflicts_text : List Entry → Option Text
 conflicts_text entries = text_of (conflict_elements entries)
 
+-- whether there is a group
 abbrev pub has_groups : List (List Text) → Bool
 has_groups [] = false
 has_groups (group ∷ groups) = true
@@ -75,6 +81,7 @@ abbrev pub prereq_elements : List Entry → List Text
 prereq_elements [] = []
 prereq_elements (x ∷ xs) = if has_groups x.prereqs then element_of x.name (map group_text x.prereqs) ∷ prereq_elements xs else prereq_elements xs
 
+-- what the modules need
 abbrev pub prereqs_text : List Entry → Option Text
 prereqs_text entries = text_of (prereq_elements entries)
 
@@ -119,6 +126,7 @@ can_be_added entries x = is_entry x && not (has x.name (names_of entries))
 abbrev pub kept_once : Entry → Entry
 kept_once x = record { name = x.name; path = x.path; conflicts = firsts x.conflicts; prereqs = x.prereqs }
 
+-- an entry added to the list that was read
 abbrev pub added_to : Environment → Entry → Option (List Entry) → Result Environment Refused
 added_to e x None = Err inconsistent
 added_to e x (Some entries) = if can_be_added entries x then Ok (with_loaded e (entries ++ kept_once x ∷ [])) else Err inconsistent
@@ -127,9 +135,11 @@ added_to e x (Some entries) = if can_be_added entries x then Ok (with_loaded e (
 abbrev pub added_loaded : Environment → Entry → Result Environment Refused
 added_loaded e x = added_to e x (loaded_in e)
 
+-- the entries of other modules
 abbrev pub without_entry : Text → List Entry → List Entry
 without_entry name entries = filter (λ x. not (bytes_eq name x.name)) entries
 
+-- a module dropped from the list that was read
 abbrev pub dropped_from : Environment → Text → Option (List Entry) → Result Environment Refused
 dropped_from e name None = Err inconsistent
 dropped_from e name (Some entries) = if has name (names_of entries) then Ok (with_loaded e (without_entry name entries)) else Ok e
@@ -143,10 +153,12 @@ abbrev pub entry_named : Text → List Entry → Option Entry
 entry_named name [] = None
 entry_named name (x ∷ xs) = if bytes_eq name x.name then Some x else entry_named name xs
 
+-- the conflicts of an entry, if there is one
 abbrev pub conflicts_of_entry : Option Entry → List Text
 conflicts_of_entry None = []
 conflicts_of_entry (Some x) = x.conflicts
 
+-- the groups of an entry, if there is one
 abbrev pub prereqs_of_entry : Option Entry → List (List Text)
 prereqs_of_entry None = []
 prereqs_of_entry (Some x) = x.prereqs
@@ -155,15 +167,19 @@ prereqs_of_entry (Some x) = x.prereqs
 abbrev pub conflicts_in : Environment → Text → Option (List Text)
 conflicts_in e name = option_map (λ entries. conflicts_of_entry (entry_named name entries)) (loaded_in e)
 
+-- what a loaded module needs; nothing where it is not loaded
 abbrev pub prereqs_in : Environment → Text → Option (List (List Text))
 prereqs_in e name = option_map (λ entries. prereqs_of_entry (entry_named name entries)) (loaded_in e)
 
+-- the texts that a vector holds
 abbrev pub texts_in : Vec (String Global) Global → List Text
 texts_in v = map string_bytes v.items
 
+-- the groups of texts that a vector holds
 abbrev pub groups_in : Vec (Vec (String Global) Global) Global → List (List Text)
 groups_in v = map texts_in v.items
 
+-- the entry that a value of the code is
 abbrev pub entry_of : Loaded → Entry
 entry_of x = record { name = string_bytes x.name; path = string_bytes x.path; conflicts = texts_in x.conflicts; prereqs = groups_in x.prereqs }
 
@@ -178,5 +194,6 @@ Answers view (Err (CounterFull var)) outcome = ⊥
 Answers view (Err (BadStack var)) outcome = ⊥
 Answers view (Err (BadValue var)) outcome = ⊥
 
+-- the answer is this list
 abbrev pub Lists : Result (Vec Loaded Global) EnvFault → Option (List Entry) → Type 0
 Lists result outcome = Answers (λ v. map entry_of v.items) result outcome

@@ -13,6 +13,7 @@ use Rattle.envstate.specs.PathTexts.{fields, firsts}
 abbrev pub names_variable : Text
 names_variable = codes "LOADEDMODULES"
 
+-- the variable of their files
 abbrev pub files_variable : Text
 files_variable = codes "_LMFILES_"
 
@@ -20,6 +21,7 @@ files_variable = codes "_LMFILES_"
 abbrev pub conflicts_variable : Text
 conflicts_variable = codes "__MODULES_LMCONFLICT"
 
+-- the variable of what they need
 abbrev pub prereqs_variable : Text
 prereqs_variable = codes "__MODULES_LMPREREQ"
 
@@ -27,6 +29,7 @@ prereqs_variable = codes "__MODULES_LMPREREQ"
 abbrev pub ampersand : ℕ
 ampersand = 38
 
+-- the bar, which parts the names of a group
 abbrev pub bar : ℕ
 bar = 124
 
@@ -36,6 +39,7 @@ elements_in None = []
 elements_in (Some []) = []
 elements_in (Some (b ∷ bs)) = fields (b ∷ bs)
 
+-- whether the text has no byte
 abbrev pub is_empty : Text → Bool
 is_empty [] = true
 is_empty (b ∷ bs) = false
@@ -49,10 +53,12 @@ are_consistent names files =
 abbrev pub parts_of : Text → List Text
 parts_of element = slice_split (λ b. b == ampersand) element
 
+-- the first part
 abbrev pub first_part : List Text → Text
 first_part [] = []
 first_part (part ∷ parts) = part
 
+-- the parts behind it
 abbrev pub later_parts : List Text → List Text
 later_parts [] = []
 later_parts (part ∷ parts) = parts
@@ -62,6 +68,7 @@ abbrev pub first_element : Text → List Text → Option Text
 first_element name [] = None
 first_element name (element ∷ elements) = if bytes_eq name (first_part (parts_of element)) then Some element else first_element name elements
 
+-- the words of an element, if there is one
 abbrev pub words_in : Option Text → List Text
 words_in None = []
 words_in (Some element) = later_parts (parts_of element)
@@ -74,9 +81,11 @@ names_among words = filter is_module_name words
 abbrev pub conflicts_among : List Text → List Text
 conflicts_among words = firsts (names_among words)
 
+-- the names of a group
 abbrev pub names_of_group : Text → List Text
 names_of_group word = names_among (slice_split (λ b. b == bar) word)
 
+-- whether there is a name
 abbrev pub has_names : List Text → Bool
 has_names [] = false
 has_names (name ∷ names) = true
@@ -89,6 +98,7 @@ prereqs_among words = filter has_names (map names_of_group words)
 abbrev pub element_of : Text → List Text → Text
 element_of name words = join_with_byte ampersand (name ∷ words)
 
+-- the text of a group
 abbrev pub group_text : List Text → Text
 group_text names = join_with_byte bar names
 

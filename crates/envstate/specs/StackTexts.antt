@@ -12,6 +12,7 @@ use Rattle.envstate.specs.PathTexts.{colon, text_of}
 use Rattle.envstate.specs.LoadedTexts.{ampersand}
 use Rattle.envstate.specs.Stacks.{Item, has_owner}
 
+-- the backslash
 abbrev pub backslash : ℕ
 backslash = 92
 
@@ -19,6 +20,7 @@ backslash = 92
 abbrev pub is_special : ℕ → Bool
 is_special c = c == backslash || c == colon
 
+-- the text with a backslash before each of these
 abbrev pub escaped : Text → Text
 escaped [] = []
 escaped (c ∷ cs) = if is_special c then backslash ∷ c ∷ escaped cs else c ∷ escaped cs
@@ -37,6 +39,7 @@ stack_elements (c ∷ k ∷ cs) =
 abbrev pub with_first : ℕ → Text × Text → Text × Text
 with_first c p = (c ∷ p.0, p.1)
 
+-- what stands before the first `&`, and behind it; none where there is no `&`
 abbrev pub cut : Text → Option (Text × Text)
 cut [] = None
 cut (c ∷ cs) = if c == ampersand then Some ([], cs) else option_map (with_first c) (cut cs)
@@ -46,13 +49,16 @@ abbrev pub owner_of : Text → Option Text
 owner_of [] = None
 owner_of (c ∷ cs) = Some (c ∷ cs)
 
+-- the item that an element says
 abbrev pub item_of : Text → Option Item
 item_of element = option_map (λ p. (owner_of p.0, p.1)) (cut element)
 
+-- the items that the elements say; none where one of them says none
 abbrev pub items_of_elements : List Text → Option (List Item)
 items_of_elements [] = Some []
 items_of_elements (element ∷ elements) = option_and_then (λ item. option_map (λ items. item ∷ items) (items_of_elements elements)) (item_of element)
 
+-- whether there is no item
 abbrev pub is_nothing : List Item → Bool
 is_nothing [] = true
 is_nothing (item ∷ items) = false
@@ -62,6 +68,7 @@ abbrev pub bottoms_last : List Item → Bool
 bottoms_last [] = true
 bottoms_last (item ∷ items) = (has_owner item.0 || is_nothing items) && bottoms_last items
 
+-- the owners of the items
 abbrev pub owners_of : List Item → List Text
 owners_of [] = []
 owners_of ((None, value) ∷ items) = owners_of items
@@ -71,6 +78,7 @@ owners_of ((Some owner, value) ∷ items) = owner ∷ owners_of items
 abbrev pub is_stack : List Item → Bool
 is_stack items = bottoms_last items && are_distinct (owners_of items)
 
+-- the items, where they are a stack
 abbrev pub only_stack : List Item → Option (List Item)
 only_stack items = if is_stack items then Some items else None
 
@@ -79,10 +87,12 @@ abbrev pub items_in : Option Text → Option (List Item)
 items_in None = Some []
 items_in (Some t) = option_and_then only_stack (items_of_elements (stack_elements t))
 
+-- what stands before the `&`
 abbrev pub owner_text : Option Text → Text
 owner_text None = []
 owner_text (Some owner) = owner
 
+-- the element of an item, without escapes
 abbrev pub element_text : Item → Text
 element_text item = owner_text item.0 ++ ampersand ∷ item.1
 
@@ -105,6 +115,7 @@ abbrev pub begun : Text → List Text → List Text
 begun text [] = text ∷ []
 begun text (element ∷ elements) = (text ++ element) ∷ elements
 
+-- what is left, with the backslash that was last
 abbrev pub after_escape : Bool → Text → Text
 after_escape escapes rest = if escapes then backslash ∷ rest else rest
 
@@ -112,8 +123,10 @@ after_escape escapes rest = if escapes then backslash ∷ rest else rest
 abbrev pub read_on : Reading → Text → List Text
 read_on reading rest = map string_bytes reading.elements.items ++ begun (string_bytes reading.element) (stack_elements (after_escape reading.escapes rest))
 
+-- the item that a value of the code is
 abbrev pub item_in : StackItem → Item
 item_in item = (option_map string_bytes item.owner, string_bytes item.value)
 
+-- the items that a vector holds
 abbrev pub items_seen : Vec StackItem Global → List Item
 items_seen v = map item_in v.items

@@ -10,6 +10,7 @@ use Rattle.envstate.specs.StackTexts.{items_in, stack_text, is_stack}
 use Rattle.envstate.specs.Environment.{Environment, lookup, with_value}
 use Rattle.envstate.specs.Refused.{Refused, bad_value, bad_stack, unless}
 
+-- the state of these items and of the value
 abbrev pub stack_from : Option (List Item) → Option Text → Option StackState
 stack_from None value = None
 stack_from (Some items) value = Some (record { items = items; value = value })
@@ -26,9 +27,11 @@ with_stack e name s = with_value (with_value e name s.value) (stack_name name) (
 abbrev pub push_refusal : Text → Text → Text → Option Refused
 push_refusal name owner value = option_or (name_refusal name) (if is_module_name owner && is_plain_value value then None else Some (bad_value name))
 
+-- the refusal of the variable's name, and then that of the module's name
 abbrev pub pop_refusal : Text → Text → Option Refused
 pop_refusal name owner = option_or (name_refusal name) (if is_module_name owner then None else Some (bad_value name))
 
+-- a value pushed on the stack that was read
 abbrev pub pushed_on : Environment → Text → Text → Text → Option StackState → Result Environment Refused
 pushed_on e name owner value None = Err (bad_stack name)
 pushed_on e name owner value (Some s) = Ok (with_stack e name (push s owner value))
@@ -46,6 +49,7 @@ popped_from e name owner (Some s) = if holds owner s.items then Ok (with_stack e
 abbrev pub popped_value : Environment → Text → Text → Result Environment Refused
 popped_value e name owner = unless (pop_refusal name owner) (popped_from e name owner (stack_in e name))
 
+-- a module that is loaded, or the bottom
 abbrev pub is_loaded_owner : List Text → Option Text → Bool
 is_loaded_owner loaded None = true
 is_loaded_owner loaded (Some owner) = has owner loaded

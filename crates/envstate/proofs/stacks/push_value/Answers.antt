@@ -1,4 +1,4 @@
-use Rattle.std.proofs.Common.{ap, ◌∙◌, map, Some, string_bytes}
+use Rattle.std.proofs.Common.{ap, ◌∙◌, map, Some}
 use Rattle.std.specs.Option.{option_map}
 use Rattle.envstate.specs.StackTexts.{item_in, items_seen}
 use Rattle.envstate.proofs.LoadedWriting.{written_edits}
