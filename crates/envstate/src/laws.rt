@@ -13,7 +13,7 @@ ghost use Rattle.envstate.specs.Changes as difference;
 ghost use Rattle.envstate.specs.Changes.{AreChanges, applied};
 ghost use Rattle.envstate.specs.declared.paths.End.{End};
 
-pub use crate::loaded_laws::loaded_texts;
+pub use crate::loaded_laws::{loaded_edits, loaded_texts};
 pub use crate::stack_laws::{stack_steps, stack_texts, stacks};
 
 /// After any adds, and drops that each undo one of them, what was there before stands as it was,
