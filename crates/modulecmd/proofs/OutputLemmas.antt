@@ -7,12 +7,12 @@ use Rattle.modulecmd.specs.declared.refuse.CommandFault.TheVariants.{WriteFailed
 use Rattle.modulecmd.specs.Command.{Effect, Objection}
 use Rattle.modulecmd.specs.Lines.{line_of}
 use Rattle.modulecmd.specs.Output.{IsAnswer, AppendsThenFails, Breaks}
-use Rattle.modulecmd.specs.Writing.{AppendsFront}
+use Rattle.modulecmd.specs.Writing.{AppendsPart}
 
 abbrev pub Half : Option Text → Option Text → Option Text → Option Text → Text → Text → Type 0
 Half out out' err err' words text =
     (Keeps out out' × AppendsThenFails err err' words)
-    ⊎ (AppendsFront out out' text × ((j : ℕ) × Appends err err' (words ++ take j (line_of WriteFailed))))
+    ⊎ (AppendsPart out out' text × ((j : ℕ) × Appends err err' (words ++ take j (line_of WriteFailed))))
 
 pub breaks : (e : Environment) (r : Result Effect Objection) (words text : Text) (out out' err err' : Option Text)
     → IsAnswer e r words text → Half out out' err err' words text → Breaks e r out out' err err'

@@ -93,6 +93,13 @@ pub record MakesOf (shell : Shell) (text : Text) (old new : Environment) : Type 
   pub says : IsText shell text settings
   pub made : new ≡ applied settings old
 
+-- The shell reads the text as the difference of two environments, exactly: a setting for each variable that differs, once, in
+-- the order of bytes, and nothing else.
+pub record SaysDifference (shell : Shell) (text : Text) (old new : Environment) : Type 0 where
+  pub settings : List Edit
+  pub exact : AreChanges old new settings
+  pub says : IsText shell text settings
+
 -- two lists of settings that one text says are one list
 abbrev pub OneReading : Type 0
 OneReading = (shell : Shell) (text : Text) (ss rs : List Edit) → IsText shell text ss → IsText shell text rs → ss ≡ rs
@@ -101,6 +108,6 @@ OneReading = (shell : Shell) (text : Text) (ss rs : List Edit) → IsText shell 
 abbrev pub OneEffect : Type 0
 OneEffect = (shell : Shell) (text : Text) (old new other : Environment) → MakesOf shell text old new → MakesOf shell text old other → new ≡ other
 
--- a text that says the exact difference of two environments makes the second of the first
+-- a text that says the difference of two environments makes the second of the first
 abbrev pub DifferenceMakes : Type 0
-DifferenceMakes = (shell : Shell) (text : Text) (old new : Environment) (cs : List Edit) → IsText shell text cs → AreChanges old new cs → MakesOf shell text old new
+DifferenceMakes = (shell : Shell) (text : Text) (old new : Environment) → SaysDifference shell text old new → MakesOf shell text old new

@@ -10,10 +10,9 @@ ghost use Rattle.modulecmd.specs.Command as spec;
 ghost use Rattle.modulecmd.specs.Command.{Objection, effect, HasReason, IsUnsaid, LacksText};
 ghost use Rattle.modulecmd.specs.Lines.{line_of};
 ghost use Rattle.modulecmd.specs.Output.{Accepts, AppendsThenFails, Breaks, IsAnswer, Refuses};
-ghost use Rattle.modulecmd.specs.Shells.{MakesOf};
-ghost use Rattle.modulecmd.specs.Writing.{AppendsFront};
+ghost use Rattle.modulecmd.specs.Shells.{SaysDifference};
+ghost use Rattle.modulecmd.specs.Writing.{AppendsPart};
 
-use crate::laws::difference_makes;
 use crate::print::print_changes;
 use crate::refuse::{CommandFault, write_refusal};
 use crate::writers::{Broken, write_bytes, write_parts};
@@ -64,12 +63,11 @@ fn command_of(alloc: Global, args: &[String]) -> Result<Request, CommandFault>
     }
 }
 
-/// The text that makes of the old environment the new one.
+/// The text that says the difference between the old environment and the new one.
 fn text_for(alloc: Global, shell: Shell, old: &Env, new: &Env) -> Result<String, CommandFault>
-    ensures text { IfOk result (λ text. MakesOf shell (string_bytes text) old.now new.now) }
+    ensures text { IfOk result (λ text. SaysDifference shell (string_bytes text) old.now new.now) }
     ensures refused { IfErr result (λ fault. HasReason fault (λ o. ⊥) (LacksText shell old.now new.now) ⊥) }
 {
-    difference_makes();
     let changes = changes(alloc, old, new)?;
     Ok(print_changes(alloc, shell, changes.as_slice())?)
 }
@@ -100,14 +98,14 @@ fn answer_of<T: Tree>(
     })
 }
 
-/// Writes the messages and the report, and then the text, until a write fails.
+/// Writes the messages and the report, and then the text, until a write fails. Then not all is written.
 fn write_answer<W: Write, E: Write>(answer: &Answer, out: &mut W, err: &mut E) -> Result<(), Broken>
     ensures whole { OnOk result (Appends (W.contents out.old) (W.contents out.new) (string_bytes answer.now.text)
         × Appends (E.contents err.old) (E.contents err.new) (string_bytes answer.now.messages ++ string_bytes answer.now.report)) }
     ensures broken { OnErr result (
         (Keeps (W.contents out.old) (W.contents out.new)
-        × AppendsFront (E.contents err.old) (E.contents err.new) (string_bytes answer.now.messages ++ string_bytes answer.now.report))
-        ⊎ (AppendsFront (W.contents out.old) (W.contents out.new) (string_bytes answer.now.text)
+        × AppendsPart (E.contents err.old) (E.contents err.new) (string_bytes answer.now.messages ++ string_bytes answer.now.report))
+        ⊎ (AppendsPart (W.contents out.old) (W.contents out.new) (string_bytes answer.now.text)
         × Appends (E.contents err.old) (E.contents err.new) (string_bytes answer.now.messages ++ string_bytes answer.now.report))) }
 {
     write_parts(err, &[answer.messages.as_str(), answer.report.as_str()])?;
@@ -115,7 +113,7 @@ fn write_answer<W: Write, E: Write>(answer: &Answer, out: &mut W, err: &mut E) -
 }
 
 /// Writes what an accepted command writes, and answers its status. After a failed write the line that tells of it is
-/// tried once.
+/// tried once, so that a beginning of it is written.
 fn finish<W: Write, E: Write>(answer: &Answer, out: &mut W, err: &mut E) -> u8
     ensures status { result ≤ 1 }
     ensures whole { result ≡ 0 → Appends (W.contents out.old) (W.contents out.new) (string_bytes answer.now.text)
@@ -123,7 +121,7 @@ fn finish<W: Write, E: Write>(answer: &Answer, out: &mut W, err: &mut E) -> u8
     ensures broken { result ≡ 1 →
         (Keeps (W.contents out.old) (W.contents out.new)
         × AppendsThenFails (E.contents err.old) (E.contents err.new) (string_bytes answer.now.messages ++ string_bytes answer.now.report))
-        ⊎ (AppendsFront (W.contents out.old) (W.contents out.new) (string_bytes answer.now.text)
+        ⊎ (AppendsPart (W.contents out.old) (W.contents out.new) (string_bytes answer.now.text)
         × ((j : ℕ) × Appends (E.contents err.old) (E.contents err.new)
         ((string_bytes answer.now.messages ++ string_bytes answer.now.report) ++ take j (line_of WriteFailed)))) }
 {
@@ -138,12 +136,15 @@ fn finish<W: Write, E: Write>(answer: &Answer, out: &mut W, err: &mut E) -> u8
 ///
 /// The arguments are the name of a shell and the words of a request. An accepted command writes the messages of
 /// modulefiles and its report to standard error, then the text for the shell to standard output, and ends with 0. That
-/// text, read by the shell, makes of the environment what the request's step makes of it.
+/// text says, as the shell reads it, each variable that the request's step changes, once, in the order of bytes, and
+/// nothing else: it makes of the environment what the step makes of it.
 ///
-/// A refused command writes nothing but the line that tells why, to standard error, and ends with 1. It is refused as
-/// the arguments or the step are, or by 31, 41 or 61 for want of memory, by 43 where the device failed in this call, or
-/// by 62 where the changes have no text in the shell. Where a write fails, 64, the command ends with 1: on standard
-/// error nothing has gone to standard output, on standard output a beginning of the text has.
+/// A refused command writes nothing but a beginning of the line that tells why, to standard error, and ends with 1. It is
+/// refused as the arguments or the step are, or by 1, 31, 41 or 61 for want of memory, by 43 where the device failed in
+/// this call, or by 62 where the changes have no text in the shell. Where a write fails, 64, the command ends with 1: on
+/// standard error a beginning of the messages and the report is there, not all, and nothing has gone to standard output;
+/// on standard output a beginning of the text is there, not all. Then a beginning of the line that tells of it follows on
+/// standard error.
 pub fn modulecmd<T: Tree, W: Write, E: Write>(
     alloc: Global,
     args: &[String],

@@ -11,7 +11,8 @@ pub fn one_effect()
     ensures { OneEffect }
 {}
 
-/// A text that says the exact difference of two environments makes the second of the first.
+/// A text that says the difference of two environments makes the second of the first: read by the shell, the text of an
+/// accepted command takes the environment to that of its step.
 pub fn difference_makes()
     ensures { DifferenceMakes }
 {

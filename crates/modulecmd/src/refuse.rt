@@ -234,7 +234,8 @@ fn message_of<'a>(fault: &'a CommandFault, digits: &'a mut Buffer) -> Message<'a
     }
 }
 
-/// Writes the line that tells of a refusal, without taking memory. It is tried once: a write that fails ends it.
+/// Writes the line that tells of a refusal, without taking memory. It is tried once: a write that fails ends it, and a
+/// beginning of the line is written.
 pub fn write_refusal<E: Write>(fault: &CommandFault, err: &mut E)
     ensures { AppendsFront (E.contents err.old) (E.contents err.new) (line_of fault.now) }
 {

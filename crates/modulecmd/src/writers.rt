@@ -1,8 +1,8 @@
 //! Writing until a write fails.
-ghost use Rattle.std.specs.Prelude.{OnOk};
+ghost use Rattle.std.specs.Prelude.{OnOk, OnErr};
 ghost use Rattle.std.specs.List.{flat_map};
 ghost use Rattle.std.specs.Io.KnownBytes.{Appends};
-ghost use Rattle.modulecmd.specs.Writing.{AppendsFront};
+ghost use Rattle.modulecmd.specs.Writing.{AppendsPart};
 
 use std::io::Write;
 
@@ -10,10 +10,11 @@ use std::io::Write;
 #[derive(Clone, Copy, Debug, PartialEq, Eq)]
 pub struct Broken;
 
-/// Writes the bytes until a write fails: one that answers 0, or any error, an interrupted one too.
+/// Writes the bytes until a write fails: one that answers 0, or any error, an interrupted one too. Then a beginning of the
+/// bytes is written, not all of them.
 pub fn write_bytes<W: Write>(to: &mut W, bytes: &[u8]) -> Result<(), Broken>
     ensures whole { OnOk result (Appends (W.contents to.old) (W.contents to.new) bytes.now) }
-    ensures front { AppendsFront (W.contents to.old) (W.contents to.new) bytes.now }
+    ensures broken { OnErr result (AppendsPart (W.contents to.old) (W.contents to.new) bytes.now) }
 {
     let mut done = 0;
     while done < bytes.len() {
@@ -26,10 +27,10 @@ pub fn write_bytes<W: Write>(to: &mut W, bytes: &[u8]) -> Result<(), Broken>
     Ok(())
 }
 
-/// Writes the parts one after another, without memory, until a write fails.
+/// Writes the parts one after another, without memory, until a write fails. Then a beginning of them is written, not all.
 pub fn write_parts<W: Write>(to: &mut W, parts: &[&str]) -> Result<(), Broken>
     ensures whole { OnOk result (Appends (W.contents to.old) (W.contents to.new) (flat_map (λ part. part.now) parts.now)) }
-    ensures front { AppendsFront (W.contents to.old) (W.contents to.new) (flat_map (λ part. part.now) parts.now) }
+    ensures broken { OnErr result (AppendsPart (W.contents to.old) (W.contents to.new) (flat_map (λ part. part.now) parts.now)) }
 {
     for part in parts {
         write_bytes(to, part.as_bytes())?;

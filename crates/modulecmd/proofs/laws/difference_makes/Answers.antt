@@ -2,8 +2,8 @@ use Rattle.std.proofs.Common.{sym}
 use Rattle.modulecmd.proofs.laws.difference_makes.Goals as goal
 
 pub returns : goal.returns
-returns c shell text old new cs says are = record {
-  settings = cs;
-  says = says;
-  made = sym (c.changes.ensures old new cs are);
+returns c shell text old new difference = record {
+  settings = difference.settings;
+  says = difference.says;
+  made = sym (c.changes.ensures old new difference.settings difference.exact);
 }
