@@ -101,9 +101,29 @@ fn modules_come_and_go(rt: HostRuntime) -> Result<(), Fail> {
         ),
         "its words"
     );
-    assert!(rt; conflicts_of(alloc, &env, "n/1")?.len() == 1, "conflicts");
-    assert!(rt; prereqs_of(alloc, &env, "n/1")?.len() == 1, "prereqs");
-    assert!(rt; loaded(alloc, &env)?.len() == 1, "the list");
+    Ok(())
+}
+
+#[test]
+fn an_entry_is_read_again(rt: HostRuntime) -> Result<(), Fail> {
+    let alloc = rt.alloc();
+    let mut env = Env::new(alloc);
+    add_loaded(
+        alloc,
+        &mut env,
+        &entry(alloc, "n/1", "/m/n/1", &["k"], &["gcc", "icc"])?,
+    )?;
+    let entries = loaded(alloc, &env)?;
+    assert_eq!(rt; entries.len(), 1);
+    assert_eq!(rt; entries[0].name.as_str(), "n/1");
+    assert_eq!(rt; entries[0].path.as_str(), "/m/n/1");
+    let conflicts = conflicts_of(alloc, &env, "n/1")?;
+    assert_eq!(rt; conflicts.len(), 1);
+    assert_eq!(rt; conflicts[0].as_str(), "k");
+    let prereqs = prereqs_of(alloc, &env, "n/1")?;
+    assert_eq!(rt; prereqs.len(), 1);
+    assert_eq!(rt; prereqs[0].len(), 2);
+    assert_eq!(rt; prereqs[0][1].as_str(), "icc");
     Ok(())
 }
 
