@@ -1,5 +1,5 @@
 -- Causes of refusals, carried from one outcome to another.
-use Rattle.std.proofs.Common.{◌≡◌, Result, Ok, Err, ap, sym, ◌∙◌, subst}
+use Rattle.std.proofs.Common.{◌≡◌, Result, Ok, Err, ap, ◌∙◌}
 use Rattle.lookup.specs.Agreement.{Files, Folders, Shows}
 use Rattle.envstate.specs.Environment.{Environment}
 use Rattle.modules.specs.declared.refusal.Refusal.{Refusal}

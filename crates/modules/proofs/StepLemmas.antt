@@ -1,5 +1,5 @@
 -- A request's step, by what its parts answered.
-use Rattle.std.proofs.Common.{◌≡◌, Bool, true, false, not, cond, nat_eq, List, [], ◌∷◌, map, find, reverse, Option, Some, None, IfSome, Result, Ok, Err, refl, sym, ap, ◌∙◌, subst}
+use Rattle.std.proofs.Common.{◌≡◌, Bool, true, false, not, cond, nat_eq, List, [], ◌∷◌, map, find, reverse, Option, Some, None, IfSome, Result, Ok, Err, refl, ap, ◌∙◌, subst}
 use Rattle.modulename.specs.ModuleName.{is_module_name, means}
 use Rattle.tcltext.specs.Tree.{Script, command_texts}
 use Rattle.tcltext.specs.Reading.{script_of}
@@ -15,10 +15,10 @@ use Rattle.modules.specs.declared.evaluate.Mode.TheVariants.{Load, Unload}
 use Rattle.modules.specs.declared.running.Limits.{Limits}
 use Rattle.modules.specs.Then.{◌>>=◌, refused_as}
 use Rattle.modules.specs.Reasons.{Reason, bad_edit, bad_text, missed, too_deep}
-use Rattle.modules.specs.Records.{Record, effects, conflict_names, prereq_groups}
+use Rattle.modules.specs.Records.{Record, effects, prereq_groups}
 use Rattle.modules.specs.Requests.{load, unload, only}
 use Rattle.modules.specs.Evaluation.{limited, records_of, evaluated}
-use Rattle.modules.specs.Steps.{Module, Move, Loads, Unloads, Done, done, entry_of, moved, move_by, move_at, load_move, unload_move, unload_meant, script_at, modulepath, entries_in, step}
+use Rattle.modules.specs.Steps.{Module, Move, Loads, Unloads, done, entry_of, move_by, move_at, load_move, unload_move, unload_meant, script_at, modulepath, entries_in, step}
 use Rattle.modules.specs.Running.{run_limited, left_by, left_loaded, left_unloaded}
 use Rattle.modules.specs.Answers.{Stands, edit_cause}
 use Rattle.modules.proofs.RunLemmas.{Both, Makes, limited_together}

@@ -1,5 +1,5 @@
 -- The commands of modulefiles that are known so far, and the record of each (modulefile(5)).
-use Rattle.std.specs.Prelude.{Bool, true, false, not, ◌||◌, ◌==◌, List, [], ◌∷◌, codes, if◌then◌else◌, Option, Some, None, Result, Ok, Err, bytes_eq, is_some}
+use Rattle.std.specs.Prelude.{Bool, false, not, ◌||◌, ◌==◌, List, [], ◌∷◌, codes, if◌then◌else◌, Option, Some, None, Result, Ok, Err, bytes_eq, is_some}
 use Rattle.std.specs.List.{list_any}
 use Rattle.envstate.specs.Texts.{Text, has}
 use Rattle.envstate.specs.Environment.{Environment, lookup}

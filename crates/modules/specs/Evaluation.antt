@@ -1,9 +1,9 @@
 -- The records of a modulefile of literal commands (Tcl(n), modulefile(5)).
-use Rattle.std.specs.Prelude.{ℕ, Bool, ◌==◌, List, [], ◌∷◌, length, take, map, nat_le, if◌then◌else◌, Result, Ok, Err}
+use Rattle.std.specs.Prelude.{ℕ, ◌==◌, List, [], ◌∷◌, length, take, map, nat_le, if◌then◌else◌, Result, Ok, Err}
 use Rattle.std.specs.List.{list_all}
 use Rattle.envstate.specs.Texts.{Text}
 use Rattle.envstate.specs.Environment.{Environment}
-use Rattle.tcltext.specs.Tree.{Script, command_texts}
+use Rattle.tcltext.specs.Tree.{command_texts}
 use Rattle.tcltext.specs.Reading.{script_of}
 use Rattle.modules.specs.declared.running.Limits.{Limits}
 use Rattle.modules.specs.Then.{◌>>=◌, refused_as}

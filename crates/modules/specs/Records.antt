@@ -1,5 +1,5 @@
 -- What an accepted command of a modulefile asks for, and what that makes of an environment (modulefile(5)).
-use Rattle.std.specs.Prelude.{◌≡◌, Bool, not, List, [], ◌∷◌, ◌++◌, filter, Option, Some, None, Result, Ok, Err, bytes_eq}
+use Rattle.std.specs.Prelude.{List, [], ◌∷◌, ◌++◌, Some, None, Result, Ok}
 use Rattle.envstate.specs.Texts.{Text}
 use Rattle.envstate.specs.Environment.{Environment, with_value}
 use Rattle.envstate.specs.Refused.{Refused}

@@ -1,5 +1,5 @@
 -- What a request makes of an environment, over the files of a tree (module(1)).
-use Rattle.std.specs.Prelude.{Bool, ◌||◌, not, List, [], ◌∷◌, codes, reverse, find, if◌then◌else◌, Option, Some, None, is_some, unwrap_or, Result, Ok, Err}
+use Rattle.std.specs.Prelude.{◌||◌, not, List, [], ◌∷◌, codes, reverse, find, if◌then◌else◌, Option, Some, None, is_some, unwrap_or, Result, Ok, Err}
 use Rattle.modulename.specs.ModuleName.{is_module_name, means}
 use Rattle.envstate.specs.Texts.{Text, has}
 use Rattle.envstate.specs.Environment.{Environment, lookup}

@@ -1,4 +1,3 @@
-use Rattle.std.proofs.Common.{rules, arith, tests, ◌≡◌, map, string_bytes, ℕ, length, Bool, true, false, List, [], ◌∷◌, ◌++◌, ◌+◌, sym, ap, ◌∙◌, refl, Ok, Err, Result, drop, take}
 use Rattle.modules.proofs.command.run_call.Goals as goal
 
 pub returns-in-Setenv : goal.returns-in-Setenv

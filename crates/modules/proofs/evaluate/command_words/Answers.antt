@@ -1,4 +1,4 @@
-use Rattle.std.proofs.Common.{rules, arith, tests, ◌≡◌, map, string_bytes, ℕ, length, Bool, true, false, List, [], ◌∷◌, ◌++◌, ◌+◌, sym, ap, ◌∙◌, refl, Ok, Err, Result, drop, take, cond, nat_le}
+use Rattle.std.proofs.Common.{rules}
 use Rattle.modules.proofs.RunLemmas.{within-too_long}
 use Rattle.modules.proofs.evaluate.command_words.Goals as goal
 

@@ -1,4 +1,4 @@
-use Rattle.std.proofs.Common.{◌≡◌, ◌++◌, map, take, drop, length, nat_le, true, string_bytes}
+use Rattle.std.proofs.Common.{◌≡◌, map, take, length, nat_le, true, string_bytes}
 use Rattle.std.specs.List.{list_all}
 use Rattle.tcltext.specs.Tree.{word_text}
 use Rattle.tcltext.specs.View.{word_view}

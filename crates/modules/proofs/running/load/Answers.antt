@@ -1,12 +1,11 @@
-use Rattle.std.proofs.Common.{rules, arith, tests, ◌≡◌, map, string_bytes, ℕ, length, Bool, true, false, List, [], ◌∷◌, ◌++◌, ◌+◌, sym, ap, ◌∙◌, refl, Ok, Err, Result, Some, drop, take, cond, nat_le}
-use Rattle.std.proofs.lemmas.Result.{err_from_is_err_and}
+use Rattle.std.proofs.Common.{map, string_bytes, sym, ◌∙◌}
 use Rattle.envstate.specs.Loaded.{entry_of}
-use Rattle.modules.specs.Steps.{Loads, Unloads}
-use Rattle.modules.specs.declared.evaluate.Mode.TheVariants.{Load, Unload}
+use Rattle.modules.specs.Steps.{Loads}
+use Rattle.modules.specs.declared.evaluate.Mode.TheVariants.{Load}
 use Rattle.modules.specs.Answers.{done_of}
-use Rattle.modules.specs.Running.{left_by, left_loaded, left_unloaded}
-use Rattle.modules.proofs.Refusals.{tells_given, tells_along}
-use Rattle.modules.proofs.StepLemmas.{load_left, unload_left, step-load, step-unload}
+use Rattle.modules.specs.Running.{left_by, left_loaded}
+use Rattle.modules.proofs.Refusals.{tells_given}
+use Rattle.modules.proofs.StepLemmas.{load_left}
 use Rattle.modules.proofs.running.load.Goals as goal
 
 pub returns-clause-answer : goal.returns-clause-answer

@@ -1,14 +1,8 @@
-use Rattle.std.proofs.Common.{rules, arith, tests, ◌≡◌, map, string_bytes, ℕ, length, Bool, true, false, List, [], ◌∷◌, ◌++◌, ◌+◌, sym, ap, ◌∙◌, refl, Ok, Err, Result, Some, drop, take, cond, nat_le}
-use Rattle.std.proofs.lemmas.Result.{err_from_is_err_and}
+use Rattle.std.proofs.Common.{map, string_bytes}
 use Rattle.envstate.specs.Loaded.{entry_of}
-use Rattle.modules.specs.Steps.{Loads, Unloads}
-use Rattle.modules.specs.declared.evaluate.Mode.TheVariants.{Load, Unload}
 use Rattle.modules.specs.Answers.{done_of}
-use Rattle.modules.specs.Running.{left_by, left_loaded, left_unloaded}
-use Rattle.modules.proofs.Refusals.{tells_given, tells_along}
-use Rattle.modules.proofs.StepLemmas.{load_left, unload_left, step-load, step-unload}
-use Rattle.modules.specs.Steps.{step}
-use Rattle.modules.specs.Requests.{asked}
+use Rattle.modules.proofs.Refusals.{tells_along}
+use Rattle.modules.proofs.StepLemmas.{step-load, step-unload}
 use Rattle.modules.proofs.running.run.Goals as goal
 
 pub returns-in_ok-entries-in-Load-clause-answer : goal.returns-in_ok-entries-in-Load-clause-answer

@@ -1,16 +1,13 @@
-use Rattle.std.proofs.Common.{rules, arith, tests, ◌≡◌, map, string_bytes, ℕ, length, Bool, true, false, List, [], ◌∷◌, ◌++◌, ◌+◌, sym, ap, ◌∙◌, refl, Ok, Err, Result, Some, drop, take, cond, nat_le}
+use Rattle.std.proofs.Common.{◌≡◌, string_bytes, [], ap, ◌∙◌, Ok, Err}
 use Rattle.std.proofs.lemmas.Result.{err_from_is_err_and}
-use Rattle.envstate.specs.Environment.{Environment}
 use Rattle.envstate.specs.Refused.{refused_of}
-use Rattle.envstate.specs.Loaded.{added_loaded, dropped_loaded, entry_of}
-use Rattle.modules.specs.declared.evaluate.Mode.TheVariants.{Load, Unload}
+use Rattle.envstate.specs.Loaded.{dropped_loaded}
+use Rattle.modules.specs.declared.evaluate.Mode.TheVariants.{Unload}
 use Rattle.modules.specs.Then.{◌>>=◌, refused_as}
 use Rattle.modules.specs.Reasons.{bad_edit}
-use Rattle.modules.specs.Steps.{Loads, Unloads, Done}
+use Rattle.modules.specs.Steps.{Unloads}
 use Rattle.modules.specs.Running.{left_by}
-use Rattle.modules.specs.Answers.{cause_of}
-use Rattle.modules.proofs.Refusals.{stands_as}
-use Rattle.modules.proofs.StepLemmas.{recorded, loaded_left, unloaded_left, left_refused, edit_stands, bare_entry}
+use Rattle.modules.proofs.StepLemmas.{recorded, unloaded_left, edit_stands}
 use Rattle.modules.proofs.running.unload_text.Goals as goal
 
 pub returns-in_err-drop_loaded : goal.returns-in_err-drop_loaded

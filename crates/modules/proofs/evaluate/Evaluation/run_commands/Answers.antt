@@ -1,4 +1,4 @@
-use Rattle.std.proofs.Common.{rules, arith, tests, ◌≡◌, map, string_bytes, ℕ, length, Bool, true, false, List, [], ◌∷◌, ◌++◌, ◌+◌, sym, ap, ◌∙◌, refl, Ok, Err, Result, drop, take, cond, nat_le}
+use Rattle.std.proofs.Common.{map, ◌+◌, sym, ap, ◌∙◌, drop}
 use Rattle.std.proofs.lemmas.Result.{err_from_is_err_and}
 use Rattle.modules.specs.Answers.{cause_of}
 use Rattle.modules.specs.Running.{run_command, run_commands}

@@ -1,11 +1,6 @@
-use Rattle.std.proofs.Common.{rules, arith, tests, ◌≡◌, map, string_bytes, ℕ, length, Bool, true, false, List, [], ◌∷◌, ◌++◌, ◌+◌, sym, ap, ◌∙◌, refl, Ok, Err, Result, drop, take, cond, nat_le}
+use Rattle.std.proofs.Common.{arith}
 use Rattle.std.proofs.lemmas.Result.{err_from_is_err_and}
-use Rattle.std.proofs.lemmas.List.{take-map}
-use Rattle.std.proofs.lemmas.Bool.Decides.{nat_tests}
-use Rattle.tcltext.specs.Tree.{command_texts}
-use Rattle.tcltext.specs.View.{command_view}
 use Rattle.modules.specs.Answers.{cause_of}
-use Rattle.modules.specs.Running.{run_commands, run_limited}
 use Rattle.modules.proofs.RunLemmas.{run_limited-refused, run_limited-more}
 use Rattle.modules.proofs.Refusals.{stands_as}
 use Rattle.modules.proofs.evaluate.Evaluation.run_limited.Goals as goal
