@@ -173,7 +173,11 @@ fn with_pair(
 {
     match text {
         None => format!(in alloc; "{element}:{count}"),
-        Some(text) => format!(in alloc; "{text}:{element}:{count}"),
+        Some(mut text) => {
+            let pair = format!(in alloc; ":{element}:{count}")?;
+            text.push_str(pair.as_str())?;
+            Ok(text)
+        }
     }
 }
 
