@@ -19,7 +19,7 @@ use Rattle.tclscript.specs.Grammar.{IsName, IsLongestName, is_colon, IsLiteral, 
 use Rattle.tclscript.specs.Faults.{CommandsFault, PartsFault, PartFault}
 use Rattle.tclscript.specs.Faults as faults
 use Rattle.tclscript.specs.Reading.{Inner, on_mark, closed, bracket_at, index_at, braced_name_at, plain_variable, after_name, dollar_at}
-use Rattle.tclscript.proofs.Passes.{pass_whole}
+use Rattle.tclscript.proofs.PassedOver.{pass_whole}
 use Rattle.tclscript.proofs.Names.{name_longest, name_again, longest_before}
 use Rattle.tclscript.proofs.Exact.{Took, Exact, bind_ok, bind_err, ok_pair, read_map_ok, read_map_err, ok_err, err_same}
 use Rattle.tclscript.proofs.Marks.{true_false, not_true, Without, mark_at, on_mark-at, on_mark-not, closed_ok, closed_err, closed-at, none_before, run_taken, front_run, back_run}

@@ -9,7 +9,7 @@ use Rattle.tclscript.specs.declared.runs.Passing.TheVariants.{Name, Colons}
 use Rattle.tclscript.specs.Passing.{colon, step, step_name, put_before, pass_on, pass}
 use Rattle.tclscript.specs.Grammar as grammar
 use Rattle.tclscript.specs.Grammar.{IsName, IsLongestName, is_colon}
-use Rattle.tclscript.proofs.Passes.{pass_whole, pass-nil, pass-on, pass-stop, is_byte}
+use Rattle.tclscript.proofs.PassedOver.{pass_whole, pass-nil, pass-on, pass-stop, is_byte}
 
 -- in a name, or behind one of several colons
 abbrev naming : Bool → Passing
