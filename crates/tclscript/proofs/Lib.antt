@@ -1,0 +1,7 @@
+pub mod Ends
+pub mod Escapes
+pub mod Passes
+pub mod Rests
+pub mod Readers
+pub mod Going
+pub mod Loops

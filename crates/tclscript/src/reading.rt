@@ -1,4 +1,4 @@
-ghost use Rattle.std.specs.Prelude.{◌≡◌, ◌∷◌, length, suc, false, option_map};
+ghost use Rattle.std.specs.Prelude.{◌≡◌, ◌∷◌, ◌<◌, length, suc, option_map};
 ghost use Rattle.tclchars.specs.Reading.{Gives};
 ghost use Rattle.tclscript.specs.Pieces.{IsEndOf, IsFrontOf};
 ghost use Rattle.tclscript.specs.Tree as tree;
