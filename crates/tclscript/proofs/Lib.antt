@@ -3,5 +3,6 @@ pub mod Escapes
 pub mod Passes
 pub mod Rests
 pub mod Readers
+pub mod Scans
 pub mod Going
 pub mod Loops

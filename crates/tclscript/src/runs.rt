@@ -124,17 +124,13 @@ pub(crate) fn split_passed(text: &str, start: Passing) -> (&str, &str)
 {
     let bytes = text.as_bytes();
     let mut passing = start;
-    let mut rest = bytes;
-    while let [b, after @ ..] = rest {
-        match step(passing, *b, after) {
-            None => return text.split_at(bytes.len() - rest.len()),
-            Some(next) => {
-                passing = next;
-                rest = after;
-            }
+    for (n, b) in bytes.iter().enumerate() {
+        match step(passing, *b, &bytes[n + 1..]) {
+            None => return text.split_at(n),
+            Some(next) => passing = next,
         }
     }
-    text.split_at(bytes.len())
+    text.split_at(text.len())
 }
 
 /// What follows the blanks in front.
