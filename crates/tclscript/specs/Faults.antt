@@ -83,14 +83,18 @@ mutual
 abbrev pub IsFault : ℕ → Text → Fault → Type 0
 IsFault d bs f = CommandsFault d false bs f
 
--- the text's first fault, with the place of its mark from the front
+-- the first fault of a text within the limit, whose mark stands at that place from the front
+abbrev pub IsFaultAt : Text → ℕ → (ℕ → Fault) → Type 0
+IsFaultAt bs at mark = (length bs ≤ max_bytes) × (left : ℕ) × (at + left ≡ length bs) × IsFault max_nesting bs (mark left)
+
+-- What is wrong with a text, by the limits and the first fault. Want of memory says nothing of the text.
 abbrev pub IsTextFault : Text → TextFault → Type 0
 IsTextFault bs faults.OutOfMemory = Unit {0}
-IsTextFault bs (faults.OpenBrace at) = (left : ℕ) × (at + left ≡ length bs) × IsFault max_nesting bs (OpenBrace left)
-IsTextFault bs (faults.OpenQuote at) = (left : ℕ) × (at + left ≡ length bs) × IsFault max_nesting bs (OpenQuote left)
-IsTextFault bs (faults.OpenBracket at) = (left : ℕ) × (at + left ≡ length bs) × IsFault max_nesting bs (OpenBracket left)
-IsTextFault bs (faults.JoinedToClose at) = (left : ℕ) × (at + left ≡ length bs) × IsFault max_nesting bs (JoinedToClose left)
-IsTextFault bs faults.TooDeep = IsFault max_nesting bs TooDeep
-IsTextFault bs (faults.BadCharacter at) = (left : ℕ) × (at + left ≡ length bs) × IsFault max_nesting bs (BadCharacter left)
+IsTextFault bs (faults.OpenBrace at) = IsFaultAt bs at (λ left. OpenBrace left)
+IsTextFault bs (faults.OpenQuote at) = IsFaultAt bs at (λ left. OpenQuote left)
+IsTextFault bs (faults.OpenBracket at) = IsFaultAt bs at (λ left. OpenBracket left)
+IsTextFault bs (faults.JoinedToClose at) = IsFaultAt bs at (λ left. JoinedToClose left)
+IsTextFault bs faults.TooDeep = (length bs ≤ max_bytes) × IsFault max_nesting bs TooDeep
+IsTextFault bs (faults.BadCharacter at) = IsFaultAt bs at (λ left. BadCharacter left)
 IsTextFault bs (faults.BadExpression at) = ⊥
 IsTextFault bs faults.TooLong = max_bytes < length bs
