@@ -6,3 +6,6 @@ pub mod Readers
 pub mod Scans
 pub mod Going
 pub mod Loops
+pub mod Turns
+pub mod Views
+pub mod Nested

@@ -218,6 +218,9 @@ module _ (inner : Inner) (inside : InnerLeaves inner) (nested : Bool) where
         (λ h. tt))
       (λ h. tt)
 
+  pub expanded_end : (bs rest : Text) → Some rest ≡ after_expansion nested bs → IsEndOf bs rest
+  expanded_end bs rest is = let b : IsBehind bs rest = subst (IsBehindSome bs) (sym is) (expansion_behind bs) in b.0
+
   from_behind : (bs : Text) (found : Option Text) → IsBehindSome bs found → word_ends nested bs ≡ false → Leaves (IsBehind bs) (word_from nested inner bs found)
   from_behind bs None b e = leaves_map (IsBehind bs) (word_of false) _ (plain_word_behind bs e)
   from_behind bs (Some xs) b e = leaves_map (IsBehind bs) (word_of true) _ (leaves_also (IsEndOf xs) (IsBehind bs) _ (λ rest f. behind_through bs xs rest b f) (plain_word_leaves xs))
