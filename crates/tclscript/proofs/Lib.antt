@@ -9,3 +9,4 @@ pub mod Loops
 pub mod Turns
 pub mod Views
 pub mod Nested
+pub mod Within
