@@ -10,3 +10,14 @@ pub mod Turns
 pub mod Views
 pub mod Nested
 pub mod Within
+pub mod PassedOver
+pub mod Names
+pub mod Exact
+pub mod Marks
+pub mod Dollars
+pub mod PartsExact
+pub mod PartFaults
+pub mod WordsExact
+pub mod ScriptExact
+pub mod Whole
+pub mod Examples
