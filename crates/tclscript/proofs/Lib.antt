@@ -6,6 +6,10 @@ pub mod Readers
 pub mod Scans
 pub mod Going
 pub mod Loops
+pub mod Turns
+pub mod Views
+pub mod Nested
+pub mod Within
 pub mod PassedOver
 pub mod Names
 pub mod Exact
