@@ -1,5 +1,5 @@
 -- Runs of bytes and what follows them.
-use Rattle.std.proofs.Common.{◌≡◌, ◌≢◌, ℕ, ◌≤◌, List, [], ◌∷◌, ◌++◌, length, Bool, true, false, not, ◌==◌, refl, sym, ap, ◌∙◌, arith}
+use Rattle.std.proofs.Common.{◌≡◌, ◌≢◌, ℕ, ◌≤◌, List, [], ◌∷◌, ◌++◌, length, Bool, true, false, not, ◌==◌, refl, ap, ◌∙◌, arith}
 use Rattle.std.proofs.lemmas.Bool.Decides.{nat_tests}
 use Rattle.tclchars.specs.Bytes.{AllPass, MayBegin}
 use Rattle.tclchars.specs.Runs.{Text, front, back}
@@ -61,4 +61,3 @@ back_run p [] (y ∷ ys) h k = back-cons_false p y ys (not_true (p y) k) where
   not_true true h = cc
   not_true false h = refl
 back_run p (x ∷ xs) ys h k = back-cons_true p x (xs ++ ys) h.0 ∙ back_run p xs ys h.1 k
-

@@ -3,6 +3,8 @@
 
 mod laws;
 mod read;
+#[cfg(test)]
+mod tests;
 mod write;
 
 pub use laws::{list_of_grammar, list_round_trip, one_list, one_list_fault};

@@ -12,7 +12,8 @@ ghost use Rattle.tcllist.specs.Ends.{ends_piece, is_plain_before};
 
 use std::alloc::Global;
 use tclchars::{
-    Class, Fault, ReadError, TextFault, after_mark, begins_class, place, read_backslash, split_close, split_front,
+    Class, Fault, ReadError, TextFault, after_mark, begins_class, place, read_backslash,
+    split_close, split_front,
 };
 
 /// The elements of a list (Tcl(n), lindex(n)): they are parted by white space. One in braces is taken as it stands; in one that
