@@ -19,8 +19,8 @@ use Rattle.tclscript.specs.Passing.{pass, skip_blanks, skip_gap}
 
 -- what is read behind this mark where the text begins with it, or otherwise
 abbrev pub on_mark : {A : Type 0} → ℕ → Text → (Text → A) → A → A
-on_mark mark [] yes no = no
-on_mark mark (b ∷ bs) yes no = if b == mark then yes bs else no
+on_mark mark [] behind other = other
+on_mark mark (b ∷ bs) behind other = if b == mark then behind bs else other
 
 -- what follows the mark that closes, or the fault where it is missing
 abbrev pub closed : ℕ → Fault → Text → Result Text Fault

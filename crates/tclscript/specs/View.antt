@@ -9,7 +9,7 @@ use Rattle.tclscript.specs.declared.tree.Part as rust_part
 
 -- Level by level: a command with the text of its first word
 
-abbrev pub part_step : {P : Type 0} → (P → Text) → rust_part.Part-F P Part Word (Text × Words) Commands → Part
+abbrev pub part_step : {P : Type 0} → (P → Text) → rust_part.Part-F P Part (Text × Words) Commands Word → Part
 part_step shown (rust_part.Part-F.Literal s) = literal (shown s)
 part_step shown (rust_part.Part-F.Braced s) = braced (shown s)
 part_step shown (rust_part.Part-F.Backslash c) = backslash (encode_utf8 c)
@@ -17,26 +17,26 @@ part_step shown (rust_part.Part-F.Variable s) = variable (shown s)
 part_step shown (rust_part.Part-F.Indexed s ps) = indexed (shown s) (parts_of ps.items)
 part_step shown (rust_part.Part-F.Bracket script) = bracket script
 
-abbrev pub word_step : {P : Type 0} → rust_word.Word-F P Part Word (Text × Words) Commands → Word
+abbrev pub word_step : {P : Type 0} → rust_word.Word-F P Part (Text × Words) Commands Word → Word
 word_step w = word_of w.expands (parts_of w.parts.items)
 
-abbrev pub command_step : {P : Type 0} → (P → Text) → Command-F P Part Word (Text × Words) Commands → Text × Words
+abbrev pub command_step : {P : Type 0} → (P → Text) → Command-F P Part (Text × Words) Commands Word → Text × Words
 command_step shown c = (shown c.source, words_of c.words.items)
 
-abbrev pub script_step : {P : Type 0} → Script-F P Part Word (Text × Words) Commands → Commands
+abbrev pub script_step : {P : Type 0} → Script-F P Part (Text × Words) Commands Word → Commands
 script_step s = commands_of s.commands.items
 
 abbrev pub part_view : {P : Type 0} → (P → Text) → rust_part.Part P → Part
-part_view {P} shown = rust_part.fold-Part P Part Word (Text × Words) Commands (part_step shown) word_step (command_step shown) script_step
+part_view {P} shown = rust_part.fold-Part P Part (Text × Words) Commands Word (part_step shown) (command_step shown) script_step word_step
 
 abbrev pub word_view : {P : Type 0} → (P → Text) → rust_word.Word P → Word
-word_view {P} shown = rust_word.fold-Word P Part Word (Text × Words) Commands (part_step shown) word_step (command_step shown) script_step
+word_view {P} shown = rust_word.fold-Word P Part (Text × Words) Commands Word (part_step shown) (command_step shown) script_step word_step
 
 abbrev pub command_view : {P : Type 0} → (P → Text) → Command P → Text × Words
-command_view {P} shown = fold-Command P Part Word (Text × Words) Commands (part_step shown) word_step (command_step shown) script_step
+command_view {P} shown = fold-Command P Part (Text × Words) Commands Word (part_step shown) (command_step shown) script_step word_step
 
 abbrev pub script_view : {P : Type 0} → (P → Text) → Script P → Commands
-script_view {P} shown = fold-Script P Part Word (Text × Words) Commands (part_step shown) word_step (command_step shown) script_step
+script_view {P} shown = fold-Script P Part (Text × Words) Commands Word (part_step shown) (command_step shown) script_step word_step
 
 abbrev pub parts_view : {P : Type 0} → (P → Text) → List (rust_part.Part P) → Parts
 parts_view shown ps = parts_of (map (part_view shown) ps)

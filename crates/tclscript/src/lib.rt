@@ -10,6 +10,6 @@ mod tree;
 #[cfg(test)]
 mod tests;
 
-pub use piece::{ByteRange, Piece};
+pub use piece::{ByteRange, Source};
 pub use text::{MAX_BYTES, MAX_NESTING, parse_pieces, parse_script};
 pub use tree::{Command, Part, Script, Word};

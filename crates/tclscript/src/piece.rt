@@ -2,22 +2,26 @@ ghost use Rattle.std.specs.Prelude.{◌≡◌, ◌-◌, take, drop};
 ghost use Rattle.tclchars.specs.Runs.{Text};
 ghost use Rattle.tclscript.specs.Pieces.{IsEndOf, IsFrontOf};
 
-/// What stands for a piece of a source text.
-pub trait Piece<'a>: Sized + Drop {
-    ghost shown: { Text → Self → Text };
+/// A source text, with what stands for a piece of it.
+pub trait Source<P> {
+    ghost text: { Self → Text };
+    ghost shown: { Self → P → Text };
 
     /// The piece at the front of `rest`, which is an end of the source.
-    fn cut(source: &'a str, rest: &'a str, piece: &'a str) -> Self
-        requires end { IsEndOf source.now rest.now }
+    fn cut(&self, rest: &str, piece: &str) -> P
+        requires end { IsEndOf (text self.now) rest.now }
         requires front { IsFrontOf rest.now piece.now }
-        ensures { shown source.now result ≡ piece.now };
+        ensures { shown self.now result ≡ piece.now };
 }
 
-impl<'a> Piece<'a> for &'a str {
-    ghost shown = { λ source s. s.now };
+impl<'a> Source<&'a str> for &'a str {
+    ghost text = { λ source. source.now };
 
-    fn cut(source: &'a str, rest: &'a str, piece: &'a str) -> &'a str {
-        piece
+    ghost shown = { λ source piece. piece.now };
+
+    fn cut(&self, rest: &str, piece: &str) -> &'a str {
+        let from_rest = self.split_at(self.len() - rest.len()).1;
+        from_rest.split_at(piece.len()).0
     }
 }
 
@@ -28,11 +32,13 @@ pub struct ByteRange {
     pub end: usize,
 }
 
-impl<'a> Piece<'a> for ByteRange {
-    ghost shown = { λ source r. take (r.end - r.start) (drop r.start source) };
+impl<'a> Source<ByteRange> for &'a str {
+    ghost text = { λ source. source.now };
 
-    fn cut(source: &'a str, rest: &'a str, piece: &'a str) -> ByteRange {
-        let start = source.len() - rest.len();
+    ghost shown = { λ source range. take (range.end - range.start) (drop range.start source.now) };
+
+    fn cut(&self, rest: &str, piece: &str) -> ByteRange {
+        let start = self.len() - rest.len();
         ByteRange { start, end: start + piece.len() }
     }
 }

@@ -6,7 +6,7 @@ ghost use Rattle.tclscript.specs.Reading.{closed, ended, after_expansion, inner_
 ghost use Rattle.tclscript.specs.View.{script_view, command_view, word_view, part_view, parts_view};
 
 use crate::context::{Context, bare, class_of, command_ends, parts_end, script_ends, word_ends};
-use crate::piece::Piece;
+use crate::piece::Source;
 use crate::runs::{Passing, skip_blanks, skip_gap, split_passed};
 use crate::tree::{Command, Part, Script, Word};
 use std::alloc::Global;
@@ -50,41 +50,41 @@ fn after_expansion(text: &str, nested: bool) -> Option<&str>
 }
 
 // What was read of the text before that rest.
-fn taken<'a, P: Piece<'a>>(source: &'a str, text: &'a str, rest: &'a str) -> P
-    requires text { IsEndOf source.now text.now }
+fn taken<'a, S: Source<P>, P: Drop>(source: &S, text: &'a str, rest: &'a str) -> P
+    requires text { IsEndOf (S.text source.now) text.now }
     requires rest { IsEndOf text.now rest.now }
-    ensures { P.shown source.now result ≡ taken text.now rest.now }
+    ensures { S.shown source.now result ≡ taken text.now rest.now }
 {
-    P::cut(source, text, text.split_at(text.len() - rest.len()).0)
+    source.cut(text, text.split_at(text.len() - rest.len()).0)
 }
 
-fn read_literal<'a, P: Piece<'a>>(source: &'a str, text: &'a str, context: Context) -> (Part<P>, &'a str)
-    requires { IsEndOf source.now text.now }
-    ensures { literal_at context text.now ≡ Ok (part_view (P.shown source.now) result.0, result.1.now) }
+fn read_literal<'a, S: Source<P>, P: Drop>(source: &S, text: &'a str, context: Context) -> (Part<P>, &'a str)
+    requires { IsEndOf (S.text source.now) text.now }
+    ensures { literal_at context text.now ≡ Ok (part_view (S.shown source.now) result.0, result.1.now) }
 {
     let (run, rest) = split_front(text, class_of(context));
-    (Part::Literal(P::cut(source, text, run)), rest)
+    (Part::Literal(source.cut(text, run)), rest)
 }
 
 // A name without a parenthesis, behind a dollar; without a name the dollar is itself.
-fn plain_variable<'a, P: Piece<'a>>(source: &'a str, text: &'a str, behind: &'a str, name: &'a str) -> Part<P>
-    requires text { IsEndOf source.now text.now }
+fn plain_variable<'a, S: Source<P>, P: Drop>(source: &S, text: &'a str, behind: &'a str, name: &'a str) -> Part<P>
+    requires text { IsEndOf (S.text source.now) text.now }
     requires dollar { text.now ≡ 36 ∷ behind.now }
     requires name { IsFrontOf behind.now name.now }
-    ensures { part_view (P.shown source.now) result ≡ plain_variable name.now }
+    ensures { part_view (S.shown source.now) result ≡ plain_variable name.now }
 {
     if name.is_empty() {
         Part::Literal(taken(source, text, behind))
     } else {
-        Part::Variable(P::cut(source, behind, name))
+        Part::Variable(source.cut(behind, name))
     }
 }
 
 // Behind a backslash, which stands in front of the text; at the text's end it is itself.
-fn read_escape<'a, P: Piece<'a>>(source: &'a str, text: &'a str, behind: &'a str) -> Result<(Part<P>, &'a str), ReadError>
-    requires text { IsEndOf source.now text.now }
+fn read_escape<'a, S: Source<P>, P: Drop>(source: &S, text: &'a str, behind: &'a str) -> Result<(Part<P>, &'a str), ReadError>
+    requires text { IsEndOf (S.text source.now) text.now }
     requires mark { text.now ≡ 92 ∷ behind.now }
-    ensures { Gives (λ x. (part_view (P.shown source.now) x.0, x.1.now)) result (backslash_at behind.now) }
+    ensures { Gives (λ x. (part_view (S.shown source.now) x.0, x.1.now)) result (backslash_at behind.now) }
 {
     match read_backslash(behind) {
         Some((c, rest)) => Ok((Part::Backslash(c), rest)),
@@ -99,52 +99,53 @@ fn read_escape<'a, P: Piece<'a>>(source: &'a str, text: &'a str, behind: &'a str
 }
 
 // Behind the brace of a name.
-fn read_braced_name<'a, P: Piece<'a>>(source: &'a str, text: &'a str) -> Result<(Part<P>, &'a str), ReadError>
-    requires { IsEndOf source.now text.now }
-    ensures { Gives (λ x. (part_view (P.shown source.now) x.0, x.1.now)) result (braced_name_at text.now) }
+fn read_braced_name<'a, S: Source<P>, P: Drop>(source: &S, text: &'a str) -> Result<(Part<P>, &'a str), ReadError>
+    requires { IsEndOf (S.text source.now) text.now }
+    ensures { Gives (λ x. (part_view (S.shown source.now) x.0, x.1.now)) result (braced_name_at text.now) }
 {
     let (name, after) = split_front(text, Class::InName);
     let rest = closed(after, b'}', Fault::OpenBrace(left_with_mark(text)))?;
-    Ok((Part::Variable(P::cut(source, text, name)), rest))
+    Ok((Part::Variable(source.cut(text, name)), rest))
 }
 
 // A word in braces, behind its first brace.
-fn read_braced<'a, P: Piece<'a>>(
+fn read_braced<'a, S: Source<P>, P: Drop>(
     alloc: Global,
-    source: &'a str,
+    source: &S,
     text: &'a str,
     nested: bool,
 ) -> Result<(Vec<Part<P>>, &'a str), ReadError>
-    requires { IsEndOf source.now text.now }
-    ensures { Gives (λ x. (parts_view (P.shown source.now) x.0.items, x.1.now)) result (braced_word_at nested text.now) }
+    requires { IsEndOf (S.text source.now) text.now }
+    ensures { Gives (λ x. (parts_view (S.shown source.now) x.0.items, x.1.now)) result (braced_word_at nested text.now) }
 {
     let Some((inner, after)) = split_close(text) else {
         return Err(ReadError::Fault(Fault::OpenBrace(left_with_mark(text))));
     };
     let rest = ended(after, nested)?;
     let mut parts = Vec::new(alloc);
-    parts.push(Part::Braced(P::cut(source, text, inner)))?;
+    parts.push(Part::Braced(source.cut(text, inner)))?;
     Ok((parts, rest))
 }
 
-/// The tree of a source text, where so many brackets and indexes nest at most.
-pub(crate) fn read_source<'a, P: Piece<'a>>(alloc: Global, source: &'a str, depth: usize) -> Result<Script<P>, ReadError>
-    ensures { Gives (script_view (P.shown source.now)) result (script_at depth source.now) }
+/// The tree of a text, where so many brackets and indexes nest at most.
+pub(crate) fn read_source<S: Source<P>, P: Drop>(alloc: Global, source: &S, text: &str, depth: usize) -> Result<Script<P>, ReadError>
+    requires { S.text source.now ≡ text.now }
+    ensures { Gives (script_view (S.shown source.now)) result (script_at depth text.now) }
 {
-    let (script, _) = read_script(alloc, source, source, depth, false)?;
+    let (script, _) = read_script(alloc, source, text, depth, false)?;
     Ok(script)
 }
 
 #[cycle(read)]
-fn read_script<'a, P: Piece<'a>>(
+fn read_script<'a, S: Source<P>, P: Drop>(
     alloc: Global,
-    source: &'a str,
+    source: &S,
     text: &'a str,
     depth: usize,
     nested: bool,
 ) -> Result<(Script<P>, &'a str), ReadError>
-    requires { IsEndOf source.now text.now }
-    ensures { Gives (λ x. (script_view (P.shown source.now) x.0, x.1.now)) result (script_with nested (inner_at depth) text.now) }
+    requires { IsEndOf (S.text source.now) text.now }
+    ensures { Gives (λ x. (script_view (S.shown source.now) x.0, x.1.now)) result (script_with nested (inner_at depth) text.now) }
 {
     let mut commands = Vec::new(alloc);
     let mut rest = text;
@@ -160,15 +161,15 @@ fn read_script<'a, P: Piece<'a>>(
 }
 
 #[cycle(read)]
-fn read_command<'a, P: Piece<'a>>(
+fn read_command<'a, S: Source<P>, P: Drop>(
     alloc: Global,
-    source: &'a str,
+    source: &S,
     text: &'a str,
     depth: usize,
     nested: bool,
 ) -> Result<(Command<P>, &'a str), ReadError>
-    requires { IsEndOf source.now text.now }
-    ensures { Gives (λ x. (command_view (P.shown source.now) x.0, x.1.now)) result (command_at nested (inner_at depth) text.now) }
+    requires { IsEndOf (S.text source.now) text.now }
+    ensures { Gives (λ x. (command_view (S.shown source.now) x.0, x.1.now)) result (command_at nested (inner_at depth) text.now) }
 {
     let (first, behind) = read_word(alloc, source, text, depth, nested)?;
     let first_text = taken(source, text, behind);
@@ -187,15 +188,15 @@ fn read_command<'a, P: Piece<'a>>(
 }
 
 #[cycle(read)]
-fn read_word<'a, P: Piece<'a>>(
+fn read_word<'a, S: Source<P>, P: Drop>(
     alloc: Global,
-    source: &'a str,
+    source: &S,
     text: &'a str,
     depth: usize,
     nested: bool,
 ) -> Result<(Word<P>, &'a str), ReadError>
-    requires { IsEndOf source.now text.now }
-    ensures { Gives (λ x. (word_view (P.shown source.now) x.0, x.1.now)) result (word_at nested (inner_at depth) text.now) }
+    requires { IsEndOf (S.text source.now) text.now }
+    ensures { Gives (λ x. (word_view (S.shown source.now) x.0, x.1.now)) result (word_at nested (inner_at depth) text.now) }
 {
     match after_expansion(text, nested) {
         Some(behind) => {
@@ -211,15 +212,15 @@ fn read_word<'a, P: Piece<'a>>(
 
 // A word that doesn't expand.
 #[cycle(read)]
-fn read_plain_word<'a, P: Piece<'a>>(
+fn read_plain_word<'a, S: Source<P>, P: Drop>(
     alloc: Global,
-    source: &'a str,
+    source: &S,
     text: &'a str,
     depth: usize,
     nested: bool,
 ) -> Result<(Vec<Part<P>>, &'a str), ReadError>
-    requires { IsEndOf source.now text.now }
-    ensures { Gives (λ x. (parts_view (P.shown source.now) x.0.items, x.1.now)) result (plain_word_at nested (inner_at depth) text.now) }
+    requires { IsEndOf (S.text source.now) text.now }
+    ensures { Gives (λ x. (parts_view (S.shown source.now) x.0.items, x.1.now)) result (plain_word_at nested (inner_at depth) text.now) }
 {
     if let Some(behind) = after_mark(text, b'{') {
         return read_braced(alloc, source, behind, nested);
@@ -232,15 +233,15 @@ fn read_plain_word<'a, P: Piece<'a>>(
 
 // A word in quotes, behind its first quote.
 #[cycle(read)]
-fn read_quoted<'a, P: Piece<'a>>(
+fn read_quoted<'a, S: Source<P>, P: Drop>(
     alloc: Global,
-    source: &'a str,
+    source: &S,
     text: &'a str,
     depth: usize,
     nested: bool,
 ) -> Result<(Vec<Part<P>>, &'a str), ReadError>
-    requires { IsEndOf source.now text.now }
-    ensures { Gives (λ x. (parts_view (P.shown source.now) x.0.items, x.1.now)) result (quoted_word_at nested (inner_at depth) text.now) }
+    requires { IsEndOf (S.text source.now) text.now }
+    ensures { Gives (λ x. (parts_view (S.shown source.now) x.0.items, x.1.now)) result (quoted_word_at nested (inner_at depth) text.now) }
 {
     let (parts, close) = read_parts(alloc, source, text, depth, Context::InQuotes)?;
     let after = closed(close, b'"', Fault::OpenQuote(left_with_mark(text)))?;
@@ -249,15 +250,15 @@ fn read_quoted<'a, P: Piece<'a>>(
 }
 
 #[cycle(read)]
-fn read_parts<'a, P: Piece<'a>>(
+fn read_parts<'a, S: Source<P>, P: Drop>(
     alloc: Global,
-    source: &'a str,
+    source: &S,
     text: &'a str,
     depth: usize,
     context: Context,
 ) -> Result<(Vec<Part<P>>, &'a str), ReadError>
-    requires { IsEndOf source.now text.now }
-    ensures { Gives (λ x. (parts_view (P.shown source.now) x.0.items, x.1.now)) result (parts_with context (inner_at depth) text.now) }
+    requires { IsEndOf (S.text source.now) text.now }
+    ensures { Gives (λ x. (parts_view (S.shown source.now) x.0.items, x.1.now)) result (parts_with context (inner_at depth) text.now) }
 {
     let mut parts = Vec::new(alloc);
     let mut rest = text;
@@ -272,15 +273,15 @@ fn read_parts<'a, P: Piece<'a>>(
 }
 
 #[cycle(read)]
-fn read_part<'a, P: Piece<'a>>(
+fn read_part<'a, S: Source<P>, P: Drop>(
     alloc: Global,
-    source: &'a str,
+    source: &S,
     text: &'a str,
     depth: usize,
     context: Context,
 ) -> Result<(Part<P>, &'a str), ReadError>
-    requires { IsEndOf source.now text.now }
-    ensures { Gives (λ x. (part_view (P.shown source.now) x.0, x.1.now)) result (part_at context (inner_at depth) text.now) }
+    requires { IsEndOf (S.text source.now) text.now }
+    ensures { Gives (λ x. (part_view (S.shown source.now) x.0, x.1.now)) result (part_at context (inner_at depth) text.now) }
 {
     if let Some(behind) = after_mark(text, b'$') {
         return read_dollar(alloc, source, text, behind, depth);
@@ -296,16 +297,16 @@ fn read_part<'a, P: Piece<'a>>(
 
 // Behind a dollar, which stands in front of the text.
 #[cycle(read)]
-fn read_dollar<'a, P: Piece<'a>>(
+fn read_dollar<'a, S: Source<P>, P: Drop>(
     alloc: Global,
-    source: &'a str,
+    source: &S,
     text: &'a str,
     behind: &'a str,
     depth: usize,
 ) -> Result<(Part<P>, &'a str), ReadError>
-    requires text { IsEndOf source.now text.now }
+    requires text { IsEndOf (S.text source.now) text.now }
     requires dollar { text.now ≡ 36 ∷ behind.now }
-    ensures { Gives (λ x. (part_view (P.shown source.now) x.0, x.1.now)) result (dollar_at (inner_at depth) behind.now) }
+    ensures { Gives (λ x. (part_view (S.shown source.now) x.0, x.1.now)) result (dollar_at (inner_at depth) behind.now) }
 {
     if let Some(inner) = after_mark(behind, b'{') {
         return read_braced_name(source, inner);
@@ -321,24 +322,24 @@ fn read_dollar<'a, P: Piece<'a>>(
 }
 
 // An element of an array, whose name stands in front of the text.
-fn indexed<'a, P: Piece<'a>>(source: &'a str, text: &'a str, name: &'a str, parts: Vec<Part<P>>) -> Part<P>
-    requires text { IsEndOf source.now text.now }
+fn indexed<'a, S: Source<P>, P: Drop>(source: &S, text: &'a str, name: &'a str, parts: Vec<Part<P>>) -> Part<P>
+    requires text { IsEndOf (S.text source.now) text.now }
     requires name { IsFrontOf text.now name.now }
-    ensures { part_view (P.shown source.now) result ≡ tree.indexed name.now (parts_view (P.shown source.now) parts.items) }
+    ensures { part_view (S.shown source.now) result ≡ tree.indexed name.now (parts_view (S.shown source.now) parts.items) }
 {
-    Part::Indexed(P::cut(source, text, name), parts)
+    Part::Indexed(source.cut(text, name), parts)
 }
 
 // Behind the parenthesis of an index.
 #[cycle(read)]
-fn read_index<'a, P: Piece<'a>>(
+fn read_index<'a, S: Source<P>, P: Drop>(
     alloc: Global,
-    source: &'a str,
+    source: &S,
     text: &'a str,
     depth: usize,
 ) -> Result<(Vec<Part<P>>, &'a str), ReadError>
-    requires { IsEndOf source.now text.now }
-    ensures { Gives (λ x. (parts_view (P.shown source.now) x.0.items, x.1.now)) result (index_at (inner_at depth) text.now) }
+    requires { IsEndOf (S.text source.now) text.now }
+    ensures { Gives (λ x. (parts_view (S.shown source.now) x.0.items, x.1.now)) result (index_at (inner_at depth) text.now) }
 {
     if depth == 0 {
         return Err(ReadError::Fault(Fault::TooDeep));
@@ -350,14 +351,14 @@ fn read_index<'a, P: Piece<'a>>(
 
 // Behind a bracket.
 #[cycle(read)]
-fn read_bracket<'a, P: Piece<'a>>(
+fn read_bracket<'a, S: Source<P>, P: Drop>(
     alloc: Global,
-    source: &'a str,
+    source: &S,
     text: &'a str,
     depth: usize,
 ) -> Result<(Part<P>, &'a str), ReadError>
-    requires { IsEndOf source.now text.now }
-    ensures { Gives (λ x. (part_view (P.shown source.now) x.0, x.1.now)) result (bracket_at (inner_at depth) text.now) }
+    requires { IsEndOf (S.text source.now) text.now }
+    ensures { Gives (λ x. (part_view (S.shown source.now) x.0, x.1.now)) result (bracket_at (inner_at depth) text.now) }
 {
     if depth == 0 {
         return Err(ReadError::Fault(Fault::TooDeep));

@@ -3,7 +3,7 @@ ghost use Rattle.tclchars.specs.Faults.{max_bytes, max_nesting};
 ghost use Rattle.tclscript.specs.Text.{Reads, script_of};
 ghost use Rattle.tclscript.specs.View.{script_view};
 
-use crate::piece::Piece;
+use crate::piece::Source;
 use crate::reading::read_source;
 use crate::tree::Script;
 use std::alloc::Global;
@@ -21,17 +21,18 @@ pub const MAX_NESTING: usize = 200;
 pub fn parse_script(alloc: Global, text: &str) -> Result<Script<&str>, TextFault>
     ensures read { Reads (script_view (λ piece. piece.now)) result (script_of text.now) }
 {
-    parse_pieces(alloc, text)
+    parse_pieces(alloc, &text, text)
 }
 
 /// The tree of a script, as `parse_script` gives it, with pieces of any kind.
-pub fn parse_pieces<'a, P: Piece<'a>>(alloc: Global, text: &'a str) -> Result<Script<P>, TextFault>
-    ensures read { Reads (script_view (P.shown text.now)) result (script_of text.now) }
+pub fn parse_pieces<S: Source<P>, P: Drop>(alloc: Global, source: &S, text: &str) -> Result<Script<P>, TextFault>
+    requires { S.text source.now ≡ text.now }
+    ensures { Reads (script_view (S.shown source.now)) result (script_of text.now) }
 {
     if text.len() > MAX_BYTES {
         return Err(TextFault::TooLong);
     }
-    match read_source(alloc, text, MAX_NESTING) {
+    match read_source(alloc, source, text, MAX_NESTING) {
         Ok(script) => Ok(script),
         Err(ReadError::Memory) => Err(TextFault::OutOfMemory),
         Err(ReadError::Fault(fault)) => Err(place(fault, text.len())),
