@@ -11,7 +11,7 @@ use std::alloc::{AllocError, Global};
 use std::io::{ErrorKind, Write};
 use std::test::Fail;
 use std::{env, io};
-use tcltext::TextFault;
+use tclchars::TextFault;
 
 /// A writer that takes at most three bytes at a time, and fails once it is full.
 #[derive(Drop)]
