@@ -66,10 +66,8 @@ fn elements_that_are_there(rt: HostRuntime) -> Result<(), Fail> {
     )
 }
 
-const FULL: &str = "P=/a __MODULES_SHARE_P=/a:4294967295";
-
 #[test]
-fn counters(rt: HostRuntime) -> Result<(), Fail> {
+fn pairs_that_do_not_count(rt: HostRuntime) -> Result<(), Fail> {
     walk(
         &rt,
         rt.alloc(),
@@ -99,6 +97,26 @@ fn counters(rt: HostRuntime) -> Result<(), Fail> {
                 "P=/a __MODULES_SHARE_P=/b:2",
             ),
             (Append("P", &[]), 0, "P=/a"),
+            (
+                Set("__MODULES_SHARE_P", "/b:5"),
+                0,
+                "P=/a __MODULES_SHARE_P=/b:5",
+            ),
+            (Append("P", &["/b"]), 0, "P=/a:/b"),
+            (Remove("P", &["/b"]), 0, "P=/a"),
+        ],
+    )
+}
+
+const FULL: &str = "P=/a __MODULES_SHARE_P=/a:4294967295";
+
+#[test]
+fn largest_counter(rt: HostRuntime) -> Result<(), Fail> {
+    walk(
+        &rt,
+        rt.alloc(),
+        &[
+            (Set("P", "/a"), 0, "P=/a"),
             (Set("__MODULES_SHARE_P", "/a:4294967295"), 0, FULL),
             (Append("P", &["/b", "/a"]), 34, FULL),
             (

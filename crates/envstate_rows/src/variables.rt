@@ -1,6 +1,6 @@
 use crate::edits::Edit::{Set, Unset};
 use crate::edits::walk;
-use envstate::{Env, changes};
+use envstate::{Env, changes, is_plain_value, is_protected, is_variable_name, share_name};
 use std::test::Fail;
 
 #[test]
@@ -42,5 +42,27 @@ fn what_differs(rt: HostRuntime) -> Result<(), Fail> {
         text.push(' ')?;
     }
     assert_eq!(rt; text.as_str(), "A- B= __MODULES_SHARE_P=/a:3 ");
+    Ok(())
+}
+
+#[test]
+fn names_and_values(rt: HostRuntime) -> Result<(), Fail> {
+    for (name, is_name, is_kept) in [
+        ("A_1", true, false),
+        ("1A", false, false),
+        ("", false, false),
+        ("A-B", false, false),
+        ("LOADEDMODULES", true, true),
+        ("_LMFILES_", true, true),
+        ("__MODULES_X", true, true),
+        ("__MODULES", true, false),
+    ] {
+        assert_eq!(rt; is_variable_name(name), is_name, "at {name}");
+        assert_eq!(rt; is_protected(name), is_kept, "at {name}");
+    }
+    assert!(rt; is_plain_value("a:b\n"));
+    assert!(rt; !is_plain_value("a\0"));
+    let share = share_name(rt.alloc(), "PATH")?;
+    assert_eq!(rt; share.as_str(), "__MODULES_SHARE_PATH");
     Ok(())
 }
