@@ -237,16 +237,16 @@ no_memory_placed len marks.TooDeep = λ h. cc
 no_memory_placed len (marks.BadCharacter left) = λ h. cc
 no_memory_placed len (marks.BadExpression left) = λ h. cc
 
-abbrev Whole : Type 0
+abbrev pub Whole : Type 0
 Whole = Result Commands TextFault
 
 fault_same : (f g : TextFault) → (let err : Whole = Err f in err) ≡ Err g → f ≡ g
 fault_same f g h = cc
 
-tree_same : (s t : Commands) → (let ok : Whole = Ok s in ok) ≡ Ok t → s ≡ t
+pub tree_same : (s t : Commands) → (let ok : Whole = Ok s in ok) ≡ Ok t → s ≡ t
 tree_same s t h = cc
 
-fault_tree : (f : TextFault) (s : Commands) → (let err : Whole = Err f in err) ≡ Ok s → ⊥
+pub fault_tree : (f : TextFault) (s : Commands) → (let err : Whole = Err f in err) ≡ Ok s → ⊥
 fault_tree f s h = cc
 
 found_tree : (bs : Text) (r : Result Commands Fault) (s : Commands) → at_place bs r ≡ Ok s → r ≡ Ok s

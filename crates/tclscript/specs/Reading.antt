@@ -101,6 +101,13 @@ in_braces nested left (Some p) = ended nested p.1 >>= (λ rest. Ok (part (braced
 unfoldable pub braced_word_at : Bool → Text → Read Parts
 braced_word_at nested bs = in_braces nested (suc (length bs)) (braced_at false 0 bs)
 
+-- what stands in quotes, behind the first
+unfoldable pub quotes_at : Inner → Text → Read Parts
+quotes_at inner bs = do
+  x ← parts_with InQuotes inner bs
+  rest ← closed 34 (OpenQuote (suc (length bs))) x.1
+  Ok (x.0, rest)
+
 -- a word in quotes, behind its first quote
 unfoldable pub quoted_word_at : Bool → Inner → Text → Read Parts
 quoted_word_at nested inner bs = do

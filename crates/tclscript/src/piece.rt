@@ -7,6 +7,10 @@ pub trait Source<P> {
     ghost text: { Self → Text };
     ghost shown: { Self → P → Text };
 
+    /// The whole text.
+    fn as_str(&self) -> &str
+        ensures { result.now ≡ text self.now };
+
     /// The piece at the front of `rest`, which is an end of the source.
     fn cut(&self, rest: &str, piece: &str) -> P
         requires end { IsEndOf (text self.now) rest.now }
@@ -18,6 +22,10 @@ impl<'a> Source<&'a str> for &'a str {
     ghost text = { λ source. source.now };
 
     ghost shown = { λ source piece. piece.now };
+
+    fn as_str(&self) -> &str {
+        self
+    }
 
     fn cut(&self, rest: &str, piece: &str) -> &'a str {
         let from_rest = self.split_at(self.len() - rest.len()).1;
@@ -36,6 +44,10 @@ impl<'a> Source<ByteRange> for &'a str {
     ghost text = { λ source. source.now };
 
     ghost shown = { λ source range. take (range.end - range.start) (drop range.start source.now) };
+
+    fn as_str(&self) -> &str {
+        self
+    }
 
     fn cut(&self, rest: &str, piece: &str) -> ByteRange {
         let start = self.len() - rest.len();

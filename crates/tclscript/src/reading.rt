@@ -2,7 +2,7 @@ ghost use Rattle.std.specs.Prelude.{◌≡◌, ◌∷◌, ◌<◌, length, suc, 
 ghost use Rattle.tclchars.specs.Reading.{Gives};
 ghost use Rattle.tclscript.specs.Pieces.{IsEndOf, IsFrontOf};
 ghost use Rattle.tclscript.specs.Tree as tree;
-ghost use Rattle.tclscript.specs.Reading.{closed, ended, after_expansion, inner_at, script_with, command_at, word_at, plain_word_at, braced_word_at, quoted_word_at, parts_with, part_at, literal_at, dollar_at, braced_name_at, index_at, bracket_at, backslash_at, plain_variable, taken, script_at};
+ghost use Rattle.tclscript.specs.Reading.{closed, ended, after_expansion, inner_at, script_with, command_at, word_at, plain_word_at, braced_word_at, quoted_word_at, quotes_at, parts_with, part_at, literal_at, dollar_at, braced_name_at, index_at, bracket_at, backslash_at, plain_variable, taken, script_at};
 ghost use Rattle.tclscript.specs.View.{script_view, command_view, word_view, part_view, parts_view};
 
 use crate::context::{Context, bare, class_of, command_ends, parts_end, script_ends, word_ends};
@@ -131,13 +131,12 @@ fn read_braced<'a, S: Source<P>, P: Drop>(
     Ok((parts, rest))
 }
 
-/// The tree of a text, where so many brackets and indexes nest at most.
+// The tree of a source, where so many brackets and indexes nest at most.
 #[tactic(auto, unfolding(crate::specs::Reading::script_at))]
-pub(crate) fn read_source<S: Source<P>, P: Drop>(alloc: Global, source: &S, text: &str, depth: usize) -> Result<Script<P>, ReadError>
-    requires { S.text source.now ≡ text.now }
-    ensures { Gives (script_view (S.shown source.now)) result (script_at depth text.now) }
+pub(crate) fn read_source<S: Source<P>, P: Drop>(alloc: Global, source: &S, depth: usize) -> Result<Script<P>, ReadError>
+    ensures { Gives (script_view (S.shown source.now)) result (script_at depth (S.text source.now)) }
 {
-    let (script, _) = read_script(alloc, source, text, depth, false)?;
+    let (script, _) = read_script(alloc, source, source.as_str(), depth, false)?;
     Ok(script)
 }
 
@@ -238,9 +237,29 @@ fn read_plain_word<'a, S: Source<P>, P: Drop>(
     }
 }
 
+/// The parts of a text in quotes, behind the first quote, and what follows the last (Tcl(n), rule 4), where so many brackets and
+/// indexes nest at most.
+///
+/// The fault is `OpenQuote` at the first quote, or the first that is met inside.
+#[cycle(read)]
+#[tactic(auto, unfolding(crate::specs::Reading::quotes_at))]
+pub fn read_quotes<'a, S: Source<P>, P: Drop>(
+    alloc: Global,
+    source: &S,
+    text: &'a str,
+    depth: usize,
+) -> Result<(Vec<Part<P>>, &'a str), ReadError>
+    requires { IsEndOf (S.text source.now) text.now }
+    ensures { Gives (λ x. (parts_view (S.shown source.now) x.0.items, x.1.now)) result (quotes_at (inner_at depth) text.now) }
+{
+    let (parts, close) = read_parts(alloc, source, text, depth, Context::InQuotes)?;
+    let rest = closed(close, b'"', Fault::OpenQuote(left_with_mark(text)))?;
+    Ok((parts, rest))
+}
+
 // A word in quotes, behind its first quote.
 #[cycle(read)]
-#[tactic(auto, unfolding(crate::specs::Reading::quoted_word_at))]
+#[tactic(auto, unfolding(crate::specs::Reading::quoted_word_at, crate::specs::Reading::quotes_at))]
 fn read_quoted<'a, S: Source<P>, P: Drop>(
     alloc: Global,
     source: &S,
@@ -251,8 +270,7 @@ fn read_quoted<'a, S: Source<P>, P: Drop>(
     requires { IsEndOf (S.text source.now) text.now }
     ensures { Gives (λ x. (parts_view (S.shown source.now) x.0.items, x.1.now)) result (quoted_word_at nested (inner_at depth) text.now) }
 {
-    let (parts, close) = read_parts(alloc, source, text, depth, Context::InQuotes)?;
-    let after = closed(close, b'"', Fault::OpenQuote(left_with_mark(text)))?;
+    let (parts, after) = read_quotes(alloc, source, text, depth)?;
     let rest = ended(after, nested)?;
     Ok((parts, rest))
 }
@@ -304,10 +322,15 @@ fn read_part<'a, S: Source<P>, P: Drop>(
     }
 }
 
-// Behind a dollar, which stands in front of the text.
+/// The variable at the front of the text, and what follows it (Tcl(n), rule 8): `$name`, `$name(index)` or `${name}`, of which
+/// `behind` is what stands behind the dollar. Before anything else the dollar is itself. So many brackets and indexes nest at
+/// most.
+///
+/// The fault is `OpenBrace` at the brace of a name, `BadCharacter` at the parenthesis of an index, or the first that is met
+/// inside.
 #[cycle(read)]
 #[tactic(auto, unfolding(crate::specs::Reading::dollar_at))]
-fn read_dollar<'a, S: Source<P>, P: Drop>(
+pub fn read_dollar<'a, S: Source<P>, P: Drop>(
     alloc: Global,
     source: &S,
     text: &'a str,
@@ -360,10 +383,13 @@ fn read_index<'a, S: Source<P>, P: Drop>(
     Ok((parts, rest))
 }
 
-// Behind a bracket.
+/// The script in brackets, behind the first bracket, and what follows the last (Tcl(n), rule 7), where so many brackets and
+/// indexes nest at most, this one among them.
+///
+/// The fault is `TooDeep` where none may nest, `OpenBracket` at the first bracket, or the first that is met inside.
 #[cycle(read)]
 #[tactic(auto, unfolding(crate::specs::Reading::bracket_at, crate::specs::Reading::inner_at))]
-fn read_bracket<'a, S: Source<P>, P: Drop>(
+pub fn read_bracket<'a, S: Source<P>, P: Drop>(
     alloc: Global,
     source: &S,
     text: &'a str,
