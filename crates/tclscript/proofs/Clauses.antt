@@ -1,5 +1,5 @@
 -- What a parser promises follows from what it computes.
-use Rattle.std.proofs.Common.{◌≡◌, ◌≢◌, ◌≤◌, length, Result, Ok, Err, refl, sym, ap, subst, ◌∙◌}
+use Rattle.std.proofs.Common.{◌≡◌, ◌≤◌, length, Result, Ok, Err, refl, sym, ◌∙◌}
 use Rattle.std.specs.Prelude.{IfOk, IfErr, MatchResult}
 use Rattle.tclchars.specs.Runs.{Text}
 use Rattle.tclchars.specs.Faults.{max_bytes, max_nesting}

@@ -6,10 +6,10 @@ mod laws;
 mod piece;
 mod reading;
 mod runs;
-mod text;
-mod tree;
 #[cfg(test)]
 mod tests;
+mod text;
+mod tree;
 
 pub use laws::{one_fault, one_script, script_of_grammar};
 pub use piece::{ByteRange, Source};

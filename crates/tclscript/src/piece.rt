@@ -5,6 +5,7 @@ ghost use Rattle.tclscript.specs.Pieces.{IsEndOf, IsFrontOf};
 /// A source text, with what stands for a piece of it.
 pub trait Source<P> {
     ghost text: { Self → Text };
+
     ghost shown: { Self → P → Text };
 
     /// The whole text.
@@ -51,6 +52,9 @@ impl<'a> Source<ByteRange> for &'a str {
 
     fn cut(&self, rest: &str, piece: &str) -> ByteRange {
         let start = self.len() - rest.len();
-        ByteRange { start, end: start + piece.len() }
+        ByteRange {
+            start,
+            end: start + piece.len(),
+        }
     }
 }

@@ -47,7 +47,11 @@ fn after_expansion(text: &str, nested: bool) -> Option<&str>
     ensures { option_map (λ rest. rest.now) result ≡ after_expansion nested text.now }
 {
     let rest = after_mark(after_mark(after_mark(text, b'{')?, b'*')?, b'}')?;
-    if word_ends(rest, nested) { None } else { Some(rest) }
+    if word_ends(rest, nested) {
+        None
+    } else {
+        Some(rest)
+    }
 }
 
 // What was read of the text before that rest.
@@ -59,7 +63,11 @@ fn taken<'a, S: Source<P>, P: Drop>(source: &S, text: &'a str, rest: &'a str) ->
     source.cut(text, text.split_at(text.len() - rest.len()).0)
 }
 
-fn read_literal<'a, S: Source<P>, P: Drop>(source: &S, text: &'a str, context: Context) -> (Part<P>, &'a str)
+fn read_literal<'a, S: Source<P>, P: Drop>(
+    source: &S,
+    text: &'a str,
+    context: Context,
+) -> (Part<P>, &'a str)
     requires { IsEndOf (S.text source.now) text.now }
     ensures { literal_at context text.now ≡ Ok (part_view (S.shown source.now) result.0, result.1.now) }
 {
@@ -68,7 +76,12 @@ fn read_literal<'a, S: Source<P>, P: Drop>(source: &S, text: &'a str, context: C
 }
 
 // A name without a parenthesis, behind a dollar; without a name the dollar is itself.
-fn plain_variable<'a, S: Source<P>, P: Drop>(source: &S, text: &'a str, behind: &'a str, name: &'a str) -> Part<P>
+fn plain_variable<'a, S: Source<P>, P: Drop>(
+    source: &S,
+    text: &'a str,
+    behind: &'a str,
+    name: &'a str,
+) -> Part<P>
     requires text { IsEndOf (S.text source.now) text.now }
     requires dollar { text.now ≡ 36 ∷ behind.now }
     requires name { IsFrontOf behind.now name.now }
@@ -83,7 +96,11 @@ fn plain_variable<'a, S: Source<P>, P: Drop>(source: &S, text: &'a str, behind: 
 
 // Behind a backslash, which stands in front of the text; at the text's end it is itself.
 #[tactic(auto, unfolding(crate::specs::Reading::backslash_at))]
-fn read_escape<'a, S: Source<P>, P: Drop>(source: &S, text: &'a str, behind: &'a str) -> Result<(Part<P>, &'a str), ReadError>
+fn read_escape<'a, S: Source<P>, P: Drop>(
+    source: &S,
+    text: &'a str,
+    behind: &'a str,
+) -> Result<(Part<P>, &'a str), ReadError>
     requires text { IsEndOf (S.text source.now) text.now }
     requires mark { text.now ≡ 92 ∷ behind.now }
     ensures { Gives (λ x. (part_view (S.shown source.now) x.0, x.1.now)) result (backslash_at behind.now) }
@@ -102,7 +119,10 @@ fn read_escape<'a, S: Source<P>, P: Drop>(source: &S, text: &'a str, behind: &'a
 
 // Behind the brace of a name.
 #[tactic(auto, unfolding(crate::specs::Reading::braced_name_at))]
-fn read_braced_name<'a, S: Source<P>, P: Drop>(source: &S, text: &'a str) -> Result<(Part<P>, &'a str), ReadError>
+fn read_braced_name<'a, S: Source<P>, P: Drop>(
+    source: &S,
+    text: &'a str,
+) -> Result<(Part<P>, &'a str), ReadError>
     requires { IsEndOf (S.text source.now) text.now }
     ensures { Gives (λ x. (part_view (S.shown source.now) x.0, x.1.now)) result (braced_name_at text.now) }
 {
@@ -133,7 +153,11 @@ fn read_braced<'a, S: Source<P>, P: Drop>(
 
 // The tree of a source, where so many brackets and indexes nest at most.
 #[tactic(auto, unfolding(crate::specs::Reading::script_at))]
-pub(crate) fn read_source<S: Source<P>, P: Drop>(alloc: Global, source: &S, depth: usize) -> Result<Script<P>, ReadError>
+pub(crate) fn read_source<S: Source<P>, P: Drop>(
+    alloc: Global,
+    source: &S,
+    depth: usize,
+) -> Result<Script<P>, ReadError>
     ensures { Gives (script_view (S.shown source.now)) result (script_at depth (S.text source.now)) }
 {
     let (script, _) = read_script(alloc, source, source.as_str(), depth, false)?;
@@ -183,7 +207,13 @@ fn read_command<'a, S: Source<P>, P: Drop>(
     loop {
         let start = skip_blanks(rest);
         if command_ends(start, nested) {
-            return Ok((Command { source: first_text, words }, start));
+            return Ok((
+                Command {
+                    source: first_text,
+                    words,
+                },
+                start,
+            ));
         }
         let (word, after) = read_word(alloc, source, start, depth, nested)?;
         words.push(word)?;
@@ -206,11 +236,23 @@ fn read_word<'a, S: Source<P>, P: Drop>(
     match after_expansion(text, nested) {
         Some(behind) => {
             let (parts, rest) = read_plain_word(alloc, source, behind, depth, nested)?;
-            Ok((Word { expands: true, parts }, rest))
+            Ok((
+                Word {
+                    expands: true,
+                    parts,
+                },
+                rest,
+            ))
         }
         None => {
             let (parts, rest) = read_plain_word(alloc, source, text, depth, nested)?;
-            Ok((Word { expands: false, parts }, rest))
+            Ok((
+                Word {
+                    expands: false,
+                    parts,
+                },
+                rest,
+            ))
         }
     }
 }
@@ -355,7 +397,12 @@ pub fn read_dollar<'a, S: Source<P>, P: Drop>(
 }
 
 // An element of an array, whose name stands in front of the text.
-fn indexed<'a, S: Source<P>, P: Drop>(source: &S, text: &'a str, name: &'a str, parts: Vec<Part<P>>) -> Part<P>
+fn indexed<'a, S: Source<P>, P: Drop>(
+    source: &S,
+    text: &'a str,
+    name: &'a str,
+    parts: Vec<Part<P>>,
+) -> Part<P>
     requires text { IsEndOf (S.text source.now) text.now }
     requires name { IsFrontOf text.now name.now }
     ensures { part_view (S.shown source.now) result ≡ tree.indexed name.now (parts_view (S.shown source.now) parts.items) }

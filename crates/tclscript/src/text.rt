@@ -42,7 +42,10 @@ pub fn parse_script(alloc: Global, text: &str) -> Result<Script<&str>, TextFault
 }
 
 /// The tree of a script, as `parse_script` gives it, with pieces of any kind.
-pub fn parse_pieces<S: Source<P>, P: Drop>(alloc: Global, source: &S) -> Result<Script<P>, TextFault>
+pub fn parse_pieces<S: Source<P>, P: Drop>(
+    alloc: Global,
+    source: &S,
+) -> Result<Script<P>, TextFault>
     ensures found { IfOk result (λ s. IsScript (S.text source.now) (script_view (S.shown source.now) s) × (nesting (script_view (S.shown source.now) s) ≤ max_nesting) × (length (S.text source.now) ≤ max_bytes)) }
     ensures only { (s : Commands) → IsScript (S.text source.now) s → nesting s ≤ max_nesting → length (S.text source.now) ≤ max_bytes
         → MatchResult result (λ t. script_view (S.shown source.now) t ≡ s) (λ e. e ≡ OutOfMemory) }
