@@ -9,7 +9,6 @@ pub mod Loops
 pub mod Turns
 pub mod Views
 pub mod Nested
-pub mod Within
 pub mod PassedOver
 pub mod Names
 pub mod Exact
@@ -20,4 +19,5 @@ pub mod PartFaults
 pub mod WordsExact
 pub mod ScriptExact
 pub mod Whole
+pub mod Clauses
 pub mod Examples
