@@ -24,3 +24,4 @@ pub mod Examples
 pub mod NextByte
 pub mod Firm
 pub mod Offending
+pub mod Operands
