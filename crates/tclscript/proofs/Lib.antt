@@ -25,3 +25,4 @@ pub mod NextByte
 pub mod Firm
 pub mod Offending
 pub mod Operands
+pub mod Prefixes
