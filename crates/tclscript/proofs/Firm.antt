@@ -37,7 +37,7 @@ firm_some (b ∷ p) s h = λ e. cc
 
 -- Tests of what follows
 
-no_byte : (b c : ℕ) → b ≢ c → (b == c) ≡ false
+pub no_byte : (b c : ℕ) → b ≢ c → (b == c) ≡ false
 no_byte b c h = grind (arith, nat_tests)
 
 pub word_ends-firm : (nested : Bool) (p s t : Text) → Firm p → word_ends nested (p ++ s) ≡ word_ends nested (p ++ t)

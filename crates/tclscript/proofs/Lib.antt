@@ -26,3 +26,5 @@ pub mod Firm
 pub mod Offending
 pub mod Operands
 pub mod Prefixes
+pub mod Viable
+pub mod BadEscapes

@@ -18,7 +18,8 @@ use Rattle.tclscript.specs.Reading.{inner_at, plain_word_at}
 use Rattle.tclscript.proofs.Exact.{err_same}
 use Rattle.tclscript.proofs.WordsExact.{plain_met, plain_fault_goes_on, star_joined}
 use Rattle.tclscript.proofs.Whole.{inner_exact, no_tree}
-use Rattle.tclscript.proofs.Firm.{Firm, firm_before, firm_some, does_begin-firm, gap-any, command-firm, word-firm, parts-firm, part-firm, parts_end-firm}
+use Rattle.tclscript.specs.Offending.{IsOffender, IsBadEscape}
+use Rattle.tclscript.proofs.Firm.{Firm, no_byte, firm_before, firm_some, does_begin-firm, gap-any, command-firm, word-firm, parts-firm, part-firm, parts_end-firm}
 
 -- behind what closes, or behind a backslash
 pub data Kind : Type 0 where
@@ -106,7 +107,7 @@ still_plain kind d nested bs before rest keep s t none whole e k h x =
       none (keep ++ s, whole ∙ ap₂ (λ (a b : Text). a ++ b) cut.0 e, k.1 nested ∙ ap (word_ends nested) cut.1 ∙ x.2)
 
 -- the parts of a quoted word, whatever stands behind its quote
-parts_before_quote : (ps : Parts) (inside s t : Text) → IsParts InQuotes ps inside (34 ∷ s) → IsParts InQuotes ps inside (34 ∷ t)
+pub parts_before_quote : (ps : Parts) (inside s t : Text) → IsParts InQuotes ps inside (34 ∷ s) → IsParts InQuotes ps inside (34 ∷ t)
 parts_before_quote ps inside s t h = parts-firm InQuotes ps inside (34 ∷ []) s t ((λ e. cc), (λ e. cc)) h
 
 goes_on : {d : ℕ} {nested : Bool} {bs : Text} {f : Fault} → PlainFault d nested bs f → word_ends nested bs ≡ false
@@ -114,7 +115,7 @@ goes_on = plain_fault_goes_on
 
 -- faults of other kinds
 
-abbrev IsOther : Fault → Type 0
+abbrev pub IsOther : Fault → Type 0
 IsOther (OpenBrace left) = Unit {0}
 IsOther (OpenQuote left) = Unit {0}
 IsOther (OpenBracket left) = Unit {0}
@@ -123,7 +124,7 @@ IsOther TooDeep = Unit {0}
 IsOther (BadCharacter left) = ⊥
 IsOther (BadExpression left) = Unit {0}
 
-not_other : (kind : Kind) (left : ℕ) → IsOther (mark kind left) → ⊥
+pub not_other : (kind : Kind) (left : ℕ) → IsOther (mark kind left) → ⊥
 not_other joined left h = h
 not_other escape left h = h
 
@@ -296,3 +297,14 @@ mutual
   part_move kind (faults.PartFault.index_too_deep name bs h) left e = other kind TooDeep left e tt
   part_move kind (faults.PartFault.in_index {d} name bs h k) left e = index_moves kind d name bs left h (parts_move kind k left e)
   part_move kind (faults.PartFault.open_index {d} name bs ps h k less) left e = open_index_moves kind (suc d) name bs left e
+
+-- what offends behind a brace or quote does so before any text
+pub offender_kept : (bad s t : Text) → IsOffender bad → Kept joined bad s t
+offender_kept [] s t h = absurd h
+offender_kept (b ∷ []) s t h = ((λ e. cc), λ nested. rw (no_byte b 92 h) refl)
+offender_kept (b ∷ (c ∷ bad)) s t h = ((λ e. cc), λ nested. refl)
+
+-- and so does what a backslash begins
+pub escape_kept : (bad s t : Text) → IsBadEscape bad → Kept escape (92 ∷ bad) s t
+escape_kept [] s t h = absurd (h.0 refl)
+escape_kept (b ∷ bad) s t h = (b, bad, refl, h.1 t)

@@ -67,7 +67,7 @@ other_byte InIndex b bs h x y z = grind (arith, nat_tests)
 other_byte InQuotes b bs h x y z = grind (arith, nat_tests)
 
 -- where no part goes on, none is
-part_byte : (c : Context) (b : ℕ) (bs : Text) → (b ≡ 36) ⊎ (b ≡ 91) → parts_end c (b ∷ bs) ≡ false
+pub part_byte : (c : Context) (b : ℕ) (bs : Text) → (b ≡ 36) ⊎ (b ≡ 91) → parts_end c (b ∷ bs) ≡ false
 part_byte InScript b bs (inl h) = rw h refl
 part_byte InScript b bs (inr h) = rw h refl
 part_byte InBracket b bs (inl h) = rw h refl
@@ -86,7 +86,7 @@ newline_escape (b ∷ bs) h = go (b == newline) refl h where
     apart : {A : Type 0} {x : A} → Some x ≡ None → ⊥
     apart h = cc
 
-backslash_goes_on : (c : Context) (bs : Text) → begins newline bs ≡ false → parts_end c (92 ∷ bs) ≡ false
+pub backslash_goes_on : (c : Context) (bs : Text) → begins newline bs ≡ false → parts_end c (92 ∷ bs) ≡ false
 backslash_goes_on InScript bs h = h
 backslash_goes_on InBracket bs h = h
 backslash_goes_on InIndex bs h = refl
