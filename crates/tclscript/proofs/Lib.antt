@@ -21,3 +21,8 @@ pub mod ScriptExact
 pub mod Whole
 pub mod Clauses
 pub mod Examples
+pub mod NextByte
+pub mod Firm
+pub mod Offending
+pub mod Operands
+pub mod Prefixes

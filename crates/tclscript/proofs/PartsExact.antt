@@ -128,7 +128,7 @@ part_some c (bracket s) t r h = omega (arith, ap length h.1)
 module _ (d : ℕ) (inner : Inner) (exact : IsExactInner d inner) where
   -- Brackets
 
-  bracket_sound : (c : Context) (bs : Text) (p : Part) (r : Text) → bracket_at inner bs ≡ Ok (p, r) → Took (DollarIs d c) (91 ∷ bs) p r
+  pub bracket_sound : (c : Context) (bs : Text) (p : Part) (r : Text) → bracket_at inner bs ≡ Ok (p, r) → Took (DollarIs d c) (91 ∷ bs) p r
   unfolding bracket_at
   bracket_sound c bs p r h =
       let mark = OpenBracket (suc (length bs)) in
@@ -144,7 +144,7 @@ module _ (d : ℕ) (inner : Inner) (exact : IsExactInner d inner) where
       } in
       subst (λ p. Took (DollarIs d c) (91 ∷ bs) p r) two.0 made
 
-  bracket_faulty : (bs : Text) (f : Fault) → bracket_at inner bs ≡ Err f → PartFault d (91 ∷ bs) f
+  pub bracket_faulty : (bs : Text) (f : Fault) → bracket_at inner bs ≡ Err f → PartFault d (91 ∷ bs) f
   unfolding bracket_at
   bracket_faulty bs f h =
       let mark = OpenBracket (suc (length bs)) in
@@ -175,7 +175,7 @@ module _ (d : ℕ) (inner : Inner) (exact : IsExactInner d inner) where
               | inr k ↦ absurd (ok_err (bracket s, k.0) f k.2)
             ]
 
-  bracket_again : (inside r : Text) (s : Commands) → IsCommands true s inside (93 ∷ r) → nesting s < d → bracket_at inner (inside ++ 93 ∷ r) ≡ Ok (bracket s, r)
+  pub bracket_again : (inside r : Text) (s : Commands) → IsCommands true s inside (93 ∷ r) → nesting s < d → bracket_at inner (inside ++ 93 ∷ r) ≡ Ok (bracket s, r)
   unfolding bracket_at
   bracket_again inside r s h less =
       let bs = inside ++ 93 ∷ r in
