@@ -7,3 +7,4 @@ pub mod View
 pub mod Text
 pub mod Grammar
 pub mod Faults
+pub mod Offending
