@@ -8,3 +8,4 @@ pub mod Numerals
 pub mod Backslash
 pub mod ListGrammar
 pub mod Lists
+pub mod Symbols

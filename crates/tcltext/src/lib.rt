@@ -12,6 +12,7 @@ mod bytes;
 mod laws;
 mod list;
 mod number;
+mod operator;
 mod reading;
 #[cfg(test)]
 mod tests;
@@ -20,6 +21,7 @@ mod text;
 pub use laws::{first_bad_character, list_round_trip, one_list, one_script, script_of_grammar};
 pub use list::write_list;
 pub use number::read_number;
+pub use operator::{BinaryOperator, UnaryOperator};
 pub use text::parse_script;
 
 /// A script: its commands, in order.
