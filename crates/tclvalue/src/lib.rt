@@ -1,0 +1,10 @@
+//! Values of Tcl: the operators of expr(n), and the commands on lists and texts.
+#![tactic(auto)]
+
+mod fault;
+mod messages;
+mod operands;
+mod truth_values;
+
+pub use fault::ValueFault;
+pub use truth_values::truth;
