@@ -14,6 +14,7 @@ use Rattle.tcltext.specs.declared.operator.UnaryOperator.{UnaryOperator}
 use Rattle.tcltext.specs.declared.operator.UnaryOperator.TheVariants.{Minus, Plus, Complement, Not}
 use Rattle.tcltext.specs.declared.operator.BinaryOperator.{BinaryOperator}
 use Rattle.tcltext.specs.declared.operator.BinaryOperator.TheVariants as binary
+use Rattle.tclvalue.specs.declared.operands.Operands.{Operands}
 use Rattle.tclvalue.specs.Faults.{Answer, error, number_too_large, fraction, ◌>>=◌}
 use Rattle.tclvalue.specs.Messages.{not_numeric, no_boolean}
 use Rattle.tclvalue.specs.Numbers.{within_64_bits, is_zero, sum, difference, product, divided, remaining, shifted_left, shifted_right, bits_of_both, bits_of_one, bits_of_either, other_bits}
@@ -82,6 +83,9 @@ unary_value Not t = truth t >>= (λ b. Ok (truth_text (not b)))
 -- two operands that have to be whole numbers, and what is computed of them
 abbrev pub whole_operands : Text → Text → Text → Answer (ℤ × ℤ)
 whole_operands symbol a b = whole_operand symbol a >>= (λ x. whole_operand symbol b >>= (λ y. Ok (x, y)))
+
+abbrev pub operands_view : Operands → ℤ × ℤ
+operands_view o = (o.left, o.right)
 
 abbrev pub computed : BinaryOperator → (ℤ → ℤ → Answer ℤ) → Text → Text → Answer Text
 computed op compute a b = whole_operands (binary_symbol op) a b >>= (λ o. compute o.0 o.1) >>= decimal_text

@@ -4,7 +4,9 @@
 mod fault;
 mod messages;
 mod operands;
+mod operators;
 mod truth_values;
 
 pub use fault::ValueFault;
+pub use operators::unary;
 pub use truth_values::truth;
