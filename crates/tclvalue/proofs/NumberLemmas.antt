@@ -59,7 +59,7 @@ doubled_outside (negsuc n) k h f some (inr two) =
 -- from 63 on all halvings give 0 or -1
 halved_small : (n k : ℕ) → n < 2 ^ 63 → n / 2 ^ min k 63 ≡ n / 2 ^ k
 halved_small n k small = elim (cases_lt k 63) [
-    inl h ↦ ap (λ m. n / 2 ^ m) (let e : min k 63 ≡ k = omega arith in e)
+  | inl h ↦ ap (λ m. n / 2 ^ m) (let e : min k 63 ≡ k = omega arith in e)
   | inr h ↦ (ap (λ m. n / 2 ^ m) (let e : min k 63 ≡ 63 = omega arith in e) ∙ div-eq_of_lt small) ∙ sym (div-eq_of_lt (let p : 2 ^ 63 ≤ 2 ^ k = least_power k h in let q : n < 2 ^ k = omega arith in q))
 ]
 

@@ -2,3 +2,4 @@ pub mod Faults
 pub mod Messages
 pub mod Numbers
 pub mod Operators
+pub mod Indexes

@@ -2,6 +2,7 @@
 #![tactic(auto)]
 
 mod fault;
+mod index;
 mod messages;
 mod operands;
 mod operators;

@@ -1,7 +1,7 @@
 //! Errors that catch(n) sees.
 ghost use Rattle.std.specs.Prelude.{◌≡◌, MatchResult, string_bytes};
 ghost use Rattle.tclvalue.specs.Faults.{IsFault, error};
-ghost use Rattle.tclvalue.specs.Messages.{not_numeric, no_boolean, divide_by_zero, negative_shift};
+ghost use Rattle.tclvalue.specs.Messages.{not_numeric, no_boolean, divide_by_zero, negative_shift, bad_index, no_whole_number, wrong_words, not_a_list};
 ghost use Rattle.tclvalue.specs.declared.fault.ValueFault.TheVariants.{OutOfMemory};
 
 use crate::fault::ValueFault;
@@ -47,4 +47,36 @@ pub(crate) fn negative_shift(alloc: Global) -> ValueFault
     ensures { IsFault (error negative_shift) result }
 {
     tcl_error(String::from_str(alloc, "negative shift argument"))
+}
+
+/// A word is no index.
+#[tactic(auto, unfolding(crate::specs::Messages::bad_index))]
+pub(crate) fn bad_index(alloc: Global, word: &str) -> ValueFault
+    ensures { IsFault (error (bad_index word.now)) result }
+{
+    tcl_error(format!(in alloc; "bad index \"{word}\""))
+}
+
+/// A word is no whole number.
+#[tactic(auto, unfolding(crate::specs::Messages::no_whole_number))]
+pub(crate) fn no_whole_number(alloc: Global, word: &str) -> ValueFault
+    ensures { IsFault (error (no_whole_number word.now)) result }
+{
+    tcl_error(format!(in alloc; "expected whole number but got \"{word}\""))
+}
+
+/// A command has too few or too many words.
+#[tactic(auto, unfolding(crate::specs::Messages::wrong_words))]
+pub(crate) fn wrong_words(alloc: Global, name: &str) -> ValueFault
+    ensures { IsFault (error (wrong_words name.now)) result }
+{
+    tcl_error(format!(in alloc; "wrong # args for \"{name}\""))
+}
+
+/// A text is no list, or a list of the wrong length.
+#[tactic(auto, unfolding(crate::specs::Messages::not_a_list))]
+pub(crate) fn not_a_list(alloc: Global) -> ValueFault
+    ensures { IsFault (error not_a_list) result }
+{
+    tcl_error(String::from_str(alloc, "not a list"))
 }
