@@ -1,6 +1,8 @@
 //! Values of Tcl: the operators of expr(n), and the commands on lists and texts.
 #![tactic(auto)]
 
+mod bounded;
+mod characters;
 mod fault;
 mod index;
 mod messages;

@@ -1,0 +1,46 @@
+-- Texts as characters (string(n), split(n), concat(n)).
+use Rattle.std.specs.Prelude.{ℕ, ◌==◌, List, [], ◌∷◌, ◌++◌, length, Bool, if◌then◌else◌, ℤ, Option, Some, None, Ok, codes, map, filter, not}
+use Rattle.std.specs.List.{list_any, slice_split}
+use Rattle.std.specs.Str.{chars, encode_utf8_all}
+use Rattle.tcltext.specs.Tree.{Text}
+use Rattle.tcltext.specs.Numerals.{trimmed}
+use Rattle.tclvalue.specs.Operators.{is_nil}
+
+-- a character is one of a set
+abbrev pub is_among : Text → ℕ → Bool
+is_among set c = list_any (λ d. d == c) set
+
+-- without the characters of a set in front, and at the end
+abbrev pub without_start : Text → Text → Text
+without_start set [] = []
+without_start set (c ∷ cs) = if is_among set c then without_start set cs else c ∷ cs
+
+abbrev pub kept_end : Text → ℕ → Text → Text
+kept_end set c [] = if is_among set c then [] else c ∷ []
+kept_end set c (d ∷ ds) = c ∷ (d ∷ ds)
+
+abbrev pub without_end : Text → Text → Text
+without_end set [] = []
+without_end set (c ∷ cs) = kept_end set c (without_end set cs)
+
+abbrev pub without_ends : Text → Text → Text
+without_ends set t = without_end set (without_start set t)
+
+-- the characters between those of a set; without a set each character, and of no text none
+abbrev pub pieces : Text → Text → List Text
+pieces set [] = []
+pieces [] (c ∷ cs) = map (λ d. d ∷ []) (c ∷ cs)
+pieces (s ∷ set) (c ∷ cs) = slice_split (is_among (s ∷ set)) (c ∷ cs)
+
+-- texts joined by another
+abbrev pub joined_rest : Text → List Text → Text
+joined_rest separator [] = []
+joined_rest separator (t ∷ ts) = separator ++ (t ++ joined_rest separator ts)
+
+abbrev pub joined : Text → List Text → Text
+joined separator [] = []
+joined separator (t ∷ ts) = t ++ joined_rest separator ts
+
+-- texts without the white space around them, those of nothing else left out, joined by a space
+abbrev pub concatenated : List Text → Text
+concatenated ts = joined (codes " ") (filter (λ t. not (is_nil t)) (map trimmed ts))

@@ -1,0 +1,7 @@
+-- The limit on the bytes of a value.
+use Rattle.std.specs.Prelude.{ℕ, ◌≤◌, length, nat_le, if◌then◌else◌, Ok, Err}
+use Rattle.tcltext.specs.Tree.{Text}
+use Rattle.tclvalue.specs.Faults.{Answer, value_too_long}
+
+abbrev pub limited : ℕ → Text → Answer Text
+limited n t = if nat_le (length t) n then Ok t else Err value_too_long
