@@ -1,8 +1,10 @@
 -- Searches in texts, and replacements (string(n)). Texts are lists of characters here.
-use Rattle.std.specs.Prelude.{ℕ, zero, suc, List, [], ◌∷◌, ◌++◌, length, Bool, if◌then◌else◌, Option, Some, None, option_map, nat_eq, encode_utf8}
+use Rattle.std.specs.Prelude.{ℕ, zero, suc, List, [], ◌∷◌, ◌++◌, length, ◌-◌, Bool, ◌&&◌, not, if◌then◌else◌, Option, Some, None, option_map, nat_eq, encode_utf8, find}
 use Rattle.std.specs.Option.{option_or}
 use Rattle.std.specs.List.{starts_with}
 use Rattle.tcltext.specs.Tree.{Text}
+use Rattle.tclvalue.specs.Operators.{is_nil}
+use Rattle.tclvalue.specs.declared.searches.Replacement.{Replacement}
 
 -- the first place at which a text stands in another
 abbrev pub first_place : Text → Text → Option ℕ
@@ -18,23 +20,24 @@ last_place sought (c ∷ cs) = option_or (option_map suc (last_place sought cs))
 abbrev pub Pair : Type 0
 Pair = Text × Text
 
--- the pair of a key that stands at the front of the text; an empty key is passed over
-abbrev pub fit : Pair → Text → Option Pair
-fit ([], value) t = None
-fit (c ∷ cs, value) t = if starts_with nat_eq t (c ∷ cs) then Some (cs, value) else None
+-- a key stands at the front of the text; an empty key never does
+abbrev pub fits : Text → Pair → Bool
+fits t p = not (is_nil p.0) && starts_with nat_eq t p.0
 
--- the value of the first pair that fits, and its key without the first character
 abbrev pub first_fit : List Pair → Text → Option Pair
-first_fit [] t = None
-first_fit (p ∷ ps) t = option_or (fit p t) (first_fit ps t)
+first_fit ps t = find (fits t) ps
 
 -- the bytes of a text in which the first key that fits is replaced at each place. So many characters at the front are passed over,
 -- since they are the rest of a key that was replaced
 abbrev pub replaced : ℕ → Option Pair → (ℕ → Text) → Text
-replaced c (Some p) more = p.1 ++ more (length p.0)
+replaced c (Some p) more = p.1 ++ more (length p.0 - 1)
 replaced c None more = encode_utf8 c ++ more 0
 
 abbrev pub mapped : List Pair → ℕ → Text → Text
 mapped ps n [] = []
 mapped ps (suc n) (c ∷ cs) = mapped ps n cs
 mapped ps zero (c ∷ cs) = replaced c (first_fit ps (c ∷ cs)) (λ n. mapped ps n cs)
+
+-- what a pair of the program stands for
+abbrev pub pair_view : Replacement → Pair
+pair_view r = (r.key.items, r.value.now)

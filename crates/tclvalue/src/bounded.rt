@@ -1,7 +1,7 @@
 //! Texts within a limit on their bytes.
-ghost use Rattle.std.specs.Prelude.{◌≡◌, ◌++◌, ◌<◌, [], length, string_bytes, OnOk, IfErr, IfSome};
-ghost use Rattle.tclvalue.specs.Faults.{GivesText, cause_of, value_too_long};
-ghost use Rattle.tclvalue.specs.Limits.{limited};
+ghost use Rattle.std.specs.Prelude.{◌≡◌, [], string_bytes, encode_utf8};
+ghost use Rattle.tclvalue.specs.Faults.{GivesText};
+ghost use Rattle.tclvalue.specs.Limits.{limited, Appends};
 
 use crate::fault::ValueFault;
 use std::alloc::Global;
@@ -37,14 +37,23 @@ impl Bounded {
 
     /// Puts a text behind the others.
     pub(crate) fn push(&mut self, piece: &str) -> Result<(), ValueFault>
-        ensures ok { OnOk result (string_bytes self.new.text ≡ string_bytes self.old.text ++ piece.now) }
-        ensures limit { self.new.limit ≡ self.old.limit }
-        ensures refused { IfErr result (λ e. IfSome (cause_of e) (λ f. (f ≡ value_too_long) × (self.old.limit < length (string_bytes self.old.text ++ piece.now)))) }
+        ensures { Appends result self.old self.new piece.now }
     {
         if piece.len() > self.limit.saturating_sub(self.text.len()) {
             return Err(ValueFault::ValueTooLong);
         }
         self.text.push_str(piece)?;
+        Ok(())
+    }
+
+    /// Puts a character behind the others.
+    pub(crate) fn push_character(&mut self, character: char) -> Result<(), ValueFault>
+        ensures { Appends result self.old self.new (encode_utf8 character) }
+    {
+        if character.len_utf8() > self.limit.saturating_sub(self.text.len()) {
+            return Err(ValueFault::ValueTooLong);
+        }
+        self.text.push(character)?;
         Ok(())
     }
 }

@@ -8,6 +8,7 @@ mod index;
 mod messages;
 mod operands;
 mod operators;
+mod searches;
 mod truth_values;
 
 pub use fault::ValueFault;
