@@ -1,7 +1,7 @@
 //! Searches in texts, and replacements (string(n)).
-ghost use Rattle.std.specs.Prelude.{◌≡◌, map};
+ghost use Rattle.std.specs.Prelude.{◌≡◌, ◌<◌, ◌-◌, ◌++◌, length, drop, map, string_bytes, IfOk, IfErr, OnOk};
 ghost use Rattle.std.specs.Option.{option_map, option_copied};
-ghost use Rattle.tclvalue.specs.Limits.{Appends};
+ghost use Rattle.tclvalue.specs.Limits.{Appends, Exceeds};
 ghost use Rattle.tclvalue.specs.Searches.{first_place, last_place, fits, first_fit, pair_view, mapped};
 
 use crate::bounded::Bounded;
@@ -64,4 +64,54 @@ fn first_fit<'a, 'b>(
         rest = after;
     }
     None
+}
+
+/// Puts a text behind another, with the first key that fits replaced at each place.
+pub(crate) fn push_mapped(
+    out: &mut Bounded,
+    replacements: &[Replacement],
+    text: &[char],
+) -> Result<(), ValueFault>
+    ensures { Appends result out.old out.new (mapped (map pair_view replacements.now) 0 text.now) }
+{
+    let mut rest = text;
+    while !rest.is_empty() {
+        rest = push_front(out, replacements, rest)?;
+    }
+    Ok(())
+}
+
+/// Puts what stands for the front of a text behind another, and leaves the rest of the text.
+fn push_front<'a>(
+    out: &mut Bounded,
+    replacements: &[Replacement],
+    text: &'a [char],
+) -> Result<&'a [char], ValueFault>
+    ensures shorter { IfOk result (λ rest. 0 < length text.entry.now → length rest.now < length text.entry.now) }
+    ensures limit { OnOk result (out.new.limit ≡ out.old.limit) }
+    ensures ok { IfOk result (λ rest. string_bytes out.new.text ++ mapped (map pair_view replacements.now) 0 rest.now
+        ≡ string_bytes out.old.text ++ mapped (map pair_view replacements.now) 0 text.entry.now) }
+    ensures refused { IfErr result (λ e. Exceeds e out.old.limit
+        (string_bytes out.old.text ++ mapped (map pair_view replacements.now) 0 text.entry.now)) }
+{
+    let [first, after @ ..] = text else {
+        return Ok(text);
+    };
+    match first_fit(replacements, text) {
+        Some(found) => {
+            out.push(found.value)?;
+            Ok(after_key(found, after))
+        }
+        None => {
+            out.push_character(*first)?;
+            Ok(after)
+        }
+    }
+}
+
+/// What follows a key, but for its first character, in a text.
+fn after_key<'a>(found: &Replacement, text: &'a [char]) -> &'a [char]
+    ensures { result.now ≡ drop (length (pair_view found.now).0 - 1) text.entry.now }
+{
+    text.get(found.key.len().saturating_sub(1)..).unwrap_or(&[])
 }
