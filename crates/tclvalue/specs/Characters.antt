@@ -44,3 +44,7 @@ joined separator (t ∷ ts) = t ++ joined_rest separator ts
 -- texts without the white space around them, those of nothing else left out, joined by a space
 abbrev pub concatenated : List Text → Text
 concatenated ts = joined (codes " ") (filter (λ t. not (is_nil t)) (map trimmed ts))
+
+-- the texts of rows of characters
+abbrev pub encoded_all : List Text → List Text
+encoded_all rows = map encode_utf8_all rows

@@ -4,6 +4,7 @@
 mod bounded;
 mod characters;
 mod fault;
+mod lists;
 mod index;
 mod messages;
 mod operands;
