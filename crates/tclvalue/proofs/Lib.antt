@@ -1,3 +1,5 @@
 pub mod NumberLemmas
 pub mod CharacterLemmas
 pub mod SearchLemmas
+pub mod IndexLemmas
+pub mod LimitLemmas

@@ -19,7 +19,7 @@ pub(crate) fn text_of(alloc: Global, characters: &[char]) -> Result<String, Allo
     characters.iter().copied().collect(alloc)
 }
 
-fn is_among(set: &[char], character: char) -> bool
+pub(crate) fn is_among(set: &[char], character: char) -> bool
     ensures { result ≡ is_among set.now character }
 {
     set.contains(&character)

@@ -1,8 +1,8 @@
 //! Indexes of lists and texts (lindex(n), string(n)).
-ghost use Rattle.std.specs.Prelude.{◌≡◌, ◌+ℤ◌, pos, min, Some};
+ghost use Rattle.std.specs.Prelude.{◌≡◌, ◌+ℤ◌, pos, min, length, Some};
 ghost use Rattle.tcltext.specs.Numerals.{numeral};
 ghost use Rattle.tclvalue.specs.Faults.{Gives};
-ghost use Rattle.tclvalue.specs.Indexes.{index_of, index_behind, index_number, begins_space, count_of, place, at_least_0, place_among};
+ghost use Rattle.tclvalue.specs.Indexes.{index_of, index_behind, index_number, begins_space, count_of, place, at_least_0, place_among, items_between};
 
 use crate::fault::ValueFault;
 use crate::messages::{bad_index, no_whole_number};
@@ -117,4 +117,13 @@ pub(crate) fn count_of(alloc: Global, word: &str) -> Result<i64, ValueFault>
         Numeral::Fraction => Err(ValueFault::FractionOperand),
         Numeral::Text => Err(no_whole_number(alloc, word)),
     }
+}
+
+/// The items from one index up to and with another, as far as they are there.
+pub(crate) fn between<T>(items: &[T], first: Index, last: Index) -> &[T]
+    ensures { result.now ≡ items_between (place (length items.entry.now) first) (place (length items.entry.now) last) items.entry.now }
+{
+    let start = first.items_before(items.len());
+    let end = last.items_through(items.len());
+    items.get(start..end).unwrap_or(&[])
 }

@@ -4,12 +4,13 @@
 mod bounded;
 mod characters;
 mod fault;
-mod lists;
 mod index;
+mod lists;
 mod messages;
 mod operands;
 mod operators;
 mod searches;
+mod texts;
 mod truth_values;
 
 pub use fault::ValueFault;

@@ -47,11 +47,7 @@ pub(crate) fn push_joined(
 }
 
 /// Puts texts behind another, each behind a separator.
-fn push_joined_rest(
-    out: &mut Bounded,
-    separator: &str,
-    texts: &[String],
-) -> Result<(), ValueFault>
+fn push_joined_rest(out: &mut Bounded, separator: &str, texts: &[String]) -> Result<(), ValueFault>
     ensures { Appends result out.old out.new (joined_rest separator.now (map string_bytes texts.now)) }
 {
     let mut rest = texts;
@@ -64,7 +60,7 @@ fn push_joined_rest(
 }
 
 /// The texts of rows of characters.
-fn texts_of(alloc: Global, rows: &[&[char]]) -> Result<Vec<String>, AllocError>
+pub(crate) fn texts_of(alloc: Global, rows: &[&[char]]) -> Result<Vec<String>, AllocError>
     ensures { IfOk result (λ v. map string_bytes v.items ≡ encoded_all (map (λ r. r.now) rows.now)) }
 {
     let mut texts = Vec::new(alloc);
