@@ -3,6 +3,7 @@
 
 mod bounded;
 mod characters;
+mod concat;
 mod fault;
 mod index;
 mod lists;

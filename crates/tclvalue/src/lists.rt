@@ -1,11 +1,11 @@
 //! Texts made of others: lists, and texts joined.
 ghost use Rattle.std.specs.Prelude.{◌≡◌, map, IfOk, string_bytes};
-ghost use Rattle.std.specs.Str.{chars};
 ghost use Rattle.tcltext.specs.Lists.{list_text};
-ghost use Rattle.tclvalue.specs.Limits.{Appends};
+ghost use Rattle.tclvalue.specs.Faults.{GivesText};
+ghost use Rattle.tclvalue.specs.Limits.{Appends, limited};
 ghost use Rattle.tclvalue.specs.Characters.{joined, joined_rest, encoded_all};
 
-use crate::bounded::Bounded;
+use crate::bounded::{Bounded, limited};
 use crate::characters::text_of;
 use crate::fault::ValueFault;
 use std::alloc::{AllocError, Global};
@@ -30,11 +30,7 @@ pub(crate) fn list_text(alloc: Global, elements: &[String]) -> Result<String, Al
 }
 
 /// Puts texts behind another, with a separator between them.
-pub(crate) fn push_joined(
-    out: &mut Bounded,
-    separator: &str,
-    texts: &[String],
-) -> Result<(), ValueFault>
+fn push_joined(out: &mut Bounded, separator: &str, texts: &[String]) -> Result<(), ValueFault>
     ensures { Appends result out.old out.new (joined separator.now (map string_bytes texts.now)) }
 {
     match texts {
@@ -68,4 +64,18 @@ pub(crate) fn texts_of(alloc: Global, rows: &[&[char]]) -> Result<Vec<String>, A
         texts.push(text_of(alloc, row)?)?;
     }
     Ok(texts)
+}
+
+/// The texts with a separator between them, unless this would pass the limit.
+pub(crate) fn joined(
+    alloc: Global,
+    separator: &str,
+    texts: &[String],
+    limit: usize,
+) -> Result<String, ValueFault>
+    ensures { GivesText result (limited limit (joined separator.now (map string_bytes texts.now))) }
+{
+    let mut out = Bounded::new(alloc, limit);
+    push_joined(&mut out, separator, texts)?;
+    limited(out.text, limit)
 }

@@ -1,11 +1,15 @@
 //! Searches in texts, and replacements (string(n)).
 ghost use Rattle.std.specs.Prelude.{◌≡◌, ◌<◌, ◌-◌, ◌++◌, length, drop, map, string_bytes, IfOk, IfErr, OnOk};
 ghost use Rattle.std.specs.Option.{option_map, option_copied};
-ghost use Rattle.tclvalue.specs.Limits.{Appends, Exceeds};
+ghost use Rattle.std.specs.Str.{chars};
+ghost use Rattle.tclvalue.specs.Faults.{GivesText};
+ghost use Rattle.tclvalue.specs.Limits.{limited, Appends, Exceeds};
 ghost use Rattle.tclvalue.specs.Searches.{first_place, last_place, fits, first_fit, pair_view, mapped};
 
-use crate::bounded::Bounded;
+use crate::bounded::{Bounded, limited};
+use crate::characters::characters;
 use crate::fault::ValueFault;
+use std::alloc::Global;
 
 /// The first place at which a text stands in another.
 pub(crate) fn first_place(sought: &[char], text: &[char]) -> Option<usize>
@@ -67,7 +71,7 @@ fn first_fit<'a, 'b>(
 }
 
 /// Puts a text behind another, with the first key that fits replaced at each place.
-pub(crate) fn push_mapped(
+fn push_mapped(
     out: &mut Bounded,
     replacements: &[Replacement],
     text: &[char],
@@ -79,6 +83,21 @@ pub(crate) fn push_mapped(
         rest = push_front(out, replacements, rest)?;
     }
     Ok(())
+}
+
+/// The text with the first key that fits replaced at each place, unless this would pass the limit.
+pub(crate) fn mapped(
+    alloc: Global,
+    replacements: &[Replacement],
+    text: &str,
+    limit: usize,
+) -> Result<String, ValueFault>
+    ensures { GivesText result (limited limit (mapped (map pair_view replacements.now) 0 (chars text.now))) }
+{
+    let characters = characters(alloc, text)?;
+    let mut out = Bounded::new(alloc, limit);
+    push_mapped(&mut out, replacements, &characters)?;
+    limited(out.text, limit)
 }
 
 /// Puts what stands for the front of a text behind another, and leaves the rest of the text.

@@ -3,13 +3,19 @@ ghost use Rattle.std.specs.Prelude.{◌≡◌, ◌∷◌, [], map, string_bytes,
 ghost use Rattle.std.specs.List.{repeat, slice_split};
 ghost use Rattle.tclvalue.specs.Faults.{GivesText};
 ghost use Rattle.tclvalue.specs.Limits.{limited};
-ghost use Rattle.tclvalue.specs.Characters.{is_among, trimmed, without, characters_between, parts, pieces, encoded_all};
+ghost use Rattle.tclvalue.specs.Characters.{is_among, trimmed, without, characters_between, parts, pieces, encoded_all, white_space, split_space};
 
 use crate::characters::{characters, is_among, text_of, without_end, without_start};
 use crate::fault::ValueFault;
 use crate::index::{Index, between};
 use crate::lists::texts_of;
 use std::alloc::{AllocError, Global};
+
+/// Space, tab, newline, vertical tab, form feed and carriage return.
+const WHITE_SPACE: &str = " \t\n\u{b}\u{c}\r";
+
+/// What splits a text where nothing else is said: space, newline, tab and carriage return.
+const SPLIT_SPACE: &str = " \n\t\r";
 
 /// At which ends a text is trimmed.
 #[derive(Clone, Copy)]
@@ -31,6 +37,14 @@ pub(crate) fn trimmed(
     let set = characters(alloc, set)?;
     let characters = characters(alloc, text)?;
     text_of(alloc, without(ends, &set, &characters))
+}
+
+/// The text without the white space at its ends.
+#[tactic(auto, unfolding(crate::specs::Characters::white_space))]
+pub(crate) fn trimmed_of_space(alloc: Global, ends: Ends, text: &str) -> Result<String, AllocError>
+    ensures { IfOk result (λ t. string_bytes t ≡ trimmed ends white_space text.now) }
+{
+    trimmed(alloc, ends, WHITE_SPACE, text)
 }
 
 fn without<'a>(ends: Ends, set: &[char], text: &'a [char]) -> &'a [char]
@@ -76,6 +90,14 @@ fn rows<'a>(alloc: Global, set: &[char], text: &'a [char]) -> Result<Vec<&'a [ch
     ensures { IfOk result (λ v. map (λ r. r.now) v.items ≡ slice_split (is_among set.now) text.entry.now) }
 {
     text.split(|c| is_among(set, *c)).collect(alloc)
+}
+
+/// The pieces of a text between its white space.
+#[tactic(auto, unfolding(crate::specs::Characters::split_space))]
+pub(crate) fn parts_at_space(alloc: Global, text: &str) -> Result<Vec<String>, AllocError>
+    ensures { IfOk result (λ v. map string_bytes v.items ≡ parts split_space text.now) }
+{
+    parts(alloc, SPLIT_SPACE, text)
 }
 
 /// The text of each character.
