@@ -1,0 +1,4 @@
+pub mod RunLemmas
+pub mod BraceLemmas
+pub mod BraceClose
+pub mod BackslashLemmas

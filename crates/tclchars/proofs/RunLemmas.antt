@@ -1,0 +1,123 @@
+-- Runs of bytes at the front of a text.
+use Rattle.std.proofs.Common.{◌≡◌, ℕ, zero, suc, ◌+◌, ◌<◌, ◌≤◌, List, [], ◌∷◌, ◌++◌, length, get_or, take, drop, Bool, true, false, refl, sym, ap, ◌∙◌, arith, add-one, append_assoc, append-nil, add-zero}
+use Rattle.std.proofs.lemmas.List.{drop_more, take_more, length-drop, get_or-drop}
+use Rattle.std.proofs.lemmas.Bool.Decides.{nat_tests}
+use borrow.Author.Count.{below_more}
+use Rattle.std.specs.Str.{IsUtf8, IsCharBoundary}
+use Rattle.std.proofs.lemmas.Str.{IsCharBoundary-start, IsCharBoundary-after_ascii, IsCharBoundary-before_ascii, IsUtf8-drop}
+use Rattle.tclchars.specs.Runs.{front, back}
+use Rattle.tclchars.specs.Classes.{in_class}
+use Rattle.tclchars.specs.declared.runs.Class.{Class}
+use Rattle.tclchars.specs.declared.runs.Class.TheVariants.{Blank, Gap, Space, BlankOrTab, Plain, BareScript, BareBracket, BareIndex, BareQuote, BareElement, Name, InName}
+
+pub front-cons_true : (p : ℕ → Bool) (b : ℕ) (bs : List ℕ) → p b ≡ true → front p (b ∷ bs) ≡ b ∷ front p bs
+front-cons_true p b bs h = rw h refl
+
+pub front-cons_false : (p : ℕ → Bool) (b : ℕ) (bs : List ℕ) → p b ≡ false → front p (b ∷ bs) ≡ []
+front-cons_false p b bs h = rw h refl
+
+pub back-cons_true : (p : ℕ → Bool) (b : ℕ) (bs : List ℕ) → p b ≡ true → back p (b ∷ bs) ≡ back p bs
+back-cons_true p b bs h = rw h refl
+
+pub back-cons_false : (p : ℕ → Bool) (b : ℕ) (bs : List ℕ) → p b ≡ false → back p (b ∷ bs) ≡ b ∷ bs
+back-cons_false p b bs h = rw h refl
+
+pub front-nil : (p : ℕ → Bool) → front p [] ≡ []
+front-nil p = refl
+
+pub back-nil : (p : ℕ → Bool) → back p [] ≡ []
+back-nil p = refl
+
+-- what was passed so far, and the rest
+pub record Passed (p : ℕ → Bool) (bs : List ℕ) (n : ℕ) : Type 0 where
+  pub run : front p bs ≡ take n bs ++ front p (drop n bs)
+  pub rest : back p bs ≡ back p (drop n bs)
+  pub each : (k : ℕ) → k < n → p (get_or bs k 0) ≡ true
+
+pub passed-none : (p : ℕ → Bool) (bs : List ℕ) → Passed p bs 0
+passed-none p bs = record { run = refl; rest = refl; each = λ k h. absurd (omega arith) }
+
+pub passed-more : (p : ℕ → Bool) (bs : List ℕ) (n : ℕ) → n < length bs → p (get_or bs n 0) ≡ true → Passed p bs n → Passed p bs (n + 1)
+passed-more p bs n h t s =
+    let here = drop_more bs n 0 h in
+    let x = get_or bs n 0 in
+    let more = drop (n + 1) bs in
+    record {
+      run =
+          s.run ∙ ap (λ ys. take n bs ++ front p ys) here ∙ ap (λ ys. take n bs ++ ys) (front-cons_true p x more t)
+          ∙ sym (ap (λ ys. ys ++ front p more) (take_more bs n 0 h) ∙ append_assoc (take n bs) (x ∷ []) (front p more));
+      rest = s.rest ∙ ap (back p) here ∙ back-cons_true p x more t;
+      each = below_more _ _ s.each t;
+    }
+
+stops : (p : ℕ → Bool) (ys : List ℕ) → (0 < length ys → p (get_or ys 0 0) ≡ false) → (front p ys ≡ []) × (back p ys ≡ ys)
+stops p [] h = (front-nil p, back-nil p)
+stops p (y ∷ ys) h = (front-cons_false p y ys (h (omega arith)), back-cons_false p y ys (h (omega arith)))
+
+-- where the next byte fails the test, the two parts are those of a cut there
+pub passed-end : (p : ℕ → Bool) (bs : List ℕ) (n : ℕ) → Passed p bs n → n ≤ length bs → (n < length bs → p (get_or bs n 0) ≡ false) → (take n bs ≡ front p bs) × (drop n bs ≡ back p bs)
+passed-end p bs n s le stop =
+    let here = stops p (drop n bs) (λ h. rw (get_or-drop) (simp add-zero (stop (omega (arith, length-drop n bs))))) in
+    (sym (s.run ∙ ap (λ ys. take n bs ++ ys) here.0 ∙ append-nil (take n bs)), sym (s.rest ∙ here.1))
+
+-- every class but those of bytes that stand for themselves holds ASCII alone
+abbrev pub is_narrow : Class → Bool
+is_narrow Blank = true
+is_narrow Gap = true
+is_narrow Space = true
+is_narrow BlankOrTab = true
+is_narrow Plain = false
+is_narrow BareScript = false
+is_narrow BareBracket = false
+is_narrow BareIndex = false
+is_narrow BareQuote = false
+is_narrow BareElement = false
+is_narrow Name = true
+is_narrow InName = false
+
+narrow_ascii : (class : Class) (b : ℕ) → is_narrow class ≡ true → in_class class b ≡ true → b < 128
+narrow_ascii Blank b n h = grind (arith, nat_tests)
+narrow_ascii Gap b n h = grind (arith, nat_tests)
+narrow_ascii Space b n h = grind (arith, nat_tests)
+narrow_ascii BlankOrTab b n h = grind (arith, nat_tests)
+narrow_ascii Name b n h = grind (arith, nat_tests)
+narrow_ascii Plain b n h = cc
+narrow_ascii BareScript b n h = cc
+narrow_ascii BareBracket b n h = cc
+narrow_ascii BareIndex b n h = cc
+narrow_ascii BareQuote b n h = cc
+narrow_ascii BareElement b n h = cc
+narrow_ascii InName b n h = cc
+
+wide_ascii : (class : Class) (b : ℕ) → is_narrow class ≡ false → in_class class b ≡ false → b < 128
+wide_ascii Plain b n h = grind (arith, nat_tests)
+wide_ascii BareScript b n h = grind (arith, nat_tests)
+wide_ascii BareBracket b n h = grind (arith, nat_tests)
+wide_ascii BareIndex b n h = grind (arith, nat_tests)
+wide_ascii BareQuote b n h = grind (arith, nat_tests)
+wide_ascii BareElement b n h = grind (arith, nat_tests)
+wide_ascii InName b n h = grind (arith, nat_tests)
+wide_ascii Blank b n h = cc
+wide_ascii Gap b n h = cc
+wide_ascii Space b n h = cc
+wide_ascii BlankOrTab b n h = cc
+wide_ascii Name b n h = cc
+
+-- a text may be cut behind a run
+pub run_cut : (class : Class) (bs : List ℕ) (n : ℕ) → IsUtf8 bs → Passed (in_class class) bs n → n ≤ length bs → (n < length bs → in_class class (get_or bs n 0) ≡ false) → IsCharBoundary bs n
+run_cut class bs n u s le stop = cases (is_narrow class) refl n s le stop where
+  cases : (t : Bool) → is_narrow class ≡ t → (n : ℕ) → Passed (in_class class) bs n → n ≤ length bs → (n < length bs → in_class class (get_or bs n 0) ≡ false) → IsCharBoundary bs n
+  cases true e zero s le stop = IsCharBoundary-start bs u
+  cases true e (suc m) s le stop = rw (← add-one) (IsCharBoundary-after_ascii bs m u (omega arith) (narrow_ascii class _ e (s.each m (omega arith))))
+  cases false e n s le stop = (le, λ lt big. let small : get_or bs n 0 < 128 = wide_ascii class _ e (stop lt) in absurd (omega arith))
+
+-- a text that is cut before a mark may be cut after it
+pub mark_cut : (bs behind : List ℕ) (i mark : ℕ) → IsUtf8 bs → behind ≡ drop i bs → i < length bs → get_or bs i 0 ≡ mark → mark < 128 → IsCharBoundary behind 1
+mark_cut bs behind i mark u e lt is small =
+    let utf8 : IsUtf8 (drop i bs) = IsUtf8-drop bs i u (IsCharBoundary-before_ascii bs i lt (omega arith)) in
+    let here : drop i bs ≡ get_or bs i 0 ∷ drop (i + 1) bs = drop_more bs i 0 lt in
+    let first : get_or (drop i bs) 0 0 ≡ mark = ap (λ ys. get_or ys 0 0) here ∙ is in
+    rw e (IsCharBoundary-after_ascii (drop i bs) 0 utf8 (rw here (omega arith)) (omega arith))
+
+pub drop_one : (bs : List ℕ) (i : ℕ) → i < length bs → drop 1 (drop i bs) ≡ drop (i + 1) bs
+drop_one bs i lt = ap (drop 1) (drop_more bs i 0 lt)

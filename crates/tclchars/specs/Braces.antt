@@ -1,0 +1,33 @@
+-- Braces that match (Tcl(n), rule 6: a backslash and the character after it count for none).
+use Rattle.std.specs.Prelude.{◌≢◌, ℕ, zero, suc, [], ◌∷◌, ◌++◌, Bool, true, false, ◌==◌, if◌then◌else◌, Option, Some, None, option_map}
+use Rattle.tclchars.specs.Bytes.{backslash}
+use Rattle.tclchars.specs.Runs.{Text}
+
+-- braces match, but for those behind a backslash
+pub data Balanced : Text → Type 0 where
+  nothing : Balanced []
+  other : {b : ℕ} {bs : Text} → b ≢ backslash → b ≢ 123 → b ≢ 125 → Balanced bs → Balanced (b ∷ bs)
+  escaped : {b : ℕ} {bs : Text} → Balanced bs → Balanced (backslash ∷ (b ∷ bs))
+  inner : {inside bs : Text} → Balanced inside → Balanced bs → Balanced (123 ∷ (inside ++ 125 ∷ bs))
+
+-- The brace that closes, as a function that computes; the law closing_brace ties it to Balanced.
+
+abbrev pub behind : ℕ → Option (Text × Text) → Option (Text × Text)
+behind b found = option_map (λ p. (b ∷ p.0, p.1)) found
+
+-- Inside braces, what one byte does: whether the next one is escaped, and how many braces are open inside. None: it closes
+abbrev pub brace_step : Bool → ℕ → ℕ → Option (Bool × ℕ)
+brace_step true depth b = Some (false, depth)
+brace_step false zero b =
+    if b == 92 then Some (true, 0) else if b == 123 then Some (false, 1) else if b == 125 then None else Some (false, 0)
+brace_step false (suc depth) b =
+    if b == 92 then Some (true, suc depth) else if b == 123 then Some (false, suc (suc depth)) else if b == 125 then Some (false, depth) else Some (false, suc depth)
+
+abbrev pub after_step : ℕ → Text → (Bool → ℕ → Option (Text × Text)) → Option (Bool × ℕ) → Option (Text × Text)
+after_step b bs more None = Some ([], bs)
+after_step b bs more (Some s) = behind b (more s.0 s.1)
+
+-- what stands before the brace that closes, and what follows it
+unfoldable pub braced_at : Bool → ℕ → Text → Option (Text × Text)
+braced_at next depth [] = None
+braced_at next depth (b ∷ bs) = after_step b bs (λ e d. braced_at e d bs) (brace_step next depth b)

@@ -1,0 +1,34 @@
+-- The classes of bytes that runs are made of.
+use Rattle.std.specs.Prelude.{ℕ, [], ◌∷◌, Bool, false, not, ◌||◌, ◌&&◌, ◌==◌, nat_le}
+use Rattle.tclchars.specs.Bytes.{is_blank, is_gap, is_plain, is_space, backslash}
+use Rattle.tclchars.specs.Runs.{Text}
+use Rattle.tclchars.specs.Backslash.{is_blank_or_tab}
+use Rattle.tclchars.specs.declared.runs.Class.{Class}
+use Rattle.tclchars.specs.declared.runs.Class.TheVariants.{Blank, Gap, Space, BlankOrTab, Plain, BareScript, BareBracket, BareIndex, BareQuote, BareElement, Name, InName}
+
+-- letters, digits and the underscore, of which the names of variables are made
+abbrev pub is_name : ℕ → Bool
+is_name b = (nat_le 48 b && nat_le b 57) || (nat_le 65 b && nat_le b 90) || (nat_le 97 b && nat_le b 122) || b == 95
+
+-- what begins a substitution: $ [ and the backslash
+abbrev pub is_substitution : ℕ → Bool
+is_substitution b = b == 36 || b == 91 || b == backslash
+
+abbrev pub in_class : Class → ℕ → Bool
+in_class Blank b = is_blank b
+in_class Gap b = is_gap b
+in_class Space b = is_space b
+in_class BlankOrTab b = is_blank_or_tab b
+in_class Plain b = is_plain b
+in_class BareScript b = not (is_gap b || is_substitution b)
+in_class BareBracket b = not (is_gap b || is_substitution b || b == 93)
+in_class BareIndex b = not (is_substitution b || b == 41)
+in_class BareQuote b = not (is_substitution b || b == 34)
+in_class BareElement b = not (is_space b || b == backslash)
+in_class Name b = is_name b
+in_class InName b = not (b == 125)
+
+-- whether there is a first byte, and it passes
+abbrev pub begins_in : (ℕ → Bool) → Text → Bool
+begins_in p [] = false
+begins_in p (b ∷ bs) = p b

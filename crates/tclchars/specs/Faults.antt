@@ -1,0 +1,24 @@
+-- What is wrong with a text, by number, and the limits of a text that is parsed.
+use Rattle.std.specs.Prelude.{ℕ}
+use Rattle.tclchars.specs.declared.fault.TextFault.{TextFault}
+use Rattle.tclchars.specs.declared.fault.TextFault.TheVariants.{OutOfMemory, OpenBrace, OpenQuote, OpenBracket, JoinedToClose, TooDeep, BadCharacter, BadExpression, TooLong}
+
+-- the longest text that is parsed, in bytes
+abbrev pub max_bytes : ℕ
+max_bytes = 1048576
+
+-- the deepest nesting of brackets, parentheses and operators
+abbrev pub max_nesting : ℕ
+max_nesting = 200
+
+-- the number of a fault, as the program's users know it
+abbrev pub fault_number : TextFault → ℕ
+fault_number OutOfMemory = 1
+fault_number (OpenBrace at) = 2
+fault_number (OpenQuote at) = 3
+fault_number (OpenBracket at) = 4
+fault_number (JoinedToClose at) = 5
+fault_number TooDeep = 6
+fault_number (BadCharacter at) = 7
+fault_number (BadExpression at) = 8
+fault_number TooLong = 9

@@ -1,0 +1,7 @@
+pub mod Bytes
+pub mod Runs
+pub mod Backslash
+pub mod Classes
+pub mod Braces
+pub mod Faults
+pub mod Reading

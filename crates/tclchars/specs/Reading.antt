@@ -1,0 +1,63 @@
+-- Readers: what they give of a text, and the fault that stops them. A fault has the number of bytes from its mark on.
+use Rattle.std.specs.Prelude.{◌≡◌, ℕ, zero, suc, ◌-◌, List, [], ◌∷◌, Bool, true, false, Result, Ok, Err}
+use Rattle.tclchars.specs.Runs.{Text}
+use Rattle.tclchars.specs.declared.fault.Fault.{Fault}
+use Rattle.tclchars.specs.declared.fault.Fault.TheVariants as marks
+use Rattle.tclchars.specs.declared.fault.ReadError.{ReadError}
+use Rattle.tclchars.specs.declared.fault.ReadError.TheVariants as errors
+use Rattle.tclchars.specs.declared.fault.TextFault.{TextFault}
+use Rattle.tclchars.specs.declared.fault.TextFault.TheVariants as faults
+
+infixl 10 ◌>>=◌
+abbrev pub ◌>>=◌ : {A B : Type 0} → Result A Fault → (A → Result B Fault) → Result B Fault
+(Ok x) >>= f = f x
+(Err e) >>= f = Err e
+
+-- what a function returned, seen by view, is what reading gives, unless memory ran out
+abbrev pub Fails : {Y : Type 0} → ReadError → Result Y Fault → Type 0
+Fails errors.Memory read = Unit {0}
+Fails (errors.Fault f) read = read ≡ Err f
+
+abbrev pub Gives : {X Y : Type 0} → (X → Y) → Result X ReadError → Result Y Fault → Type 0
+Gives view (Ok x) read = read ≡ Ok (view x)
+Gives view (Err e) read = Fails e read
+
+-- a value and what follows it
+abbrev pub Read : Type 0 → Type 0
+Read A = Result (A × Text) Fault
+
+-- what was read, seen otherwise
+abbrev pub read_map : {A B : Type 0} → (A → B) → Read A → Read B
+read_map f found = found >>= (λ x. Ok (f x.0, x.1))
+
+-- items, where skip passes what stands before each, and ends says that none follows.
+-- The number bounds the turns: one more than the length is enough
+abbrev pub items_step : {X : Type 0} → (Text → Read X) → (Text → Read (List X)) → Text → Bool → Read (List X)
+items_step one more bs true = Ok ([], bs)
+items_step one more bs false = do
+  x ← one bs
+  read_map (λ xs. x.0 ∷ xs) (more x.1)
+
+abbrev pub items_at : {X : Type 0} → (Text → Text) → (Text → Bool) → (Text → Read X) → ℕ → Text → Read (List X)
+items_at skip ends one zero bs = Err marks.TooDeep
+items_at skip ends one (suc n) bs = items_step one (items_at skip ends one n) (skip bs) (ends (skip bs))
+
+-- how many bytes there are from the mark on
+abbrev pub left_of : Fault → ℕ
+left_of (marks.OpenBrace left) = left
+left_of (marks.OpenQuote left) = left
+left_of (marks.OpenBracket left) = left
+left_of (marks.JoinedToClose left) = left
+left_of marks.TooDeep = 0
+left_of (marks.BadCharacter left) = left
+left_of (marks.BadExpression left) = left
+
+-- the fault of a text of that length, with the place of its mark from the front
+abbrev pub placed : ℕ → Fault → TextFault
+placed len (marks.OpenBrace left) = faults.OpenBrace (len - left)
+placed len (marks.OpenQuote left) = faults.OpenQuote (len - left)
+placed len (marks.OpenBracket left) = faults.OpenBracket (len - left)
+placed len (marks.JoinedToClose left) = faults.JoinedToClose (len - left)
+placed len marks.TooDeep = faults.TooDeep
+placed len (marks.BadCharacter left) = faults.BadCharacter (len - left)
+placed len (marks.BadExpression left) = faults.BadExpression (len - left)

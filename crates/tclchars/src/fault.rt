@@ -1,0 +1,118 @@
+ghost use Rattle.std.specs.Prelude.{◌≡◌, ◌≤◌};
+ghost use Rattle.tclchars.specs.Faults.{fault_number};
+ghost use Rattle.tclchars.specs.Reading.{left_of, placed};
+ghost use Rattle.tclchars.specs.declared.fault.ReadError.TheVariants.{Memory};
+
+use std::alloc::{AllocError, AllocFailed};
+use thiserror::Error;
+
+/// What is wrong with a text. A place is in bytes, from 0.
+#[derive(Debug, Drop, Error)]
+pub enum TextFault {
+    /// Memory ran out.
+    #[error("Out of memory")]
+    OutOfMemory,
+    /// No brace closes the one at this place.
+    #[error("Missing close-brace at byte {0}")]
+    OpenBrace(usize),
+    /// No quote closes the one at this place.
+    #[error("Missing close-quote at byte {0}")]
+    OpenQuote(usize),
+    /// No bracket closes the one at this place.
+    #[error("Missing close-bracket at byte {0}")]
+    OpenBracket(usize),
+    /// The character at this place follows a closing quote or brace directly.
+    #[error("Extra characters after a close at byte {0}")]
+    JoinedToClose(usize),
+    /// Substitutions, parentheses and operators nest past the limit.
+    #[error("Text is nested too deeply")]
+    TooDeep,
+    /// The character at this place can't stand there.
+    #[error("Bad character at byte {0}")]
+    BadCharacter(usize),
+    /// The expression is wrong at this place.
+    #[error("Bad expression at byte {0}")]
+    BadExpression(usize),
+    /// The text has more than 1,048,576 bytes.
+    #[error("Text is too long")]
+    TooLong,
+}
+
+impl TextFault {
+    /// The number of the fault.
+    pub fn number(&self) -> u16
+        ensures { result ≡ fault_number self.now }
+    {
+        match self {
+            TextFault::OutOfMemory => 1,
+            TextFault::OpenBrace(_) => 2,
+            TextFault::OpenQuote(_) => 3,
+            TextFault::OpenBracket(_) => 4,
+            TextFault::JoinedToClose(_) => 5,
+            TextFault::TooDeep => 6,
+            TextFault::BadCharacter(_) => 7,
+            TextFault::BadExpression(_) => 8,
+            TextFault::TooLong => 9,
+        }
+    }
+}
+
+/// What stops a reader, with the number of bytes from the mark on to the text's end.
+#[derive(Clone, Copy, Debug, PartialEq, Eq)]
+pub enum Fault {
+    /// No brace closes this one.
+    OpenBrace(usize),
+    /// No quote closes this one.
+    OpenQuote(usize),
+    /// No bracket closes this one.
+    OpenBracket(usize),
+    /// This character follows a closing quote or brace directly.
+    JoinedToClose(usize),
+    /// Substitutions, parentheses and operators nest past the limit.
+    TooDeep,
+    /// This character can't stand here.
+    BadCharacter(usize),
+    /// The expression is wrong here.
+    BadExpression(usize),
+}
+
+/// Why a reader stopped.
+#[derive(Debug, Drop)]
+pub enum ReadError {
+    /// Memory ran out.
+    Memory,
+    /// The text is wrong.
+    Fault(Fault),
+}
+
+impl From<AllocError> for ReadError {
+    ghost from_gives = { λ _ e. e ≡ Memory };
+
+    fn from(_e: AllocError) -> ReadError {
+        ReadError::Memory
+    }
+}
+
+impl<T: Drop> From<AllocFailed<T>> for ReadError {
+    ghost from_gives = { λ _ e. e ≡ Memory };
+
+    fn from(_e: AllocFailed<T>) -> ReadError {
+        ReadError::Memory
+    }
+}
+
+/// The fault of a text of `len` bytes, with its place from the front.
+pub fn place(fault: Fault, len: usize) -> TextFault
+    requires { left_of fault ≤ len }
+    ensures { result ≡ placed len fault }
+{
+    match fault {
+        Fault::OpenBrace(left) => TextFault::OpenBrace(len - left),
+        Fault::OpenQuote(left) => TextFault::OpenQuote(len - left),
+        Fault::OpenBracket(left) => TextFault::OpenBracket(len - left),
+        Fault::JoinedToClose(left) => TextFault::JoinedToClose(len - left),
+        Fault::TooDeep => TextFault::TooDeep,
+        Fault::BadCharacter(left) => TextFault::BadCharacter(len - left),
+        Fault::BadExpression(left) => TextFault::BadExpression(len - left),
+    }
+}

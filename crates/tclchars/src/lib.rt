@@ -1,0 +1,15 @@
+//! The characters of Tcl texts: which bytes mean something, what backslashes stand for, which braces match, and what can be
+//! wrong with a text.
+#![tactic(auto)]
+
+mod backslash;
+mod braces;
+mod fault;
+mod laws;
+mod runs;
+
+pub use backslash::read_backslash;
+pub use braces::split_close;
+pub use fault::{Fault, ReadError, TextFault, place};
+pub use laws::closing_brace;
+pub use runs::{Class, after_mark, begins_class, split_front};

@@ -1,0 +1,122 @@
+ghost use Rattle.std.specs.Prelude.{◌≡◌, ◌<◌, ◌∷◌, false, MatchOption};
+ghost use Rattle.tclchars.specs.Bytes.{is_blank, is_end, is_gap, is_special, is_plain, is_space};
+ghost use Rattle.tclchars.specs.Runs.{front, back, begins};
+ghost use Rattle.tclchars.specs.Classes.{in_class, begins_in, is_name, is_substitution};
+
+/// Which bytes a run is made of. Each class holds all bytes of a character of several bytes, or none.
+#[derive(Clone, Copy, Debug, PartialEq, Eq)]
+pub enum Class {
+    /// What parts the words of a command: white space but newline.
+    Blank,
+    /// What may stand between commands: white space and semicolons.
+    Gap,
+    /// White space.
+    Space,
+    /// What a backslash and a newline take along.
+    BlankOrTab,
+    /// What means nothing anywhere: no white space, `;`, quote, brace, bracket, `$` or backslash.
+    Plain,
+    /// What stands for itself in a bare word of a script.
+    BareScript,
+    /// What stands for itself in a bare word of a script in brackets.
+    BareBracket,
+    /// What stands for itself in the index of a variable.
+    BareIndex,
+    /// What stands for itself in quotes.
+    BareQuote,
+    /// What stands for itself in a bare element of a list.
+    BareElement,
+    /// Letters, digits and the underscore.
+    Name,
+    /// What stands in a name in braces.
+    InName,
+}
+
+fn is_blank(b: u8) -> bool
+    ensures { result ≡ is_blank b }
+{
+    b == b' ' || b == b'\t' || b == 11 || b == 12 || b == b'\r'
+}
+
+fn is_gap(b: u8) -> bool
+    ensures { result ≡ is_gap b }
+{
+    is_blank(b) || b == b'\n' || b == b';'
+}
+
+fn is_space(b: u8) -> bool
+    ensures { result ≡ is_space b }
+{
+    is_blank(b) || b == b'\n'
+}
+
+fn is_special(b: u8) -> bool
+    ensures { result ≡ is_special b }
+{
+    b == b'"' || b == b'$' || b == b'[' || b == b']' || b == b'{' || b == b'}' || b == b'\\'
+}
+
+fn is_substitution(b: u8) -> bool
+    ensures { result ≡ is_substitution b }
+{
+    b == b'$' || b == b'[' || b == b'\\'
+}
+
+fn is_name(b: u8) -> bool
+    ensures { result ≡ is_name b }
+{
+    b.is_ascii_alphanumeric() || b == b'_'
+}
+
+fn in_class(class: Class, b: u8) -> bool
+    ensures { result ≡ in_class class b }
+{
+    match class {
+        Class::Blank => is_blank(b),
+        Class::Gap => is_gap(b),
+        Class::Space => is_space(b),
+        Class::BlankOrTab => b == b' ' || b == b'\t',
+        Class::Plain => !(is_gap(b) || is_special(b)),
+        Class::BareScript => !(is_gap(b) || is_substitution(b)),
+        Class::BareBracket => !(is_gap(b) || is_substitution(b) || b == b']'),
+        Class::BareIndex => !(is_substitution(b) || b == b')'),
+        Class::BareQuote => !(is_substitution(b) || b == b'"'),
+        Class::BareElement => !(is_space(b) || b == b'\\'),
+        Class::Name => is_name(b),
+        Class::InName => b != b'}',
+    }
+}
+
+/// Whether the first byte of the text is of that class.
+pub fn begins_class(text: &str, class: Class) -> bool
+    ensures { result ≡ begins_in (in_class class) text.now }
+{
+    match text.as_bytes() {
+        [] => false,
+        [b, ..] => in_class(class, *b),
+    }
+}
+
+/// The run of bytes of that class at the front, and what follows it.
+pub fn split_front(text: &str, class: Class) -> (&str, &str)
+    ensures run { result.0.now ≡ front (in_class class) text.now }
+    ensures rest { result.1.now ≡ back (in_class class) text.now }
+{
+    let bytes = text.as_bytes();
+    let mut n = 0;
+    while n < bytes.len() && in_class(class, bytes[n]) {
+        n += 1;
+    }
+    text.split_at(n)
+}
+
+/// What follows the first byte, which is ASCII, where it is this one.
+pub fn after_mark(text: &str, mark: u8) -> Option<&str>
+    requires { mark < 128 }
+    ensures { MatchOption result (begins mark text.now ≡ false) (λ rest. text.now ≡ mark ∷ rest.now) }
+{
+    match text.as_bytes() {
+        [b, ..] if *b == mark => Some(text.split_at(1).1),
+        _ => None,
+    }
+}
