@@ -2,7 +2,7 @@
 use Rattle.std.specs.Prelude.{◌≡◌, ℕ, string_bytes, String, Option, Some, None, IfSome, Result, Ok, Err}
 use Rattle.std.specs.declared.alloc.Global.{Global}
 use Rattle.tcltext.specs.Tree.{Text}
-use Rattle.tcltext.specs.declared.TextFault.{TextFault}
+use Rattle.tclchars.specs.declared.fault.TextFault.{TextFault}
 use Rattle.tclvalue.specs.declared.fault.ValueFault.{ValueFault}
 use Rattle.tclvalue.specs.declared.fault.ValueFault.TheVariants as faults
 

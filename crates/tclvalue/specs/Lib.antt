@@ -6,3 +6,4 @@ pub mod Indexes
 pub mod Searches
 pub mod Characters
 pub mod Limits
+pub mod Elements

@@ -4,7 +4,7 @@ ghost use Rattle.tclvalue.specs.declared.fault.ValueFault.TheVariants as faults;
 ghost use Rattle.tclvalue.specs.Faults.{number_of};
 
 use std::alloc::{AllocError, AllocFailed};
-use tcltext::TextFault;
+use tclchars::TextFault;
 use thiserror::Error;
 
 /// Why there is no value. Its `Display` is what follows `ERROR: `, but for the line that an error of Tcl has there.

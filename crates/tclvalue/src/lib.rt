@@ -4,6 +4,7 @@
 mod bounded;
 mod characters;
 mod concat;
+mod elements;
 mod fault;
 mod index;
 mod lists;

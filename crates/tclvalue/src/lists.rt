@@ -1,6 +1,6 @@
 //! Texts made of others: lists, and texts joined.
 ghost use Rattle.std.specs.Prelude.{◌≡◌, map, IfOk, string_bytes};
-ghost use Rattle.tcltext.specs.Lists.{list_text};
+ghost use Rattle.tcllist.specs.Lists.{list_text};
 ghost use Rattle.tclvalue.specs.Faults.{GivesText};
 ghost use Rattle.tclvalue.specs.Limits.{Appends, limited};
 ghost use Rattle.tclvalue.specs.Characters.{joined, joined_rest, encoded_all};
@@ -9,7 +9,7 @@ use crate::bounded::{Bounded, limited};
 use crate::characters::text_of;
 use crate::fault::ValueFault;
 use std::alloc::{AllocError, Global};
-use tcltext::write_list;
+use tcllist::write_list;
 
 /// The texts as slices.
 fn slices(alloc: Global, texts: &[String]) -> Result<Vec<&str>, AllocError>
