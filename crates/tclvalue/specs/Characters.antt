@@ -3,7 +3,7 @@ use Rattle.std.specs.Prelude.{ℕ, ◌==◌, List, [], ◌∷◌, ◌++◌, leng
 use Rattle.std.specs.List.{list_any, slice_split}
 use Rattle.std.specs.Str.{chars, encode_utf8_all}
 use Rattle.tcltext.specs.Tree.{Text}
-use Rattle.tclvalue.specs.Operators.{is_nil}
+use Rattle.tclvalue.specs.Searches.{is_nil}
 use Rattle.tclvalue.specs.Indexes.{place, items_between}
 use Rattle.tclvalue.specs.declared.index.Index.{Index}
 use Rattle.tclvalue.specs.declared.texts.Ends.{Ends}

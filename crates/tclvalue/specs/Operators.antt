@@ -1,5 +1,6 @@
 -- The operators of expr(n) on texts. The operands are judged from the left, before a zero divisor or a negative shift.
-use Rattle.std.specs.Prelude.{ℕ, List, [], ◌∷◌, Bool, true, false, not, ◌||◌, ◌&&◌, ◌==◌, if◌then◌else◌, ℤ, pos, neg_ℤ, Option, Some, None, Result, Ok, Err, codes, length, take}
+use Rattle.std.specs.Prelude.{ℕ, List, [], ◌∷◌, Bool, true, false, not, ◌||◌, ◌&&◌, ◌==◌, if◌then◌else◌, ℤ, pos, neg_ℤ, Option, Some, None, Result, Ok, Err, codes, length, take, bytes_eq}
+use Rattle.std.specs.List.{list_any}
 use Rattle.std.specs.Str.{chars, str_eq_ignore_ascii_case}
 use Rattle.std.specs.Fmt.{signed_decimal}
 use Rattle.std.specs.declared.cmp.Ordering.{Ordering}
@@ -16,6 +17,8 @@ use Rattle.tcltext.specs.declared.operator.BinaryOperator.{BinaryOperator}
 use Rattle.tcltext.specs.declared.operator.BinaryOperator.TheVariants as binary
 use Rattle.tclvalue.specs.declared.operands.Operands.{Operands}
 use Rattle.tclvalue.specs.Faults.{Answer, error, number_too_large, fraction, ◌>>=◌}
+use Rattle.tclvalue.specs.Searches.{is_nil}
+use Rattle.tclvalue.specs.Elements.{elements_of}
 use Rattle.tclvalue.specs.Messages.{not_numeric, no_boolean}
 use Rattle.tclvalue.specs.Numbers.{within_64_bits, is_zero, sum, difference, product, divided, remaining, shifted_left, shifted_right, bits_of_both, bits_of_one, bits_of_either, other_bits}
 
@@ -41,10 +44,6 @@ number_operand t = number_of (numeral t)
 
 -- truth: a whole number is true unless it is 0; of words, in any case of their letters, the fronts of true and yes, and on, are true,
 -- the fronts of false and no, and of and off, are false
-abbrev pub is_nil : Text → Bool
-is_nil [] = true
-is_nil (c ∷ cs) = false
-
 abbrev pub is_front : Text → Text → Bool
 is_front word t = not (is_nil t) && str_eq_ignore_ascii_case (take (length t) word) t
 
@@ -104,3 +103,30 @@ order_of a b = number_operand a >>= (λ x. number_operand b >>= (λ y. Ok (order
 
 abbrev pub compared : (Ordering → Bool) → Text → Text → Answer Text
 compared holds a b = order_of a b >>= (λ o. Ok (truth_text (holds o)))
+
+-- whether a text is an element of a list
+abbrev pub found_in : Text → Text → Answer Bool
+found_in sought l = elements_of l >>= (λ es. Ok (list_any (bytes_eq sought) es))
+
+-- the value of an operator between its operands
+abbrev pub binary_value : BinaryOperator → Text → Text → Answer Text
+binary_value binary.Multiply a b = computed binary.Multiply product a b
+binary_value binary.Divide a b = computed binary.Divide divided a b
+binary_value binary.Remainder a b = computed binary.Remainder remaining a b
+binary_value binary.Add a b = computed binary.Add sum a b
+binary_value binary.Subtract a b = computed binary.Subtract difference a b
+binary_value binary.ShiftLeft a b = computed binary.ShiftLeft shifted_left a b
+binary_value binary.ShiftRight a b = computed binary.ShiftRight shifted_right a b
+binary_value binary.Less a b = compared is_lt a b
+binary_value binary.Greater a b = compared is_gt a b
+binary_value binary.LessEqual a b = compared is_le a b
+binary_value binary.GreaterEqual a b = compared is_ge a b
+binary_value binary.Equal a b = compared is_eq a b
+binary_value binary.NotEqual a b = compared is_ne a b
+binary_value binary.TextEqual a b = Ok (truth_text (bytes_eq a b))
+binary_value binary.TextNotEqual a b = Ok (truth_text (not (bytes_eq a b)))
+binary_value binary.In a b = found_in a b >>= (λ found. Ok (truth_text found))
+binary_value binary.NotIn a b = found_in a b >>= (λ found. Ok (truth_text (not found)))
+binary_value binary.BitAnd a b = computed binary.BitAnd (λ x y. Ok (bits_of_both x y)) a b
+binary_value binary.BitXor a b = computed binary.BitXor (λ x y. Ok (bits_of_one x y)) a b
+binary_value binary.BitOr a b = computed binary.BitOr (λ x y. Ok (bits_of_either x y)) a b

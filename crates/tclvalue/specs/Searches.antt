@@ -1,10 +1,13 @@
 -- Searches in texts, and replacements (string(n)). Texts are lists of characters here.
-use Rattle.std.specs.Prelude.{ℕ, zero, suc, List, [], ◌∷◌, ◌++◌, length, ◌-◌, Bool, ◌&&◌, not, if◌then◌else◌, Option, Some, None, option_map, nat_eq, encode_utf8, find}
+use Rattle.std.specs.Prelude.{ℕ, zero, suc, List, [], ◌∷◌, ◌++◌, length, ◌-◌, Bool, true, false, ◌&&◌, not, if◌then◌else◌, Option, Some, None, option_map, nat_eq, encode_utf8, find}
 use Rattle.std.specs.Option.{option_or}
 use Rattle.std.specs.List.{starts_with}
 use Rattle.tcltext.specs.Tree.{Text}
-use Rattle.tclvalue.specs.Operators.{is_nil}
 use Rattle.tclvalue.specs.declared.searches.Replacement.{Replacement}
+
+abbrev pub is_nil : Text → Bool
+is_nil [] = true
+is_nil (c ∷ cs) = false
 
 -- the first place at which a text stands in another
 abbrev pub first_place : Text → Text → Option ℕ

@@ -1,6 +1,6 @@
 //! Texts made one (concat(n)).
 ghost use Rattle.std.specs.Prelude.{◌≡◌, ◌++◌, ◌∷◌, [], map, filter, not, string_bytes, IfOk, OnOk};
-ghost use Rattle.tclvalue.specs.Operators.{is_nil};
+ghost use Rattle.tclvalue.specs.Searches.{is_nil};
 ghost use Rattle.tclvalue.specs.Faults.{GivesText};
 ghost use Rattle.tclvalue.specs.Limits.{limited};
 ghost use Rattle.tclvalue.specs.Characters.{concatenated, trimmed, white_space};

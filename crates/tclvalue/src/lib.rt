@@ -16,5 +16,5 @@ mod texts;
 mod truth_values;
 
 pub use fault::ValueFault;
-pub use operators::unary;
+pub use operators::{binary, unary};
 pub use truth_values::truth;
