@@ -7,3 +7,4 @@ pub mod Searches
 pub mod Characters
 pub mod Limits
 pub mod Elements
+pub mod Commands

@@ -9,6 +9,7 @@ mod fault;
 mod index;
 mod lists;
 mod messages;
+mod names;
 mod operands;
 mod operators;
 mod searches;
