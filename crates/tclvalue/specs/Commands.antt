@@ -79,9 +79,9 @@ abbrev pub place_text : Option ℕ → Text
 place_text None = codes "-1"
 place_text (Some k) = decimal k
 
--- the place of a text in another, found so; no text has none
-abbrev pub sought_place : (Text → Text → Option ℕ) → Text → Text → Text
-sought_place find sought t = if is_nil sought then codes "-1" else place_text (find (chars sought) (chars t))
+-- the place of a text in another, found so; a text without characters has none
+abbrev pub sought_place : (Text → Text → Option ℕ) → Text → Text → Option ℕ
+sought_place find sought t = if is_nil sought then None else find (chars sought) (chars t)
 
 -- the answer of a subcommand of string to its operands
 abbrev pub text_value : TextCommand → List Text → Answer Text
@@ -90,8 +90,8 @@ text_value texts.Index (t ∷ i ∷ []) = index_of i >>= (λ i. Ok (characters_b
 text_value texts.Range (t ∷ i ∷ j ∷ []) = index_of i >>= (λ i. index_of j >>= (λ j. Ok (characters_between i j t)))
 text_value texts.Equal (a ∷ b ∷ []) = Ok (truth_text (bytes_eq a b))
 text_value texts.Compare (a ∷ b ∷ []) = Ok (order_text (text_order a b))
-text_value texts.First (sought ∷ t ∷ []) = Ok (sought_place first_place sought t)
-text_value texts.Last (sought ∷ t ∷ []) = Ok (sought_place last_place sought t)
+text_value texts.First (sought ∷ t ∷ []) = Ok (place_text (sought_place first_place sought t))
+text_value texts.Last (sought ∷ t ∷ []) = Ok (place_text (sought_place last_place sought t))
 text_value texts.Map (l ∷ t ∷ []) = elements_of l >>= (λ es. pairs_of es >>= (λ ps. Ok (mapped ps 0 (chars t))))
 text_value texts.Repeat (t ∷ n ∷ []) = count_of n >>= (λ n. Ok (repeat (at_least_0 n) t))
 text_value texts.Trim (t ∷ []) = Ok (trimmed Both white_space t)

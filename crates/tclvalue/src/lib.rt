@@ -3,16 +3,19 @@
 
 mod bounded;
 mod characters;
+mod command;
 mod concat;
 mod elements;
 mod fault;
 mod index;
+mod list_commands;
 mod lists;
 mod messages;
 mod names;
 mod operands;
 mod operators;
 mod searches;
+mod string_command;
 mod texts;
 mod truth_values;
 

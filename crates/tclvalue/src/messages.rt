@@ -1,6 +1,6 @@
 //! Errors that catch(n) sees.
-ghost use Rattle.std.specs.Prelude.{◌≡◌, MatchResult, string_bytes};
-ghost use Rattle.tclvalue.specs.Faults.{IsFault, error};
+ghost use Rattle.std.specs.Prelude.{◌≡◌, ◌++◌, MatchResult, codes, string_bytes};
+ghost use Rattle.tclvalue.specs.Faults.{IsFault, error, left_out};
 ghost use Rattle.tclvalue.specs.Messages.{not_numeric, no_boolean, divide_by_zero, negative_shift, bad_index, no_whole_number, wrong_words, not_a_list};
 ghost use Rattle.tclvalue.specs.declared.fault.ValueFault.TheVariants.{OutOfMemory};
 
@@ -79,4 +79,14 @@ pub(crate) fn not_a_list(alloc: Global) -> ValueFault
     ensures { IsFault (error not_a_list) result }
 {
     tcl_error(String::from_str(alloc, "not a list"))
+}
+
+/// A subcommand or an option of `string` is not computed.
+pub(crate) fn left_out(alloc: Global, word: &str) -> ValueFault
+    ensures { IsFault (left_out (codes "string " ++ word.now)) result }
+{
+    match format!(in alloc; "string {word}") {
+        Ok(name) => ValueFault::LeftOut(name),
+        Err(_) => ValueFault::OutOfMemory,
+    }
 }
