@@ -3,3 +3,6 @@ pub mod CharacterLemmas
 pub mod SearchLemmas
 pub mod IndexLemmas
 pub mod LimitLemmas
+pub mod CommandLemmas
+pub mod GlobLemmas
+pub mod EndLemmas

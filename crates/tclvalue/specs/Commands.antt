@@ -14,6 +14,7 @@ use Rattle.tclvalue.specs.Operators.{truth_text, text_order}
 use Rattle.tclvalue.specs.Indexes.{index_of, place, item_at, items_between, count_of, at_least_0}
 use Rattle.tclvalue.specs.Elements.{elements_of, pairs_of}
 use Rattle.tclvalue.specs.Searches.{is_nil, first_place, last_place, mapped}
+use Rattle.tclvalue.specs.Globs.{glob}
 use Rattle.tclvalue.specs.Characters.{trimmed, characters_between, parts, joined, concatenated, white_space, split_space}
 use Rattle.tclvalue.specs.declared.index.Index.{Index}
 use Rattle.tclvalue.specs.declared.texts.Ends.TheVariants.{Both, Start, End}
@@ -90,6 +91,7 @@ text_value texts.Index (t ∷ i ∷ []) = index_of i >>= (λ i. Ok (characters_b
 text_value texts.Range (t ∷ i ∷ j ∷ []) = index_of i >>= (λ i. index_of j >>= (λ j. Ok (characters_between i j t)))
 text_value texts.Equal (a ∷ b ∷ []) = Ok (truth_text (bytes_eq a b))
 text_value texts.Compare (a ∷ b ∷ []) = Ok (order_text (text_order a b))
+text_value texts.Match (pattern ∷ t ∷ []) = Ok (truth_text (glob pattern t))
 text_value texts.First (sought ∷ t ∷ []) = Ok (place_text (sought_place first_place sought t))
 text_value texts.Last (sought ∷ t ∷ []) = Ok (place_text (sought_place last_place sought t))
 text_value texts.Map (l ∷ t ∷ []) = elements_of l >>= (λ es. pairs_of es >>= (λ ps. Ok (mapped ps 0 (chars t))))

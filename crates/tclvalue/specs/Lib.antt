@@ -7,4 +7,5 @@ pub mod Searches
 pub mod Characters
 pub mod Limits
 pub mod Elements
+pub mod Globs
 pub mod Commands

@@ -14,11 +14,13 @@ mod messages;
 mod names;
 mod operands;
 mod operators;
+mod pattern;
 mod searches;
 mod string_command;
 mod texts;
 mod truth_values;
 
+pub use command::value_command;
 pub use fault::ValueFault;
 pub use operators::{binary, unary};
 pub use truth_values::truth;

@@ -1,7 +1,7 @@
 //! The commands on lists (list(n), llength(n), lindex(n), lrange(n), split(n), join(n), concat(n)).
 ghost use Rattle.std.specs.Prelude.{◌≡◌, map, string_bytes};
 ghost use Rattle.tclvalue.specs.Limits.{GivesWithin};
-ghost use Rattle.tclvalue.specs.Commands.{element_at, value_of};
+ghost use Rattle.tclvalue.specs.Commands.{element_at, elements_between, value_of};
 ghost use Rattle.tclvalue.specs.declared.names.ValueCommand.TheVariants as commands;
 
 use crate::bounded::limited;
@@ -87,6 +87,7 @@ fn element_at(elements: &[String], index: Index) -> &str
     }
 }
 
+#[tactic(auto, using(crate::proofs::CommandLemmas::too_few_to_range, crate::proofs::CommandLemmas::too_many_to_range))]
 fn range_value(
     alloc: Global,
     name: &str,
@@ -100,12 +101,23 @@ fn range_value(
             let elements = elements(alloc, list)?;
             let first = index_of(alloc, first)?;
             let last = index_of(alloc, last)?;
-            limited(list_text(alloc, between(&elements, first, last))?, limit)
+            limited(
+                list_text(alloc, elements_between(&elements, first, last))?,
+                limit,
+            )
         }
         _ => Err(wrong_words(alloc, name)),
     }
 }
 
+/// The elements from one index up to and with another, as far as they are there.
+fn elements_between(elements: &[String], first: Index, last: Index) -> &[String]
+    ensures { map string_bytes result.now ≡ elements_between first last (map string_bytes elements.entry.now) }
+{
+    between(elements, first, last)
+}
+
+#[tactic(auto, using(crate::proofs::CommandLemmas::too_few_to_split, crate::proofs::CommandLemmas::too_many_to_split))]
 fn split_value(
     alloc: Global,
     name: &str,

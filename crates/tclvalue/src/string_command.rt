@@ -14,6 +14,7 @@ use crate::index::{count_of, index_of};
 use crate::messages::{left_out, wrong_words};
 use crate::names::{TextCommand, is_option, takes_options, text_command_named};
 use crate::operators::{text_order, truth_text};
+use crate::pattern::glob;
 use crate::searches::{first_place, last_place, mapped};
 use crate::texts::{Ends, characters_between, repeated, trimmed, trimmed_of_space};
 use std::alloc::{AllocError, Global};
@@ -72,7 +73,8 @@ fn text_value(
         TextCommand::Range => range_value(alloc, operands, limit),
         TextCommand::Equal => equal_value(alloc, operands, limit),
         TextCommand::Compare => compare_value(alloc, operands, limit),
-        TextCommand::Match | TextCommand::First => first_value(alloc, operands, limit),
+        TextCommand::Match => match_value(alloc, operands, limit),
+        TextCommand::First => first_value(alloc, operands, limit),
         TextCommand::Last => last_value(alloc, operands, limit),
         TextCommand::Map => map_value(alloc, operands, limit),
         TextCommand::Repeat => repeat_value(alloc, operands, limit),
@@ -143,6 +145,15 @@ fn order_text(alloc: Global, order: Ordering) -> Result<String, AllocError>
         Ordering::Greater => "1",
     };
     String::from_str(alloc, text)
+}
+
+fn match_value(alloc: Global, operands: &[String], limit: usize) -> Result<String, ValueFault>
+    ensures { GivesWithin limit result (text_value texts.Match (map string_bytes operands.now)) }
+{
+    match operands {
+        [pattern, text] => limited(truth_text(alloc, glob(alloc, pattern, text)?)?, limit),
+        _ => Err(wrong_words(alloc, "string")),
+    }
 }
 
 fn first_value(alloc: Global, operands: &[String], limit: usize) -> Result<String, ValueFault>
