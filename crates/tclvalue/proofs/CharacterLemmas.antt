@@ -1,5 +1,5 @@
 -- Trimming from the end, one character at a time.
-use Rattle.std.proofs.Common.{◌≡◌, ℕ, List, [], ◌∷◌, ◌++◌, true, false, refl, ap, ◌∙◌}
+use Rattle.std.proofs.Common.{◌≡◌, ℕ, [], ◌∷◌, ◌++◌, true, false, refl, ap, ◌∙◌}
 use Rattle.tcltext.specs.Tree.{Text}
 use Rattle.tclvalue.specs.Characters.{is_among, kept_end, without_end}
 

@@ -1,14 +1,14 @@
 -- What the arithmetic of 64 bits gives is what is computed over all whole numbers.
-use Rattle.std.proofs.Common.{◌≡◌, ℕ, zero, suc, ◌+◌, ◌-◌, ◌*◌, ◌/◌, ◌%◌, ◌^◌, ◌<◌, ◌≤◌, ◌⊎◌, Bool, true, false, nat_lt, min, ℤ, pos, negsuc, neg_ℤ, ◌*ℤ◌, w64, to_z, of_z, FitsSigned, Option, Some, None, Result, Ok, Err, refl, sym, ap, inl, inr, lit<, subst, ◌∙◌, arith}
+use Rattle.std.proofs.Common.{◌≡◌, ℕ, zero, suc, ◌*◌, ◌/◌, ◌%◌, ◌^◌, ◌<◌, ◌≤◌, ◌⊎◌, false, nat_lt, min, ℤ, pos, negsuc, neg_ℤ, ◌*ℤ◌, w64, to_z, of_z, FitsSigned, Option, Some, None, Ok, Err, refl, sym, ap, inl, inr, lit<, ◌∙◌, arith}
 use Rattle.std.specs.Option.{SomeIff, ok_or}
 use Rattle.std.specs.Int.{int_shr}
 use lib.Signed.{mag, mag_shr}
 use Rattle.std.proofs.lemmas.Bool.{lt-ltb, le-ltb, cases_lt}
 use Rattle.std.proofs.lemmas.Int.{to_z-of_z, to_z_pos}
-use Rattle.std.proofs.lemmas.Nat.{pow_pos, pow_below}
+use Rattle.std.proofs.lemmas.Nat.{pow_below}
 use Rattle.std.proofs.Math.Nat.{pow-le-pow_right, mul-le-mul_right, div-eq_of_lt}
 use Rattle.tclvalue.specs.Faults.{Gives, number_too_large}
-use Rattle.tclvalue.specs.Numbers.{fits, within_64_bits}
+use Rattle.tclvalue.specs.Numbers.{within_64_bits}
 use Rattle.tclvalue.specs.declared.fault.ValueFault.TheVariants.{NumberTooLarge}
 
 fitting : (z : ℤ) → FitsSigned w64 z → within_64_bits z ≡ Ok z

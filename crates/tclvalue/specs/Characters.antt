@@ -1,5 +1,5 @@
 -- Texts as characters (string(n), split(n), concat(n)).
-use Rattle.std.specs.Prelude.{ℕ, ◌==◌, List, [], ◌∷◌, ◌++◌, length, Bool, if◌then◌else◌, ℤ, Option, Some, None, Ok, codes, map, filter, not}
+use Rattle.std.specs.Prelude.{ℕ, ◌==◌, List, [], ◌∷◌, ◌++◌, length, Bool, if◌then◌else◌, codes, map, filter, not}
 use Rattle.std.specs.List.{list_any, slice_split}
 use Rattle.std.specs.Str.{chars, encode_utf8_all}
 use Rattle.tcltext.specs.Tree.{Text}

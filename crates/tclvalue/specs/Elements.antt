@@ -4,7 +4,7 @@ use Rattle.std.specs.declared.vec.Vec.{Vec}
 use Rattle.std.specs.declared.alloc.Global.{Global}
 use Rattle.std.specs.Str.{chars}
 use Rattle.tclchars.specs.declared.fault.TextFault.{TextFault}
-use Rattle.tclchars.specs.declared.fault.TextFault.TheVariants.{OutOfMemory, OpenBrace, OpenQuote, OpenBracket, JoinedToClose, TooDeep, BadCharacter, BadExpression, TooLong}
+use Rattle.tclchars.specs.declared.fault.TextFault.TheVariants.{TooLong}
 use Rattle.tcltext.specs.Tree.{Text}
 use Rattle.tcllist.specs.ListReading.{list_of}
 use Rattle.tclvalue.specs.Faults.{Answer, ◌>>=◌, text, error}

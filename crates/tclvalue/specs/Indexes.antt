@@ -1,5 +1,5 @@
 -- Indexes of lists and texts (lindex(n), string(n)): a whole number, end, or end-N.
-use Rattle.std.specs.Prelude.{ℕ, List, [], ◌∷◌, ◌+◌, Bool, false, ◌==◌, nat_lt, if◌then◌else◌, ℤ, pos, negsuc, ◌+ℤ◌, ◌-ℤ◌, Option, Some, None, Ok, Err, take, drop, slice_get, bytes_eq, codes}
+use Rattle.std.specs.Prelude.{ℕ, List, [], ◌∷◌, Bool, false, ◌==◌, nat_lt, if◌then◌else◌, ℤ, pos, negsuc, ◌+ℤ◌, ◌-ℤ◌, Option, Some, None, Ok, Err, take, drop, slice_get, bytes_eq, codes}
 use Rattle.tcltext.specs.Tree.{Text}
 use Rattle.tcltext.specs.Numerals.{numeral, is_space}
 use Rattle.tcltext.specs.declared.Numeral.{Numeral}

@@ -1,5 +1,5 @@
 -- Arithmetic of expr(n) over unbounded whole numbers, cut to 64 bits at the end.
-use Rattle.std.specs.Prelude.{ℕ, zero, suc, ◌*◌, ◌/◌, ◌^◌, Bool, true, false, nat_lt, if◌then◌else◌, ℤ, pos, negsuc, neg_ℤ, ◌-ℤ◌, ◌*ℤ◌, ◌+ℤ◌, Ok, Err}
+use Rattle.std.specs.Prelude.{ℕ, zero, suc, ◌/◌, ◌^◌, Bool, true, false, nat_lt, if◌then◌else◌, ℤ, pos, negsuc, neg_ℤ, ◌-ℤ◌, ◌*ℤ◌, ◌+ℤ◌, Ok, Err}
 use Rattle.std.specs.Int.{w64, div_ceil, int_shr, int_bit_and, int_bit_or, int_bit_xor, int_bit_not}
 use Rattle.tclvalue.specs.Faults.{Answer, error, number_too_large}
 use Rattle.tclvalue.specs.Messages.{divide_by_zero, negative_shift}

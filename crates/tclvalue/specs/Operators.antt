@@ -1,5 +1,5 @@
 -- The operators of expr(n) on texts. The operands are judged from the left, before a zero divisor or a negative shift.
-use Rattle.std.specs.Prelude.{ℕ, List, [], ◌∷◌, Bool, true, false, not, ◌||◌, ◌&&◌, ◌==◌, if◌then◌else◌, ℤ, pos, neg_ℤ, Option, Some, None, Result, Ok, Err, codes, length, take, bytes_eq}
+use Rattle.std.specs.Prelude.{Bool, true, false, not, ◌||◌, ◌&&◌, if◌then◌else◌, ℤ, neg_ℤ, Option, Some, None, Ok, Err, codes, length, take, bytes_eq}
 use Rattle.std.specs.List.{list_any}
 use Rattle.std.specs.Str.{chars, str_eq_ignore_ascii_case}
 use Rattle.std.specs.Fmt.{signed_decimal}

@@ -1,4 +1,4 @@
-use Rattle.std.proofs.Common.{◌≡◌, refl, ap, ◌∙◌}
+use Rattle.std.proofs.Common.{refl, ap, ◌∙◌}
 use Rattle.tclvalue.proofs.IndexLemmas.{sliced}
 use Rattle.tclvalue.proofs.index.between.Goals as goal
 

@@ -1,4 +1,4 @@
-use Rattle.std.proofs.Common.{◌≡◌, ◌+◌, ℕ, length, map, take, drop, string_bytes, sym, ap, ◌∙◌, List, ◌+ℤ◌, pos}
+use Rattle.std.proofs.Common.{◌≡◌, ℕ, length, map, take, drop, string_bytes, sym, ap, ◌∙◌, List, ◌+ℤ◌, pos}
 use Rattle.std.proofs.lemmas.List.{take-map, drop-map, length-map}
 use Rattle.tclvalue.specs.Indexes.{place, items_between, at_least_0}
 use Rattle.tclvalue.specs.declared.index.Index.{Index}

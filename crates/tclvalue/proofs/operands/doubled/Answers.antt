@@ -1,4 +1,4 @@
-use Rattle.std.proofs.Common.{◌≡◌, ◌^◌, ◌*ℤ◌, ◌∙◌, pos, w64, ℤ, FitsSigned, ap, sym, subst}
+use Rattle.std.proofs.Common.{◌≡◌, ◌^◌, ◌*ℤ◌, ◌∙◌, pos, w64, ℤ, ap, sym, subst}
 use Rattle.std.specs.Option.{ok_or}
 use Rattle.std.proofs.lemmas.Int.{to_z-of_z}
 use Rattle.tclvalue.specs.Faults.{Gives}

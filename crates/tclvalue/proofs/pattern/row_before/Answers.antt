@@ -1,4 +1,4 @@
-use Rattle.std.proofs.Common.{◌≡◌, ◌≤◌, ◌++◌, ◌∷◌, length, length-append, ap, sym, ◌∙◌, arith}
+use Rattle.std.proofs.Common.{ap, sym, ◌∙◌, arith}
 use Rattle.tclvalue.specs.Globs.{tests, look, matches_from, matches}
 use Rattle.tclvalue.proofs.EndLemmas as ends
 use Rattle.tclvalue.proofs.pattern.row_before.Goals as goal

@@ -1,4 +1,4 @@
-use Rattle.std.proofs.Common.{◌≡◌, ◌++◌, string_bytes, ap, ◌∙◌, add-one, sym}
+use Rattle.std.proofs.Common.{◌++◌, ap, ◌∙◌, add-one, sym}
 use Rattle.std.specs.List.{repeat}
 use Rattle.tclvalue.proofs.IndexLemmas.{repeat_more}
 use Rattle.tclvalue.proofs.texts.copies.Goals as goal
