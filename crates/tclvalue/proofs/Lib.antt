@@ -1,3 +1,4 @@
+pub mod Examples
 pub mod NumberLemmas
 pub mod CharacterLemmas
 pub mod SearchLemmas
