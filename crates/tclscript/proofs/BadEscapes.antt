@@ -1,10 +1,10 @@
 -- A backslash that stands for nothing does so by five bytes behind it at most.
-use Rattle.std.proofs.Common.{◌≡◌, ◌≢◌, ℕ, zero, suc, ◌+◌, ◌*◌, ◌<◌, ◌≤◌, List, [], ◌∷◌, ◌++◌, length, Bool, true, false, not, ◌||◌, ◌&&◌, ◌==◌, nat_lt, nat_le, if◌then◌else◌, Option, Some, None, refl, sym, ap, ap₂, subst, ◌∙◌, arith, append_assoc, ◌⊎◌, inl, inr}
+use Rattle.std.proofs.Common.{◌≡◌, ◌≢◌, ℕ, suc, ◌+◌, ◌*◌, ◌<◌, ◌≤◌, [], ◌∷◌, ◌++◌, length, Bool, true, false, ◌&&◌, nat_lt, nat_le, Some, None, refl, sym, ap, subst, ◌∙◌, arith, ◌⊎◌, inl, inr}
 use Rattle.std.specs.Prelude.{encode_utf8}
 use Rattle.std.specs.Char.{digit_value}
 use Rattle.std.proofs.lemmas.Bool.Decides.{nat_tests}
 use Rattle.tclchars.specs.Runs.{Text}
-use Rattle.tclchars.specs.Backslash.{is_hexadecimal, digit_at, hexadecimal_on, hexadecimal_at, character, begins_hexadecimal, code_at, wide_code_at, after_backslash}
+use Rattle.tclchars.specs.Backslash.{is_hexadecimal, hexadecimal_at, character, begins_hexadecimal, code_at, wide_code_at, after_backslash}
 use Rattle.tclscript.specs.Offending.{IsBadEscape}
 use Rattle.tclscript.proofs.Prefixes.{escape_letter}
 
@@ -44,23 +44,23 @@ one_more : (n v : ℕ) (bs : Text) → v < 55296 → character (hexadecimal_at (
 one_more n v bs low h next = elim (digit n v bs) [
   | inl e ↦ absurd (low_character (v, bs) low (sym (ap character e) ∙ h))
   | inr k ↦ (
-    let b = k.0 in
-    let rest = k.1 in
-    let read : character (hexadecimal_at n (v * 16 + digit_value b) rest) ≡ None = sym (ap character (k.4 rest)) ∙ ap (λ ys. character (hexadecimal_at (suc n) v ys)) (sym k.2) ∙ h in
-    let m = next b rest k.3 read in
-    (b ∷ m.0, m.1, k.2 ∙ ap (λ ys. b ∷ ys) m.2, omega (arith, m.3), λ xs. ap character (k.4 (m.0 ++ xs)) ∙ m.4 xs)
-  )
+      let b = k.0 in
+      let rest = k.1 in
+      let read : character (hexadecimal_at n (v * 16 + digit_value b) rest) ≡ None = sym (ap character (k.4 rest)) ∙ ap (λ ys. character (hexadecimal_at (suc n) v ys)) (sym k.2) ∙ h in
+      let m = next b rest k.3 read in
+      (b ∷ m.0, m.1, k.2 ∙ ap (λ ys. b ∷ ys) m.2, omega (arith, m.3), λ xs. ap character (k.4 (m.0 ++ xs)) ∙ m.4 xs)
+      )
 ]
 
 four_digits : (bs : Text) → character (hexadecimal_at 4 0 bs) ≡ None → Fixed 4 0 bs
 four_digits bs h =
     one_more 3 0 bs (omega arith) h (λ a ys ha h.
-      let da = small_digit a ha in
-      one_more 2 (0 * 16 + digit_value a) ys (omega arith) h (λ b bs hb h.
-        let db = small_digit b hb in
-        one_more 1 ((0 * 16 + digit_value a) * 16 + digit_value b) bs (omega arith) h (λ c cs hc h.
-          let dc = small_digit c hc in
-          one_more 0 (((0 * 16 + digit_value a) * 16 + digit_value b) * 16 + digit_value c) cs (omega arith) h (λ e es he h. last ((((0 * 16 + digit_value a) * 16 + digit_value b) * 16 + digit_value c) * 16 + digit_value e) es h))))
+    let da = small_digit a ha in
+    one_more 2 (0 * 16 + digit_value a) ys (omega arith) h (λ b bs hb h.
+    let db = small_digit b hb in
+    one_more 1 ((0 * 16 + digit_value a) * 16 + digit_value b) bs (omega arith) h (λ c cs hc h.
+    let dc = small_digit c hc in
+    one_more 0 (((0 * 16 + digit_value a) * 16 + digit_value b) * 16 + digit_value c) cs (omega arith) h (λ e es he h. last ((((0 * 16 + digit_value a) * 16 + digit_value b) * 16 + digit_value c) * 16 + digit_value e) es h))))
 
 begins_wide : (bs : Text) → wide_code_at bs ≡ None → (b : ℕ) × (rest : Text) × (bs ≡ b ∷ rest) × (is_hexadecimal b ≡ true)
 begins_wide [] h = absurd (some_none (85 ∷ [], []) h)
@@ -94,8 +94,7 @@ u_escape : (bs : Text) → after_backslash (117 ∷ bs) ≡ None → (bad : Text
 u_escape bs h =
     let code = begins_code bs h in
     let m = four_digits bs code.1 in
-    let alone : character (hexadecimal_at 4 0 m.0) ≡ None = ap (λ ys. character (hexadecimal_at 4 0 ys)) (sym (no_more m.0)) ∙ m.4 [] in
-    (
+    let alone : character (hexadecimal_at 4 0 m.0) ≡ None = ap (λ ys. character (hexadecimal_at 4 0 ys)) (sym (no_more m.0)) ∙ m.4 [] in (
       117 ∷ m.0,
       m.1,
       ap (λ ys. 117 ∷ ys) m.2,
@@ -107,8 +106,8 @@ wide_escape : (bs : Text) → after_backslash (85 ∷ bs) ≡ None → (bad : Te
 wide_escape bs h =
     let m = begins_wide bs h in
     (85 ∷ (m.0 ∷ []), m.1, ap (λ ys. 85 ∷ ys) m.2, omega arith, ((λ e. cc), λ xs. wide m.0 xs m.3)) where
-  wide : (b : ℕ) (xs : Text) → is_hexadecimal b ≡ true → after_backslash (85 ∷ (b ∷ xs)) ≡ None
-  wide b xs h = rw h refl
+      wide : (b : ℕ) (xs : Text) → is_hexadecimal b ≡ true → after_backslash (85 ∷ (b ∷ xs)) ≡ None
+      wide b xs h = rw h refl
 
 -- what a backslash begins that stands for nothing
 pub bad_escape : (bs : Text) → bs ≢ [] → after_backslash bs ≡ None → (bad : Text) × (more : Text) × (bs ≡ bad ++ more) × (length bad ≤ 5) × IsBadEscape bad

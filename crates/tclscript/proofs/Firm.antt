@@ -1,15 +1,15 @@
 -- What a text is doesn't hang on what follows far behind it.
-use Rattle.std.proofs.Common.{◌≡◌, ◌≢◌, ℕ, zero, suc, ◌+◌, ◌<◌, ◌≤◌, List, [], ◌∷◌, ◌++◌, length, Bool, true, false, not, ◌||◌, ◌&&◌, ◌==◌, Option, Some, None, refl, sym, ap, ap₂, subst, ◌∙◌, arith, append_assoc, append-nil, length-append, ◌⊎◌, inl, inr}
+use Rattle.std.proofs.Common.{◌≡◌, ◌≢◌, ℕ, suc, ◌≤◌, [], ◌∷◌, ◌++◌, length, Bool, true, false, not, ◌||◌, ◌==◌, Option, Some, None, refl, sym, ap, ap₂, subst, ◌∙◌, arith, append_assoc, inl, inr}
 use Rattle.std.proofs.lemmas.Bool.Decides.{nat_tests}
 use Rattle.tclchars.specs.Runs.{Text, begins}
-use Rattle.tclchars.specs.Bytes.{newline, hash, backslash, is_blank, is_gap, MayBegin, DoesBegin}
-use Rattle.tclchars.specs.Classes.{in_class, is_name}
+use Rattle.tclchars.specs.Bytes.{newline, MayBegin, DoesBegin}
+use Rattle.tclchars.specs.Classes.{in_class}
 use Rattle.tclchars.specs.Backslash.{after_backslash}
 use Rattle.tclscript.specs.declared.context.Context.{Context}
 use Rattle.tclscript.specs.declared.context.Context.TheVariants.{InScript, InBracket, InIndex, InQuotes}
 use Rattle.tclscript.specs.declared.runs.Passing.{Passing}
 use Rattle.tclscript.specs.declared.runs.Passing.TheVariants.{Blanks, Joined, Gap, Comment, Escaped, Name, Colons}
-use Rattle.tclscript.specs.Passing.{colon, step, step_blanks, step_joined, step_gap, step_comment, step_name, put_before, pass_on, pass}
+use Rattle.tclscript.specs.Passing.{colon, step, put_before, pass_on, pass}
 use Rattle.tclscript.specs.Tree as tree
 use Rattle.tclscript.specs.Tree.{Commands, no_commands, command, Words, no_words, word, Word, word_of, Parts, no_parts, part, Part, literal, variable, indexed, bracket}
 use Rattle.tclscript.specs.Ends.{script_ends, command_ends, word_ends, stands_before, parts_end, class_of, bare}
@@ -122,7 +122,7 @@ pass-firm q [] (b ∷ p) s t h k =
 pass-firm q (b ∷ x) p s t h k =
     let m = went_on b b (x ++ (p ++ s)) x (p ++ s) (step q b (x ++ (p ++ s))) (sym (pass-open q b (x ++ (p ++ s))) ∙ k) in
     let same : step q b (x ++ (p ++ s)) ≡ step q b (x ++ (p ++ t)) =
-        ap (step q b) (sym (append_assoc x p s)) ∙ firm_step q b (x ++ p) s t (firm_before (b ∷ x) p h) ∙ ap (step q b) (append_assoc x p t) in
+    ap (step q b) (sym (append_assoc x p s)) ∙ firm_step q b (x ++ p) s t (firm_before (b ∷ x) p h) ∙ ap (step q b) (append_assoc x p t) in
     pass-on q m.0 b (x ++ (p ++ t)) (sym same ∙ m.1) ∙ ap (put_before b) (pass-firm m.0 x p s t h m.2)
 
 longest-firm : (name p s t : Text) → Firm p → IsLongestName name (p ++ s) → IsLongestName name (p ++ t)
@@ -187,7 +187,7 @@ mutual
           is_first = (
             k.is_second.is_first.0,
             subst (λ ys. IsCommand nested source ws body ys) (append_assoc rest p t)
-            (command-firm nested source ws body (rest ++ p) s t (firm_before rest p h) (subst (λ ys. IsCommand nested source ws body ys) (sym (append_assoc rest p s)) k.is_second.is_first.1)),
+                (command-firm nested source ws body (rest ++ p) s t (firm_before rest p h) (subst (λ ys. IsCommand nested source ws body ys) (sym (append_assoc rest p s)) k.is_second.is_first.1)),
           );
           is_second = commands-firm nested cs rest p s t h k.is_second.is_second;
         };
@@ -217,8 +217,8 @@ mutual
           second = rest;
           whole = k.is_second.whole;
           is_first =
-            subst (λ ys. IsWord nested w body ys) (append_assoc rest p t)
-            (word-firm nested w body (rest ++ p) s t (firm_before rest p h) (subst (λ ys. IsWord nested w body ys) (sym (append_assoc rest p s)) k.is_second.is_first));
+              subst (λ ys. IsWord nested w body ys) (append_assoc rest p t)
+              (word-firm nested w body (rest ++ p) s t (firm_before rest p h) (subst (λ ys. IsWord nested w body ys) (sym (append_assoc rest p s)) k.is_second.is_first));
           is_second = words-firm nested ws rest p s t h k.is_second.is_second;
         };
       }
@@ -242,10 +242,10 @@ mutual
         whole = k.whole;
         is_first = (
           ap (parts_end c) (ap (λ ys. k.first ++ ys) (sym (append_assoc rest p t)) ∙ sym (append_assoc k.first (rest ++ p) t))
-          ∙ sym (parts_end-firm c (k.first ++ (rest ++ p)) s t (firm_before k.first (rest ++ p) (firm_before rest p h)))
-          ∙ ap (parts_end c) (append_assoc k.first (rest ++ p) s ∙ ap (λ ys. k.first ++ ys) (append_assoc rest p s)) ∙ k.is_first.0,
+              ∙ sym (parts_end-firm c (k.first ++ (rest ++ p)) s t (firm_before k.first (rest ++ p) (firm_before rest p h)))
+              ∙ ap (parts_end c) (append_assoc k.first (rest ++ p) s ∙ ap (λ ys. k.first ++ ys) (append_assoc rest p s)) ∙ k.is_first.0,
           subst (λ ys. IsPart c q k.first ys) (append_assoc rest p t)
-          (part-firm c q k.first (rest ++ p) s t (firm_before rest p h) (subst (λ ys. IsPart c q k.first ys) (sym (append_assoc rest p s)) k.is_first.1)),
+              (part-firm c q k.first (rest ++ p) s t (firm_before rest p h) (subst (λ ys. IsPart c q k.first ys) (sym (append_assoc rest p s)) k.is_first.1)),
         );
         is_second = parts-firm c ps rest p s t h k.is_second;
       }

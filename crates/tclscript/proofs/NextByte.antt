@@ -1,11 +1,11 @@
 -- What a backslash stands for depends on no more than one byte of what follows.
-use Rattle.std.proofs.Common.{◌≡◌, ◌≢◌, ℕ, zero, suc, ◌+◌, ◌*◌, ◌<◌, ◌≤◌, List, [], ◌∷◌, ◌++◌, length, Bool, true, false, not, ◌||◌, ◌&&◌, ◌==◌, nat_lt, nat_le, if◌then◌else◌, Option, Some, None, refl, sym, ap, ap₂, subst, ◌∙◌, arith, append_assoc, length-append, ◌⊎◌, inl, inr}
+use Rattle.std.proofs.Common.{◌≡◌, ℕ, zero, suc, ◌+◌, ◌*◌, ◌≤◌, [], ◌∷◌, ◌++◌, length, Bool, true, false, ◌&&◌, ◌==◌, nat_lt, nat_le, if◌then◌else◌, Option, Some, None, refl, sym, ap, ap₂, subst, ◌∙◌, arith, length-append, ◌⊎◌, inl, inr}
 use Rattle.std.proofs.lemmas.Bool.Decides.{nat_tests}
 use Rattle.std.specs.Prelude.{encode_utf8}
 use Rattle.std.specs.Char.{digit_value}
 use Rattle.tclchars.specs.Bytes.{newline, is_continuation}
 use Rattle.tclchars.specs.Runs.{Text, front, back}
-use Rattle.tclchars.specs.Backslash.{is_octal, is_hexadecimal, is_blank_or_tab, digit_at, octal_on, octal_at, hexadecimal_on, hexadecimal_at, character, begins_hexadecimal, code_at, wide_code_at, letter_value, after_backslash}
+use Rattle.tclchars.specs.Backslash.{is_octal, is_hexadecimal, is_blank_or_tab, digit_at, octal_on, octal_at, hexadecimal_on, hexadecimal_at, character, code_at, wide_code_at, letter_value, after_backslash}
 use Rattle.tclscript.specs.Pieces.{IsEndOf}
 use Rattle.tclscript.proofs.Ends.{end_no_longer}
 use Rattle.tclscript.proofs.Escapes.{either, back_end, octal_end, hexadecimal_end, LeavesSome, character_leaves, code_leaves, wide_leaves}
@@ -52,14 +52,14 @@ module _ (c : ℕ) (a a' : Text) where
   octal_along (suc n) v [] =
       both_ways (λ (d d' : Option (ℕ × Text)). Along (octal_on (octal_at n) v (c ∷ a) d) (octal_on (octal_at n) v (c ∷ a') d')) (nat_lt (digit_value c) 8) (Some (digit_value c, a)) None (Some (digit_value c, a')) None
       (both_ways (λ (r s : ℕ × Text). Along r s) (nat_lt (v * 8 + digit_value c) 256) (octal_at n (v * 8 + digit_value c) a) (v, c ∷ a) (octal_at n (v * 8 + digit_value c) a') (v, c ∷ a')
-        (past (octal_at n (v * 8 + digit_value c) a) (octal_at n (v * 8 + digit_value c) a') (octal_end n (v * 8 + digit_value c) a)) (along_here v []))
+      (past (octal_at n (v * 8 + digit_value c) a) (octal_at n (v * 8 + digit_value c) a') (octal_end n (v * 8 + digit_value c) a)) (along_here v []))
       (along_here v [])
   octal_along (suc n) v (b ∷ e) =
       let x = e ++ c ∷ a in
       let y = e ++ c ∷ a' in
       both_ways (λ (d d' : Option (ℕ × Text)). Along (octal_on (octal_at n) v (b ∷ x) d) (octal_on (octal_at n) v (b ∷ y) d')) (nat_lt (digit_value b) 8) (Some (digit_value b, x)) None (Some (digit_value b, y)) None
       (both_ways (λ (r s : ℕ × Text). Along r s) (nat_lt (v * 8 + digit_value b) 256) (octal_at n (v * 8 + digit_value b) x) (v, b ∷ x) (octal_at n (v * 8 + digit_value b) y) (v, b ∷ y)
-        (octal_along n (v * 8 + digit_value b) e) (along_here v (b ∷ e)))
+      (octal_along n (v * 8 + digit_value b) e) (along_here v (b ∷ e)))
       (along_here v (b ∷ e))
 
   hexadecimal_along : (n v : ℕ) (e : Text) → Along (hexadecimal_at n v (e ++ c ∷ a)) (hexadecimal_at n v (e ++ c ∷ a'))
@@ -125,17 +125,17 @@ module _ (c : ℕ) (a a' : Text) where
       (code_along 2 b e) (code_along 4 b e) (wide_along e)
       (value_along (λ t. b ∷ t) (front is_continuation x, back is_continuation x) (front is_continuation y, back is_continuation y) (run_along is_continuation e))
       (along_here (letter_value b ∷ []) e) where
-    go : (t u v w x y : Bool) (p q : Text) → AlongSome {A = Text} (Some (32 ∷ [], back is_blank_or_tab p)) (Some (32 ∷ [], back is_blank_or_tab q)) → AlongSome (character (octal_at 3 0 (b ∷ p))) (character (octal_at 3 0 (b ∷ q)))
-        → AlongSome (code_at 2 b p) (code_at 2 b q) → AlongSome (code_at 4 b p) (code_at 4 b q) → AlongSome (wide_code_at p) (wide_code_at q)
-        → AlongSome {A = Text} (Some (b ∷ front is_continuation p, back is_continuation p)) (Some (b ∷ front is_continuation q, back is_continuation q)) → AlongSome {A = Text} (Some (letter_value b ∷ [], p)) (Some (letter_value b ∷ [], q))
-        → AlongSome (escape_of b t u v w x y p) (escape_of b t u v w x y q)
-    go true u v w x y p q h1 h2 h3 h4 h5 h6 h7 = h1
-    go false true v w x y p q h1 h2 h3 h4 h5 h6 h7 = h2
-    go false false true w x y p q h1 h2 h3 h4 h5 h6 h7 = h3
-    go false false false true x y p q h1 h2 h3 h4 h5 h6 h7 = h4
-    go false false false false true y p q h1 h2 h3 h4 h5 h6 h7 = h5
-    go false false false false false true p q h1 h2 h3 h4 h5 h6 h7 = h6
-    go false false false false false false p q h1 h2 h3 h4 h5 h6 h7 = h7
+        go : (t u v w x y : Bool) (p q : Text) → AlongSome {A = Text} (Some (32 ∷ [], back is_blank_or_tab p)) (Some (32 ∷ [], back is_blank_or_tab q)) → AlongSome (character (octal_at 3 0 (b ∷ p))) (character (octal_at 3 0 (b ∷ q)))
+            → AlongSome (code_at 2 b p) (code_at 2 b q) → AlongSome (code_at 4 b p) (code_at 4 b q) → AlongSome (wide_code_at p) (wide_code_at q)
+            → AlongSome {A = Text} (Some (b ∷ front is_continuation p, back is_continuation p)) (Some (b ∷ front is_continuation q, back is_continuation q)) → AlongSome {A = Text} (Some (letter_value b ∷ [], p)) (Some (letter_value b ∷ [], q))
+            → AlongSome (escape_of b t u v w x y p) (escape_of b t u v w x y q)
+        go true u v w x y p q h1 h2 h3 h4 h5 h6 h7 = h1
+        go false true v w x y p q h1 h2 h3 h4 h5 h6 h7 = h2
+        go false false true w x y p q h1 h2 h3 h4 h5 h6 h7 = h3
+        go false false false true x y p q h1 h2 h3 h4 h5 h6 h7 = h4
+        go false false false false true y p q h1 h2 h3 h4 h5 h6 h7 = h5
+        go false false false false false true p q h1 h2 h3 h4 h5 h6 h7 = h6
+        go false false false false false false p q h1 h2 h3 h4 h5 h6 h7 = h7
 
   from_along : (x : Option (Text × Text)) (v : Text) → AlongSome (Some (v, c ∷ a)) x → x ≡ Some (v, c ∷ a')
   from_along None v h = absurd (omega (arith, h))
@@ -143,9 +143,9 @@ module _ (c : ℕ) (a a' : Text) where
   from_along (Some s) v (inl h) =
       let none : h.1 ≡ [] = no_more h.1 h.2 in
       ap₂ (λ (x y : Text). Some (x, y)) (sym h.0) (h.3 ∙ ap (λ z. z ++ c ∷ a') none) where
-    no_more : (z : Text) → c ∷ a ≡ z ++ c ∷ a → z ≡ []
-    no_more [] h = refl
-    no_more (x ∷ z) h = absurd (omega (arith, ap length h, length-append (x ∷ z) (c ∷ a)))
+        no_more : (z : Text) → c ∷ a ≡ z ++ c ∷ a → z ≡ []
+        no_more [] h = refl
+        no_more (x ∷ z) h = absurd (omega (arith, ap length h, length-append (x ∷ z) (c ∷ a)))
 
   -- what a backslash stands for, where what follows begins with the same byte
   pub same_escape : (b : ℕ) (e v : Text) → after_backslash (b ∷ (e ++ c ∷ a)) ≡ Some (v, c ∷ a) → after_backslash (b ∷ (e ++ c ∷ a')) ≡ Some (v, c ∷ a')
@@ -166,11 +166,11 @@ octal_first b bs h =
     let small : nat_lt (0 * 8 + digit_value b) 256 ≡ true = below b h in
     subst (λ (d : Option (ℕ × Text)). IsEndOf bs (octal_on (octal_at 2) 0 (b ∷ bs) d).1) (sym (digit b bs h))
     (subst (λ t. IsEndOf bs (if t then octal_at 2 (0 * 8 + digit_value b) bs else (0, b ∷ bs)).1) (sym small) (octal_end 2 (0 * 8 + digit_value b) bs)) where
-  below : (b : ℕ) → is_octal b ≡ true → nat_lt (0 * 8 + digit_value b) 256 ≡ true
-  below b h = grind (arith, nat_tests)
+      below : (b : ℕ) → is_octal b ≡ true → nat_lt (0 * 8 + digit_value b) 256 ≡ true
+      below b h = grind (arith, nat_tests)
 
-  digit : (b : ℕ) (bs : Text) → is_octal b ≡ true → digit_at 8 (b ∷ bs) ≡ Some (digit_value b, bs)
-  digit b bs h = rw h refl
+      digit : (b : ℕ) (bs : Text) → is_octal b ≡ true → digit_at 8 (b ∷ bs) ≡ Some (digit_value b, bs)
+      digit b bs h = rw h refl
 
 pub shorter_escape : (b : ℕ) (bs v r : Text) → after_backslash (b ∷ bs) ≡ Some (v, r) → length r ≤ length bs
 shorter_escape b bs v r h = subst (ShorterSome bs) h (go (b == newline) (is_octal b) refl (b == 120) (b == 117) (b == 85) (nat_le 128 b)) where

@@ -1,23 +1,22 @@
 -- What offends behind a closing brace or quote, or behind a backslash, offends whatever follows it.
-use Rattle.std.proofs.Common.{◌≡◌, ◌≢◌, ℕ, zero, suc, ◌+◌, ◌<◌, ◌≤◌, List, [], ◌∷◌, ◌++◌, length, Bool, true, false, not, ◌||◌, ◌&&◌, ◌==◌, Option, Some, None, refl, sym, ap, ap₂, subst, ◌∙◌, arith, append_assoc, append-nil, length-append, ◌⊎◌, inl, inr}
-use Rattle.std.proofs.lemmas.Bool.Decides.{nat_tests}
-use Rattle.tclchars.specs.Runs.{Text, begins}
-use Rattle.tclchars.specs.Bytes.{hash, backslash, DoesBegin}
+use Rattle.std.proofs.Common.{◌≡◌, ◌≢◌, ℕ, suc, ◌≤◌, [], ◌∷◌, ◌++◌, length, Bool, true, false, not, ◌||◌, ◌==◌, None, refl, sym, ap, ap₂, subst, ◌∙◌, arith, append_assoc, length-append}
+use Rattle.tclchars.specs.Runs.{Text}
+use Rattle.tclchars.specs.Bytes.{hash, DoesBegin}
 use Rattle.tclchars.specs.Backslash.{after_backslash}
 use Rattle.tclchars.specs.Braces.{Balanced}
 use Rattle.tclchars.specs.declared.fault.Fault.{Fault}
 use Rattle.tclchars.specs.declared.fault.Fault.TheVariants.{OpenBrace, OpenQuote, OpenBracket, JoinedToClose, TooDeep, BadCharacter, BadExpression}
 use Rattle.tclscript.specs.declared.context.Context.{Context}
 use Rattle.tclscript.specs.declared.context.Context.TheVariants.{InIndex, InQuotes}
-use Rattle.tclscript.specs.Tree.{Commands, Words, Word, Parts, Part, nesting, words_nesting, word_nesting, parts_nesting, part_nesting}
+use Rattle.tclscript.specs.Tree.{Words, Word, Parts, Part, words_nesting, word_nesting, parts_nesting, part_nesting}
 use Rattle.tclscript.specs.Ends.{word_ends, parts_end, bare}
-use Rattle.tclscript.specs.Grammar.{IsBlanks, IsGap, IsCommand, IsName, IsWord, IsParts, IsPart, IsScript}
+use Rattle.tclscript.specs.Grammar.{IsBlanks, IsGap, IsCommand, IsName, IsWord, IsParts, IsPart}
 use Rattle.tclscript.specs.Faults as faults
 use Rattle.tclscript.specs.Faults.{Expands, CommandsFault, CommandFault, WordsFault, WordFault, PlainFault, PartsFault, PartFault, IsFault}
 use Rattle.tclscript.specs.Reading.{inner_at, plain_word_at}
 use Rattle.tclscript.proofs.Exact.{err_same}
 use Rattle.tclscript.proofs.WordsExact.{plain_met, plain_fault_goes_on, star_joined}
-use Rattle.tclscript.proofs.Whole.{inner_exact, no_tree}
+use Rattle.tclscript.proofs.Whole.{inner_exact}
 use Rattle.tclscript.specs.Offending.{IsOffender, IsBadEscape}
 use Rattle.tclscript.proofs.Firm.{Firm, no_byte, firm_before, firm_some, does_begin-firm, gap-any, command-firm, word-firm, parts-firm, part-firm, parts_end-firm}
 
@@ -70,11 +69,11 @@ moves_before kind One Two x bs left step m = record {
   long = m.long;
   base = base_before kind x m.before m.base;
   moves = λ keep s t e k.
-    let f = mark kind (length (keep ++ t)) in
-    let back : (m.before ++ keep) ++ t ≡ m.before ++ (keep ++ t) = append_assoc m.before keep t in
-    let same : bs ≡ (m.before ++ keep) ++ s = m.whole ∙ ap (λ ys. m.before ++ ys) e ∙ sym (append_assoc m.before keep s) in
-    let one : One ((m.before ++ keep) ++ t) f = subst (λ ys. One ys f) (sym back) (m.moves keep s t e k) in
-    subst (λ ys. Two ys f) (ap (λ ys. x ++ ys) back ∙ sym (append_assoc x m.before (keep ++ t))) (step (m.before ++ keep) s t f (kept_firm kind m.before keep s t m.base k) same one);
+      let f = mark kind (length (keep ++ t)) in
+      let back : (m.before ++ keep) ++ t ≡ m.before ++ (keep ++ t) = append_assoc m.before keep t in
+      let same : bs ≡ (m.before ++ keep) ++ s = m.whole ∙ ap (λ ys. m.before ++ ys) e ∙ sym (append_assoc m.before keep s) in
+      let one : One ((m.before ++ keep) ++ t) f = subst (λ ys. One ys f) (sym back) (m.moves keep s t e k) in
+      subst (λ ys. Two ys f) (ap (λ ys. x ++ ys) back ∙ sym (append_assoc x m.before (keep ++ t))) (step (m.before ++ keep) s t f (kept_firm kind m.before keep s t m.base k) same one);
 }
 
 moves_same : (kind : Kind) (One Two : Text → Fault → Type 0) (bs : Text) (left : ℕ) → ((p s t : Text) (f : Fault) → Firm p → bs ≡ p ++ s → One (p ++ t) f → Two (p ++ t) f) → Moves kind One bs left → Moves kind Two bs left
@@ -99,12 +98,12 @@ still_plain kind d nested bs before rest keep s t none whole e k h x =
     let read : plain_word_at nested (inner_at d) (before ++ (keep ++ t)) ≡ _ = plain_met d (inner_at d) (inner_exact d) nested h in
     let star = ap (plain_word_at nested (inner_at d)) x.1 ∙ star_joined d (inner_at d) (inner_exact d) nested x.0 x.2 in
     go kind k (err_same {A = Parts × Text} (mark kind (length (keep ++ t))) (JoinedToClose (length x.0)) (sym read ∙ star)) where
-  go : (kind : Kind) → Kept kind keep s t → mark kind (length (keep ++ t)) ≡ JoinedToClose (length x.0) → ⊥
-  go escape k same = cc
-  go joined k same =
-      let long : length (keep ++ t) ≡ length x.0 = cc in
-      let cut = same_cut before (keep ++ t) (123 ∷ (42 ∷ (125 ∷ []))) x.0 x.1 long in
-      none (keep ++ s, whole ∙ ap₂ (λ (a b : Text). a ++ b) cut.0 e, k.1 nested ∙ ap (word_ends nested) cut.1 ∙ x.2)
+      go : (kind : Kind) → Kept kind keep s t → mark kind (length (keep ++ t)) ≡ JoinedToClose (length x.0) → ⊥
+      go escape k same = cc
+      go joined k same =
+          let long : length (keep ++ t) ≡ length x.0 = cc in
+          let cut = same_cut before (keep ++ t) (123 ∷ (42 ∷ (125 ∷ []))) x.0 x.1 long in
+          none (keep ++ s, whole ∙ ap₂ (λ (a b : Text). a ++ b) cut.0 e, k.1 nested ∙ ap (word_ends nested) cut.1 ∙ x.2)
 
 -- the parts of a quoted word, whatever stands behind its quote
 pub parts_before_quote : (ps : Parts) (inside s t : Text) → IsParts InQuotes ps inside (34 ∷ s) → IsParts InQuotes ps inside (34 ∷ t)
@@ -143,12 +142,12 @@ later_command_moves : (kind : Kind) (d : ℕ) (nested : Bool) (gap source body :
 later_command_moves kind d nested gap source body ws rest left h free k deep m =
     subst (λ ys. Moves kind (CommandsFault d nested) ys left) (append_assoc gap body rest)
     (moves_before kind (CommandsFault d nested) (CommandsFault d nested) (gap ++ body) rest left
-      (λ p s t f firm same l.
-        subst (λ ys. CommandsFault d nested ys f) (sym (append_assoc gap body (p ++ t)))
-        (faults.CommandsFault.later_command gap source body ws
-          (gap-any h (subst (λ ys. ys ≢ []) (append_assoc body p s ∙ ap (λ ys. body ++ ys) (sym same)) (firm_some (body ++ p) s (firm_before body p firm))) (body ++ (p ++ t)))
-          free (command-firm nested source ws body p s t firm (subst (λ ys. IsCommand nested source ws body ys) same k)) deep l))
-      m)
+    (λ p s t f firm same l.
+    subst (λ ys. CommandsFault d nested ys f) (sym (append_assoc gap body (p ++ t)))
+    (faults.CommandsFault.later_command gap source body ws
+    (gap-any h (subst (λ ys. ys ≢ []) (append_assoc body p s ∙ ap (λ ys. body ++ ys) (sym same)) (firm_some (body ++ p) s (firm_before body p firm))) (body ++ (p ++ t)))
+    free (command-firm nested source ws body p s t firm (subst (λ ys. IsCommand nested source ws body ys) same k)) deep l))
+    m)
 
 later_word_moves : (kind : Kind) (d : ℕ) (nested : Bool) (body : Text) (w : Word) (rest : Text) (left : ℕ) → IsWord nested w body rest → word_nesting w ≤ d → Moves kind (WordsFault d nested) rest left → Moves kind (CommandFault d nested) (body ++ rest) left
 later_word_moves kind d nested body w rest left h deep m =
@@ -160,10 +159,10 @@ word_after_moves : (kind : Kind) (d : ℕ) (nested : Bool) (blanks body : Text) 
 word_after_moves kind d nested blanks body w rest left h k deep m =
     subst (λ ys. Moves kind (WordsFault d nested) ys left) (append_assoc blanks body rest)
     (moves_before kind (WordsFault d nested) (WordsFault d nested) (blanks ++ body) rest left
-      (λ p s t f firm same l.
-        subst (λ ys. WordsFault d nested ys f) (sym (append_assoc blanks body (p ++ t)))
-        (faults.WordsFault.word_after blanks body w h (word-firm nested w body p s t firm (subst (λ ys. IsWord nested w body ys) same k)) deep l))
-      m)
+    (λ p s t f firm same l.
+    subst (λ ys. WordsFault d nested ys f) (sym (append_assoc blanks body (p ++ t)))
+    (faults.WordsFault.word_after blanks body w h (word-firm nested w body p s t firm (subst (λ ys. IsWord nested w body ys) same k)) deep l))
+    m)
 
 word_moves : (kind : Kind) (d : ℕ) (nested : Bool) (bs : Text) (left : ℕ) → (Expands nested bs → ⊥) → Moves kind (PlainFault d nested) bs left → Moves kind (WordFault d nested) bs left
 word_moves kind d nested bs left none m = record {
@@ -186,8 +185,8 @@ brace_moves joined d nested inside rest left h k e = record {
   long = (let same : length rest ≡ left = cc in same);
   base = omega (arith, length-append inside (125 ∷ []));
   moves = λ keep s t r x.
-    subst (λ ys. PlainFault d nested (123 ∷ ys) (JoinedToClose (length (keep ++ t)))) (sym (append_assoc inside (125 ∷ []) (keep ++ t)))
-    (faults.PlainFault.joined_brace inside (keep ++ t) h (sym (x.1 nested) ∙ ap (word_ends nested) (sym r) ∙ k));
+      subst (λ ys. PlainFault d nested (123 ∷ ys) (JoinedToClose (length (keep ++ t)))) (sym (append_assoc inside (125 ∷ []) (keep ++ t)))
+      (faults.PlainFault.joined_brace inside (keep ++ t) h (sym (x.1 nested) ∙ ap (word_ends nested) (sym r) ∙ k));
 }
 
 quote_moves : (kind : Kind) (d : ℕ) (nested : Bool) (inside rest : Text) (ps : Parts) (left : ℕ) → IsParts InQuotes ps inside (34 ∷ rest) → parts_nesting ps ≤ d → word_ends nested rest ≡ false → JoinedToClose (length rest) ≡ mark kind left
@@ -202,8 +201,8 @@ quote_moves joined d nested inside rest ps left h deep k e = record {
   long = (let same : length rest ≡ left = cc in same);
   base = omega (arith, length-append inside (34 ∷ []));
   moves = λ keep s t r x.
-    subst (λ ys. PlainFault d nested (34 ∷ ys) (JoinedToClose (length (keep ++ t)))) (sym (append_assoc inside (34 ∷ []) (keep ++ t)))
-    (faults.PlainFault.joined_quote inside (keep ++ t) ps (parts_before_quote ps inside rest (keep ++ t) h) deep (sym (x.1 nested) ∙ ap (word_ends nested) (sym r) ∙ k));
+      subst (λ ys. PlainFault d nested (34 ∷ ys) (JoinedToClose (length (keep ++ t)))) (sym (append_assoc inside (34 ∷ []) (keep ++ t)))
+      (faults.PlainFault.joined_quote inside (keep ++ t) ps (parts_before_quote ps inside rest (keep ++ t) h) deep (sym (x.1 nested) ∙ ap (word_ends nested) (sym r) ∙ k));
 }
 
 bare_moves : (kind : Kind) (d : ℕ) (nested : Bool) (bs : Text) (left : ℕ) → DoesBegin (λ b. not (b == 123 || b == 34)) bs → Moves kind (PartsFault d (bare nested)) bs left → Moves kind (PlainFault d nested) bs left
@@ -216,9 +215,9 @@ later_part_moves : (kind : Kind) (d : ℕ) (c : Context) (body : Text) (q : Part
 later_part_moves kind d c body q rest left goes h deep m =
     moves_before kind (PartsFault d c) (PartsFault d c) body rest left
     (λ p s t f firm same l.
-      faults.PartsFault.later_part body q
-      (ap (parts_end c) (sym (append_assoc body p t)) ∙ sym (parts_end-firm c (body ++ p) s t (firm_before body p firm)) ∙ ap (parts_end c) (append_assoc body p s ∙ ap (λ ys. body ++ ys) (sym same)) ∙ goes)
-      (part-firm c q body p s t firm (subst (λ ys. IsPart c q body ys) same h)) deep l)
+    faults.PartsFault.later_part body q
+    (ap (parts_end c) (sym (append_assoc body p t)) ∙ sym (parts_end-firm c (body ++ p) s t (firm_before body p firm)) ∙ ap (parts_end c) (append_assoc body p s ∙ ap (λ ys. body ++ ys) (sym same)) ∙ goes)
+    (part-firm c q body p s t firm (subst (λ ys. IsPart c q body ys) same h)) deep l)
     m
 
 escape_moves : (kind : Kind) (d : ℕ) (bs : Text) (left : ℕ) → BadCharacter (suc (length bs)) ≡ mark kind left → Moves kind (PartFault d) (92 ∷ bs) left
@@ -238,7 +237,7 @@ index_moves : (kind : Kind) (d : ℕ) (name bs : Text) (left : ℕ) → IsName n
 index_moves kind d name bs left h m =
     subst (λ ys. Moves kind (PartFault (suc d)) (36 ∷ ys) left) (append_assoc name (40 ∷ []) bs)
     (moves_before kind (PartsFault d InIndex) (PartFault (suc d)) (36 ∷ (name ++ 40 ∷ [])) bs left
-      (λ p s t f firm same l. subst (λ ys. PartFault (suc d) (36 ∷ ys) f) (sym (append_assoc name (40 ∷ []) (p ++ t))) (faults.PartFault.in_index name (p ++ t) h l)) m)
+    (λ p s t f firm same l. subst (λ ys. PartFault (suc d) (36 ∷ ys) f) (sym (append_assoc name (40 ∷ []) (p ++ t))) (faults.PartFault.in_index name (p ++ t) h l)) m)
 
 open_index_moves : (kind : Kind) (d : ℕ) (name bs : Text) (left : ℕ) → BadCharacter (suc (length bs)) ≡ mark kind left → Moves kind (PartFault d) (36 ∷ (name ++ 40 ∷ bs)) left
 open_index_moves joined d name bs left e = absurd (apart e) where

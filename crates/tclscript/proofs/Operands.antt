@@ -1,8 +1,8 @@
 -- The readers of what a dollar sign, a bracket and a quote begin, each behind its mark, are exact: what stands above scripts
 -- reads operands by them.
-use Rattle.std.proofs.Common.{◌≡◌, ◌≢◌, ℕ, zero, suc, ◌+◌, ◌<◌, ◌≤◌, List, [], ◌∷◌, ◌++◌, length, Bool, true, false, Result, Ok, Err, refl, sym, ap, ap₂, subst, ◌∙◌, arith, append_assoc, append-nil, length-append, ◌⊎◌, inl, inr}
+use Rattle.std.proofs.Common.{◌≡◌, ℕ, suc, ◌≤◌, [], ◌∷◌, ◌++◌, length, Result, Ok, Err, refl, sym, ap, subst, ◌∙◌, arith, append_assoc, append-nil, ◌⊎◌, inl, inr}
 use Rattle.tclchars.specs.Runs.{Text}
-use Rattle.tclchars.specs.Reading.{◌>>=◌, Read, read_map}
+use Rattle.tclchars.specs.Reading.{◌>>=◌, Read}
 use Rattle.tclchars.specs.declared.fault.Fault.{Fault}
 use Rattle.tclchars.specs.declared.fault.Fault.TheVariants.{OpenQuote}
 use Rattle.tclscript.specs.declared.context.Context.{Context}
@@ -10,7 +10,7 @@ use Rattle.tclscript.specs.declared.context.Context.TheVariants.{InQuotes}
 use Rattle.tclscript.specs.Tree.{Parts, Part, parts_nesting, part_nesting}
 use Rattle.tclscript.specs.Grammar.{IsParts, IsPart}
 use Rattle.tclscript.specs.Faults.{PartsFault, PartFault}
-use Rattle.tclscript.specs.Reading.{Inner, closed, bracket_at, dollar_at, parts_with, quotes_at, part_at}
+use Rattle.tclscript.specs.Reading.{Inner, closed, bracket_at, dollar_at, parts_with, quotes_at}
 use Rattle.tclscript.proofs.Exact.{Took, Exact, bind_ok, bind_err, ok_pair, ok_err}
 use Rattle.tclscript.proofs.Marks.{closed_ok, closed_err, closed-at, none_before}
 use Rattle.tclscript.proofs.Dollars.{Anywhere, IsExactInner, DollarIs, parts_close, dollar_sound, dollar_faulty}
@@ -83,19 +83,19 @@ module _ (d : ℕ) (inner : Inner) (exact : IsExactInner d inner) where
         | inl bad ↦ inl (parts_faulty d inner exact InQuotes bs f tt bad)
         | inr k ↦ unclosed k.0.0 k.0.1 k.1 k.2
       ] where
-    unclosed : (ps : Parts) (r : Text) → parts_with InQuotes inner bs ≡ Ok (ps, r) → close_quotes (OpenQuote (suc (length bs))) ps r ≡ Err f → QuotedFault d bs f
-    unclosed ps r was h =
-        let mark = OpenQuote (suc (length bs)) in
-        elim (bind_err (closed 34 mark r) (λ rest. let found : Read Parts = Ok (ps, rest) in found) f h) [
-          | inl bad ↦ (
-            let e = closed_err 34 mark r f bad in
-            let k = parts_sound d inner exact InQuotes bs ps r tt was in
-            let none : r ≡ [] = none_before 34 r (parts_close InQuotes ps k.taken r k.is.0) e.1 in
-            let whole : k.taken ≡ bs = sym (append-nil k.taken) ∙ ap (λ ys. k.taken ++ ys) (sym none) ∙ sym k.whole in
-            inr (ps, subst (λ xs. IsParts InQuotes ps xs []) whole (subst (λ ys. IsParts InQuotes ps k.taken ys) none k.is.0), k.is.1, e.0)
-          )
-          | inr k ↦ absurd (ok_err (ps, k.0) f k.2)
-        ]
+        unclosed : (ps : Parts) (r : Text) → parts_with InQuotes inner bs ≡ Ok (ps, r) → close_quotes (OpenQuote (suc (length bs))) ps r ≡ Err f → QuotedFault d bs f
+        unclosed ps r was h =
+            let mark = OpenQuote (suc (length bs)) in
+            elim (bind_err (closed 34 mark r) (λ rest. let found : Read Parts = Ok (ps, rest) in found) f h) [
+              | inl bad ↦ (
+                  let e = closed_err 34 mark r f bad in
+                  let k = parts_sound d inner exact InQuotes bs ps r tt was in
+                  let none : r ≡ [] = none_before 34 r (parts_close InQuotes ps k.taken r k.is.0) e.1 in
+                  let whole : k.taken ≡ bs = sym (append-nil k.taken) ∙ ap (λ ys. k.taken ++ ys) (sym none) ∙ sym k.whole in
+                  inr (ps, subst (λ xs. IsParts InQuotes ps xs []) whole (subst (λ ys. IsParts InQuotes ps k.taken ys) none k.is.0), k.is.1, e.0)
+                  )
+              | inr k ↦ absurd (ok_err (ps, k.0) f k.2)
+            ]
 
   quotes_again : (ps : Parts) (t r : Text) → Quoted d ps t r → quotes_at inner (t ++ r) ≡ Ok (ps, r)
   unfolding quotes_at

@@ -1,27 +1,20 @@
 -- Up to an offending character a text goes on to a script, and with it to none.
-use Rattle.std.proofs.Common.{◌≡◌, ◌≢◌, ℕ, zero, suc, ◌+◌, ◌*◌, ◌<◌, ◌≤◌, List, [], ◌∷◌, ◌++◌, length, Bool, true, false, not, ◌||◌, ◌&&◌, ◌==◌, nat_lt, nat_le, if◌then◌else◌, Option, Some, None, refl, sym, ap, ap₂, subst, ◌∙◌, arith, append_assoc, append-nil, length-append, ◌⊎◌, inl, inr}
+use Rattle.std.proofs.Common.{◌≡◌, ◌≢◌, ℕ, zero, suc, ◌+◌, ◌*◌, ◌<◌, ◌≤◌, [], ◌∷◌, ◌++◌, length, Bool, true, false, ◌&&◌, ◌==◌, nat_lt, nat_le, if◌then◌else◌, Option, Some, None, refl, sym, subst, ◌∙◌, arith, ◌⊎◌, inl, inr}
 use Rattle.std.specs.Prelude.{encode_utf8}
-use Rattle.std.specs.Char.{digit_value}
 use Rattle.std.proofs.lemmas.Bool.Decides.{nat_tests}
-use Rattle.tclchars.specs.Runs.{Text, begins, front, back}
-use Rattle.tclchars.specs.Bytes.{newline, hash, backslash, is_continuation, DoesBegin}
-use Rattle.tclchars.specs.Backslash.{is_octal, is_hexadecimal, is_blank_or_tab, digit_at, octal_on, octal_at, hexadecimal_on, hexadecimal_at, character, begins_hexadecimal, code_at, wide_code_at, letter_value, after_backslash}
+use Rattle.tclchars.specs.Runs.{Text, front, back}
+use Rattle.tclchars.specs.Bytes.{newline, is_continuation}
+use Rattle.tclchars.specs.Backslash.{is_octal, is_blank_or_tab, digit_at, octal_on, octal_at, hexadecimal_on, hexadecimal_at, character, begins_hexadecimal, code_at, wide_code_at, letter_value, after_backslash}
 use Rattle.tclchars.proofs.BackslashLemmas.{digit_below}
 use Rattle.tclchars.specs.declared.fault.Fault.{Fault}
-use Rattle.tclchars.specs.declared.fault.Fault.TheVariants.{OpenBrace, OpenQuote, OpenBracket, JoinedToClose, TooDeep, BadCharacter, BadExpression}
+use Rattle.tclchars.specs.declared.fault.Fault.TheVariants.{TooDeep}
 use Rattle.tclscript.specs.declared.context.Context.{Context}
-use Rattle.tclscript.specs.declared.context.Context.TheVariants.{InScript, InBracket, InIndex, InQuotes}
-use Rattle.tclscript.specs.Tree as tree
-use Rattle.tclscript.specs.Tree.{Commands, no_commands, command, Words, no_words, word, Word, word_of, Parts, no_parts, part, Part, braced, indexed, bracket, nesting}
-use Rattle.tclscript.specs.Ends.{script_ends, command_ends, word_ends, stands_before, parts_end, bare}
-use Rattle.tclscript.specs.Grammar as grammar
-use Rattle.tclscript.specs.Grammar.{Split, IsBlanks, IsGap, IsName, IsPlainWord, IsCommands, IsCommand, IsWords, IsWord, IsParts, IsPart, IsScript}
+use Rattle.tclscript.specs.Tree.{Commands, nesting}
+use Rattle.tclscript.specs.Grammar.{IsScript}
 use Rattle.tclscript.specs.Faults as faults
 use Rattle.tclscript.specs.Faults.{CommandsFault, CommandFault, WordsFault, WordFault, PlainFault, PartsFault, PartFault, IsFault}
 use Rattle.tclscript.proofs.Whole.{no_tree}
-use Rattle.tclscript.proofs.Firm.{Firm, firm_before, firm_some, does_begin-firm, gap-any, command-firm, word-firm, part-firm, parts_end-firm}
-use Rattle.tclscript.proofs.WordsExact.{plain_goes_on}
-use Rattle.tclscript.proofs.Offending.{Kind, joined, escape, mark, Kept, long_firm, same_cut, Moves, commands_move}
+use Rattle.tclscript.proofs.Offending.{Kind, joined, escape, mark, Kept, same_cut, commands_move}
 
 -- Where more may nest
 
@@ -125,12 +118,12 @@ escape_letter b bs h = go (b == newline) (is_octal b) (b == 120) (b == 117) refl
 
   go : (t u v w : Bool) → (b == 117) ≡ w → (x : Bool) → (b == 85) ≡ x → (y : Bool)
       → (if t then Some (32 ∷ [], back is_blank_or_tab bs)
-        else if u then character (octal_at 3 0 (b ∷ bs))
-        else if v then code_at 2 b bs
-        else if w then code_at 4 b bs
-        else if x then wide_code_at bs
-        else if y then Some (b ∷ front is_continuation bs, back is_continuation bs)
-        else Some (letter_value b ∷ [], bs)) ≡ None
+      else if u then character (octal_at 3 0 (b ∷ bs))
+      else if v then code_at 2 b bs
+      else if w then code_at 4 b bs
+      else if x then wide_code_at bs
+      else if y then Some (b ∷ front is_continuation bs, back is_continuation bs)
+      else Some (letter_value b ∷ [], bs)) ≡ None
       → (b ≡ 117) ⊎ (b ≡ 85)
   go true u v w f x g y h = absurd (some_none (32 ∷ [], back is_blank_or_tab bs) h)
   go false true v w f x g y h = absurd (small_character (octal_at 3 0 (b ∷ bs)) (octal_small 3 0 (b ∷ bs) (omega arith)) h)

@@ -1,9 +1,9 @@
 -- Up to what offends, a text goes on to a script.
-use Rattle.std.proofs.Common.{◌≡◌, ◌≢◌, ℕ, zero, suc, ◌+◌, ◌<◌, ◌≤◌, List, [], ◌∷◌, ◌++◌, length, Bool, true, false, not, ◌||◌, ◌&&◌, ◌==◌, if◌then◌else◌, Option, Some, None, refl, sym, ap, ap₂, subst, ◌∙◌, arith, append_assoc, append-nil, length-append, ◌⊎◌, inl, inr}
+use Rattle.std.proofs.Common.{◌≡◌, ◌≢◌, ℕ, suc, [], ◌∷◌, ◌++◌, length, Bool, true, false, not, ◌||◌, ◌==◌, Some, None, refl, sym, ap, subst, ◌∙◌, arith, append_assoc, append-nil, length-append, ◌⊎◌, inl, inr}
 use Rattle.std.proofs.lemmas.Bool.Decides.{nat_tests}
 use Rattle.tclchars.specs.Runs.{Text, begins}
-use Rattle.tclchars.specs.Bytes.{newline, hash, backslash, DoesBegin}
-use Rattle.tclchars.specs.Backslash.{begins_hexadecimal, is_hexadecimal, after_backslash}
+use Rattle.tclchars.specs.Bytes.{newline, hash, DoesBegin}
+use Rattle.tclchars.specs.Backslash.{begins_hexadecimal, after_backslash}
 use Rattle.tclchars.specs.Braces.{Balanced}
 use Rattle.tclchars.specs.declared.fault.Fault.{Fault}
 use Rattle.tclchars.specs.declared.fault.Fault.TheVariants.{OpenBrace, OpenQuote, OpenBracket, JoinedToClose, TooDeep, BadCharacter}
@@ -51,9 +51,9 @@ between Ends Ends' Is Is' make x y bs left step m =
       long = m.long;
       firm = subst Firm (sym (append_assoc x m.before m.keep)) (firm_before x p m.firm);
       is = λ after ends.
-        subst (λ ys. Is' (make m.value (p ++ m.more)) ys after)
-        (ap (λ ys. x ++ ys) (append_assoc p m.more y ∙ back (m.more ++ y)) ∙ sym (append_assoc x m.before (m.keep ++ (m.more ++ y))))
-        (step m.value p m.rest m.more m.firm (m.whole ∙ sym (back m.rest)) (λ after ends. subst (λ ys. Is m.value ys after) (sym (back m.more)) (m.is after ends)) after ends);
+          subst (λ ys. Is' (make m.value (p ++ m.more)) ys after)
+          (ap (λ ys. x ++ ys) (append_assoc p m.more y ∙ back (m.more ++ y)) ∙ sym (append_assoc x m.before (m.keep ++ (m.more ++ y))))
+          (step m.value p m.rest m.more m.firm (m.whole ∙ sym (back m.rest)) (λ after ends. subst (λ ys. Is m.value ys after) (sym (back m.more)) (m.is after ends)) after ends);
     }
 
 behind : {X Y : Type 0} (Ends Ends' : Text → Type 0) (Is : X → Text → Text → Type 0) (Is' : Y → Text → Text → Type 0) (make : X → Text → Y) (x bs : Text) (left : ℕ)
@@ -119,19 +119,19 @@ first_command_to : (nested : Bool) (gap body : Text) (left : ℕ) → IsGap gap 
 first_command_to nested gap body left h free m =
     behind (λ r. command_ends nested r ≡ true) (λ r. script_ends nested r ≡ true) (λ (c : Text × Words) t r. IsCommand nested c.0 c.1 t r) (λ s t r. IsCommands nested s t r) (λ c u. command c.0 c.1 no_commands) gap body left
     (λ v p s t firm same is after ends.
-      record {
-        first = gap;
-        second = p ++ t;
-        whole = refl;
-        is_first = gap-any h (subst (λ ys. ys ≢ []) (sym same) (firm_some p s firm)) ((p ++ t) ++ after);
-        is_second = record {
-          first = p ++ t;
-          second = [];
-          whole = sym (append-nil (p ++ t));
-          is_first = (does_begin-firm (λ b. not (b == hash)) p s t firm (subst (λ ys. DoesBegin (λ b. not (b == hash)) ys) same free), is after (script_command nested after ends));
-          is_second = (grammar.IsGap.nothing, ends);
-        };
-      })
+    record {
+      first = gap;
+      second = p ++ t;
+      whole = refl;
+      is_first = gap-any h (subst (λ ys. ys ≢ []) (sym same) (firm_some p s firm)) ((p ++ t) ++ after);
+      is_second = record {
+        first = p ++ t;
+        second = [];
+        whole = sym (append-nil (p ++ t));
+        is_first = (does_begin-firm (λ b. not (b == hash)) p s t firm (subst (λ ys. DoesBegin (λ b. not (b == hash)) ys) same free), is after (script_command nested after ends));
+        is_second = (grammar.IsGap.nothing, ends);
+      };
+    })
     m
 
 later_command_to : (nested : Bool) (gap source body : Text) (ws : Words) (rest : Text) (left : ℕ) → IsGap gap (body ++ rest) → DoesBegin (λ b. not (b == hash)) body → IsCommand nested source ws body rest → CommandsTo nested rest left
@@ -139,24 +139,24 @@ later_command_to : (nested : Bool) (gap source body : Text) (ws : Words) (rest :
 later_command_to nested gap source body ws rest left h free k m =
     subst (λ ys. CommandsTo nested ys left) (append_assoc gap body rest)
     (behind (λ r. script_ends nested r ≡ true) (λ r. script_ends nested r ≡ true) (λ s t r. IsCommands nested s t r) (λ s t r. IsCommands nested s t r) (λ cs u. command source ws cs) (gap ++ body) rest left
-      (λ v p s t firm same is after ends.
-        record {
-          first = gap;
-          second = body ++ (p ++ t);
-          whole = append_assoc gap body (p ++ t);
-          is_first = gap-any h (subst (λ ys. ys ≢ []) (append_assoc body p s ∙ ap (λ ys. body ++ ys) (sym same)) (firm_some (body ++ p) s (firm_before body p firm))) ((body ++ (p ++ t)) ++ after);
-          is_second = record {
-            first = body;
-            second = p ++ t;
-            whole = refl;
-            is_first = (
-              free,
-              subst (λ ys. IsCommand nested source ws body ys) (sym (append_assoc p t after)) (command-firm nested source ws body p s (t ++ after) firm (subst (λ ys. IsCommand nested source ws body ys) same k)),
-            );
-            is_second = is after ends;
-          };
-        })
-      m)
+    (λ v p s t firm same is after ends.
+    record {
+      first = gap;
+      second = body ++ (p ++ t);
+      whole = append_assoc gap body (p ++ t);
+      is_first = gap-any h (subst (λ ys. ys ≢ []) (append_assoc body p s ∙ ap (λ ys. body ++ ys) (sym same)) (firm_some (body ++ p) s (firm_before body p firm))) ((body ++ (p ++ t)) ++ after);
+      is_second = record {
+        first = body;
+        second = p ++ t;
+        whole = refl;
+        is_first = (
+          free,
+          subst (λ ys. IsCommand nested source ws body ys) (sym (append_assoc p t after)) (command-firm nested source ws body p s (t ++ after) firm (subst (λ ys. IsCommand nested source ws body ys) same k)),
+        );
+        is_second = is after ends;
+      };
+    })
+    m)
 
 first_word_to : (nested : Bool) (bs : Text) (left : ℕ) → WordTo nested bs left → CommandTo nested bs left
 first_word_to nested bs left m =
@@ -178,34 +178,34 @@ next_word_to : (nested : Bool) (blanks body : Text) (left : ℕ) → IsBlanks bl
 next_word_to nested blanks body left h m =
     behind (λ r. word_ends nested r ≡ true) (λ r. command_ends nested r ≡ true) (λ w t r. IsWord nested w t r) (λ ws t r. IsWords nested ws t r) (λ w u. word w no_words) blanks body left
     (λ v p s t firm same is after ends.
-      record {
-        first = blanks;
-        second = p ++ t;
-        whole = refl;
-        is_first = h;
-        is_second = record { first = p ++ t; second = []; whole = sym (append-nil (p ++ t)); is_first = is after (command_word nested after ends); is_second = (grammar.IsBlanks.nothing, ends) };
-      })
+    record {
+      first = blanks;
+      second = p ++ t;
+      whole = refl;
+      is_first = h;
+      is_second = record { first = p ++ t; second = []; whole = sym (append-nil (p ++ t)); is_first = is after (command_word nested after ends); is_second = (grammar.IsBlanks.nothing, ends) };
+    })
     m
 
 word_after_to : (nested : Bool) (blanks body : Text) (w : Word) (rest : Text) (left : ℕ) → IsBlanks blanks → IsWord nested w body rest → WordsTo nested rest left → WordsTo nested (blanks ++ (body ++ rest)) left
 word_after_to nested blanks body w rest left h k m =
     subst (λ ys. WordsTo nested ys left) (append_assoc blanks body rest)
     (behind (λ r. command_ends nested r ≡ true) (λ r. command_ends nested r ≡ true) (λ ws t r. IsWords nested ws t r) (λ ws t r. IsWords nested ws t r) (λ ws u. word w ws) (blanks ++ body) rest left
-      (λ v p s t firm same is after ends.
-        record {
-          first = blanks;
-          second = body ++ (p ++ t);
-          whole = append_assoc blanks body (p ++ t);
-          is_first = h;
-          is_second = record {
-            first = body;
-            second = p ++ t;
-            whole = refl;
-            is_first = subst (λ ys. IsWord nested w body ys) (sym (append_assoc p t after)) (word-firm nested w body p s (t ++ after) firm (subst (λ ys. IsWord nested w body ys) same k));
-            is_second = is after ends;
-          };
-        })
-      m)
+    (λ v p s t firm same is after ends.
+    record {
+      first = blanks;
+      second = body ++ (p ++ t);
+      whole = append_assoc blanks body (p ++ t);
+      is_first = h;
+      is_second = record {
+        first = body;
+        second = p ++ t;
+        whole = refl;
+        is_first = subst (λ ys. IsWord nested w body ys) (sym (append_assoc p t after)) (word-firm nested w body p s (t ++ after) firm (subst (λ ys. IsWord nested w body ys) same k));
+        is_second = is after ends;
+      };
+    })
+    m)
 
 plain_to : (nested : Bool) (bs : Text) (left : ℕ) → PlainTo nested bs left → WordTo nested bs left
 plain_to nested bs left m =
@@ -266,17 +266,17 @@ later_part_to : (c : Context) (body : Text) (q : Part) (rest : Text) (left : ℕ
 later_part_to c body q rest left goes h m =
     behind (λ r. parts_end c r ≡ true) (λ r. parts_end c r ≡ true) (λ ps t r. IsParts c ps t r) (λ ps t r. IsParts c ps t r) (λ ps u. part q ps) body rest left
     (λ v p s t firm same is after ends.
-      record {
-        first = body;
-        second = p ++ t;
-        whole = refl;
-        is_first = (
-          ap (parts_end c) (ap (λ ys. body ++ ys) (append_assoc p t after) ∙ sym (append_assoc body p (t ++ after)))
-          ∙ sym (parts_end-firm c (body ++ p) s (t ++ after) (firm_before body p firm)) ∙ ap (parts_end c) (append_assoc body p s ∙ ap (λ ys. body ++ ys) (sym same)) ∙ goes,
-          subst (λ ys. IsPart c q body ys) (sym (append_assoc p t after)) (part-firm c q body p s (t ++ after) firm (subst (λ ys. IsPart c q body ys) same h)),
-        );
-        is_second = is after ends;
-      })
+    record {
+      first = body;
+      second = p ++ t;
+      whole = refl;
+      is_first = (
+        ap (parts_end c) (ap (λ ys. body ++ ys) (append_assoc p t after) ∙ sym (append_assoc body p (t ++ after)))
+            ∙ sym (parts_end-firm c (body ++ p) s (t ++ after) (firm_before body p firm)) ∙ ap (parts_end c) (append_assoc body p s ∙ ap (λ ys. body ++ ys) (sym same)) ∙ goes,
+        subst (λ ys. IsPart c q body ys) (sym (append_assoc p t after)) (part-firm c q body p s (t ++ after) firm (subst (λ ys. IsPart c q body ys) same h)),
+      );
+      is_second = is after ends;
+    })
     m
 
 bracket_to : (c : Context) (bs : Text) (left : ℕ) → CommandsTo true bs left → PartTo c (91 ∷ bs) left
@@ -288,11 +288,11 @@ index_to : (c : Context) (name bs : Text) (left : ℕ) → IsName name → Parts
 index_to c name bs left h m =
     subst (λ ys. PartTo c (36 ∷ ys) left) (append_assoc name (40 ∷ []) bs)
     (between (λ r. parts_end InIndex r ≡ true) (λ r. parts_end c r ≡ true) (λ ps t r. IsParts InIndex ps t r) (λ q t r. (parts_end c (t ++ r) ≡ false) × IsPart c q t r) (λ ps u. indexed name ps) (36 ∷ (name ++ 40 ∷ [])) (41 ∷ []) bs left
-      (λ v p s t firm same is after ends. (
-        part_byte c 36 (((name ++ 40 ∷ []) ++ ((p ++ t) ++ 41 ∷ [])) ++ after) (inl refl),
-        (p ++ t, ap (λ ys. 36 ∷ ys) (append_assoc name (40 ∷ []) ((p ++ t) ++ 41 ∷ [])), h, is (41 ∷ after) refl),
-      ))
-      m)
+    (λ v p s t firm same is after ends. (
+      part_byte c 36 (((name ++ 40 ∷ []) ++ ((p ++ t) ++ 41 ∷ [])) ++ after) (inl refl),
+      (p ++ t, ap (λ ys. 36 ∷ ys) (append_assoc name (40 ∷ []) ((p ++ t) ++ 41 ∷ [])), h, is (41 ∷ after) refl),
+    ))
+    m)
 
 escape_to : (c : Context) (b : ℕ) (bs : Text) (left : ℕ) → after_backslash (b ∷ bs) ≡ None → suc (suc (length bs)) ≡ left → PartTo c (92 ∷ (b ∷ bs)) left
 escape_to c b bs left h e =
@@ -396,8 +396,8 @@ so_far kind d before rest h at =
 -- what begins with a backslash doesn't begin with a parenthesis
 pub at_backslash : (before rest : Text) → IsAtMark escape (before ++ 92 ∷ rest) (suc (length rest))
 at_backslash before rest = λ x y e long. (
-  let cut = same_cut before (92 ∷ rest) x (40 ∷ y) e (omega (arith, long)) in
-  apart y cut.1
-) where
-  apart : (y : Text) → 92 ∷ rest ≡ 40 ∷ y → ⊥
-  apart y h = cc
+    let cut = same_cut before (92 ∷ rest) x (40 ∷ y) e (omega (arith, long)) in
+    apart y cut.1
+    ) where
+      apart : (y : Text) → 92 ∷ rest ≡ 40 ∷ y → ⊥
+      apart y h = cc

@@ -419,10 +419,10 @@ module _ (d : ℕ) (inner : Inner) (exact : IsExactInner d inner) (nested : Bool
   no_expansion ps t r h = elim (expansion nested (t ++ r)) [
     | inr k ↦ k.1
     | inl k ↦ (
-      let joined : plain_word_at nested inner (t ++ r) ≡ Err (JoinedToClose (length k.0.0)) =
-          ap (plain_word_at nested inner) k.0.1 ∙ star_joined k.0.0 k.0.2 in
-      absurd (err_ok (ps, r) _ (sym joined ∙ plain_again ps t r h))
-    )
+        let joined : plain_word_at nested inner (t ++ r) ≡ Err (JoinedToClose (length k.0.0)) =
+        ap (plain_word_at nested inner) k.0.1 ∙ star_joined k.0.0 k.0.2 in
+        absurd (err_ok (ps, r) _ (sym joined ∙ plain_again ps t r h))
+        )
   ]
 
   word_again : (w : Word) (t r : Text) → WordIs w t r → word_at nested inner (t ++ r) ≡ Ok (w, r)

@@ -1,5 +1,5 @@
 -- The offending character, up to and with which no script begins with a text, though one begins with the text before it.
-use Rattle.std.specs.Prelude.{◌≡◌, ◌≢◌, ℕ, [], ◌∷◌, ◌++◌, None}
+use Rattle.std.specs.Prelude.{◌≡◌, ◌≢◌, [], ◌∷◌, ◌++◌, None}
 use Rattle.tclchars.specs.Runs.{Text}
 use Rattle.tclchars.specs.Bytes.{backslash}
 use Rattle.tclchars.specs.Backslash.{after_backslash}

@@ -42,5 +42,4 @@ pub fn first_offending()
     ensures with_escape { (before bad rest : Text) → IsFault max_nesting (before ++ backslash ∷ (bad ++ rest)) (BadCharacter (suc (length (bad ++ rest)))) → IsBadEscape bad
         → GoesOn (before ++ backslash ∷ bad) → ⊥ }
     ensures escapes { (bs : Text) → bs ≢ [] → after_backslash bs ≡ None → (bad : Text) × (rest : Text) × (bs ≡ bad ++ rest) × (length bad ≤ 5) × IsBadEscape bad }
-{
-}
+{}

@@ -1,12 +1,7 @@
-use Rattle.std.proofs.Common.{◌≡◌, ◌≢◌, ℕ, [], ◌∷◌, ◌++◌, Bool, None, length, refl, sym, ap, subst, append_assoc}
-use Rattle.tclchars.specs.Runs.{Text}
-use Rattle.tclchars.specs.Backslash.{after_backslash}
+use Rattle.std.proofs.Common.{◌∷◌, subst, append_assoc}
 use Rattle.tclchars.specs.Faults.{max_nesting}
-use Rattle.tclchars.specs.declared.fault.Fault.TheVariants.{JoinedToClose, BadCharacter}
-use Rattle.tclscript.specs.Ends.{word_ends}
 use Rattle.tclscript.specs.Grammar.{IsScript}
-use Rattle.tclscript.specs.Offending.{IsOffender, IsBadEscape}
-use Rattle.tclscript.proofs.Offending.{joined, escape, Kept, offender_kept, escape_kept}
+use Rattle.tclscript.proofs.Offending.{joined, escape, offender_kept, escape_kept}
 use Rattle.tclscript.proofs.Prefixes.{no_further}
 use Rattle.tclscript.proofs.Viable.{so_far, at_backslash}
 use Rattle.tclscript.proofs.BadEscapes.{bad_escape}
