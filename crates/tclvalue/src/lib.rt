@@ -24,3 +24,6 @@ pub use command::value_command;
 pub use fault::ValueFault;
 pub use operators::{binary, unary};
 pub use truth_values::truth;
+
+#[cfg(test)]
+mod tests;
