@@ -1,11 +1,7 @@
-pub mod Bytes
-pub mod Tree
-pub mod View
-pub mod Grammar
-pub mod Faults
-pub mod Reading
 pub mod Numerals
-pub mod Backslash
-pub mod ListGrammar
-pub mod Lists
 pub mod Symbols
+pub use Rattle.tcllist.specs.ListGrammar
+pub use Rattle.tcllist.specs.ListFaults
+pub use Rattle.tcllist.specs.ListReading
+pub use Rattle.tcllist.specs.Lists
+pub use Rattle.tclpattern.specs.Patterns

@@ -1,6 +1,6 @@
 -- How the operators of expressions are spelled (expr(n)).
 use Rattle.std.specs.Prelude.{codes}
-use Rattle.tcltext.specs.Tree.{Text}
+use Rattle.tclchars.specs.Runs.{Text}
 use Rattle.tcltext.specs.declared.operator.UnaryOperator.{UnaryOperator}
 use Rattle.tcltext.specs.declared.operator.UnaryOperator.TheVariants.{Minus, Plus, Complement, Not}
 use Rattle.tcltext.specs.declared.operator.BinaryOperator.{BinaryOperator}

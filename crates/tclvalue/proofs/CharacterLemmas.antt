@@ -1,6 +1,6 @@
 -- Trimming from the end, one character at a time.
 use Rattle.std.proofs.Common.{◌≡◌, ℕ, [], ◌∷◌, ◌++◌, true, false, refl, ap, ◌∙◌}
-use Rattle.tcltext.specs.Tree.{Text}
+use Rattle.tclchars.specs.Runs.{Text}
 use Rattle.tclvalue.specs.Characters.{is_among, kept_end, without_end}
 
 pub end_among : (set front : Text) (c : ℕ) → is_among set c ≡ true → without_end set (front ++ c ∷ []) ≡ without_end set front

@@ -1,6 +1,6 @@
 -- What a wrong number of words gives.
 use Rattle.std.proofs.Common.{◌≡◌, ◌<◌, ◌≤◌, List, [], ◌∷◌, length, map, Err, refl, arith}
-use Rattle.tcltext.specs.Tree.{Text}
+use Rattle.tclchars.specs.Runs.{Text}
 use Rattle.tclvalue.specs.Faults.{error}
 use Rattle.tclvalue.specs.Messages.{wrong_words}
 use Rattle.tclvalue.specs.Commands.{value_of}

@@ -2,7 +2,7 @@
 use Rattle.std.proofs.Common.{◌≡◌, ℕ, ◌*◌, ◌<◌, ◌≤◌, [], length, Ok, Err, refl, sym, ap, ◌∙◌, arith}
 use Rattle.std.specs.List.{repeat}
 use Rattle.std.proofs.lemmas.Bool.{le-leb, lt-leb}
-use Rattle.tcltext.specs.Tree.{Text}
+use Rattle.tclchars.specs.Runs.{Text}
 use Rattle.tclvalue.specs.Faults.{value_too_long}
 use Rattle.tclvalue.specs.Limits.{limited}
 use Rattle.tclvalue.proofs.IndexLemmas.{length_repeat, repeat_nothing}

@@ -1,7 +1,7 @@
 -- Replacements in texts.
 use Rattle.std.proofs.Common.{◌≡◌, ℕ, zero, suc, ◌-◌, ◌<◌, List, [], ◌∷◌, ◌++◌, length, take, drop, Some, refl, sym, ap, ◌∙◌, append_assoc, arith}
 use Rattle.std.proofs.lemmas.List.{take_all}
-use Rattle.tcltext.specs.Tree.{Text}
+use Rattle.tclchars.specs.Runs.{Text}
 use Rattle.tclvalue.specs.Searches.{Pair, first_fit, replaced, mapped}
 
 -- to pass over characters is to leave them out

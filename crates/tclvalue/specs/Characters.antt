@@ -2,7 +2,7 @@
 use Rattle.std.specs.Prelude.{ℕ, ◌==◌, List, [], ◌∷◌, ◌++◌, length, Bool, if◌then◌else◌, codes, map, filter, not}
 use Rattle.std.specs.List.{list_any, slice_split}
 use Rattle.std.specs.Str.{chars, encode_utf8_all}
-use Rattle.tcltext.specs.Tree.{Text}
+use Rattle.tclchars.specs.Runs.{Text}
 use Rattle.tclvalue.specs.Searches.{is_nil}
 use Rattle.tclvalue.specs.Indexes.{place, items_between}
 use Rattle.tclvalue.specs.declared.index.Index.{Index}

@@ -5,7 +5,7 @@ use Rattle.std.specs.declared.cmp.Ordering.TheVariants.{Less, Equal, Greater}
 use Rattle.std.specs.Option.{unwrap_or}
 use Rattle.std.specs.List.{repeat}
 use Rattle.std.specs.Str.{chars}
-use Rattle.tcltext.specs.Tree.{Text}
+use Rattle.tclchars.specs.Runs.{Text}
 use Rattle.tcllist.specs.Lists.{list_text}
 use Rattle.tclvalue.specs.Faults.{Answer, ◌>>=◌, error, left_out}
 use Rattle.tclvalue.specs.Limits.{limited}

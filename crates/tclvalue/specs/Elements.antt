@@ -5,7 +5,7 @@ use Rattle.std.specs.declared.alloc.Global.{Global}
 use Rattle.std.specs.Str.{chars}
 use Rattle.tclchars.specs.declared.fault.TextFault.{TextFault}
 use Rattle.tclchars.specs.declared.fault.TextFault.TheVariants.{TooLong}
-use Rattle.tcltext.specs.Tree.{Text}
+use Rattle.tclchars.specs.Runs.{Text}
 use Rattle.tcllist.specs.ListReading.{list_of}
 use Rattle.tclvalue.specs.Faults.{Answer, ◌>>=◌, text, error}
 use Rattle.tclvalue.specs.Messages.{not_a_list}

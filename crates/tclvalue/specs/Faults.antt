@@ -1,7 +1,7 @@
 -- Faults of values, as contracts see them: the cause, and nothing of memory.
 use Rattle.std.specs.Prelude.{◌≡◌, ℕ, string_bytes, String, Option, Some, None, IfSome, Result, Ok, Err}
 use Rattle.std.specs.declared.alloc.Global.{Global}
-use Rattle.tcltext.specs.Tree.{Text}
+use Rattle.tclchars.specs.Runs.{Text}
 use Rattle.tclchars.specs.declared.fault.TextFault.{TextFault}
 use Rattle.tclvalue.specs.declared.fault.ValueFault.{ValueFault}
 use Rattle.tclvalue.specs.declared.fault.ValueFault.TheVariants as faults

@@ -1,7 +1,7 @@
 -- Which texts match a pattern (string(n), match), as a test. Patterns and texts are lists of characters.
 use Rattle.std.specs.Prelude.{ℕ, length, slice_index_or, List, [], ◌∷◌, ◌++◌, Bool, true, false, ◌||◌, ◌&&◌, ◌==◌, nat_le, if◌then◌else◌, Option, Some, None}
 use Rattle.std.specs.Str.{chars}
-use Rattle.tcltext.specs.Tree.{Text}
+use Rattle.tclchars.specs.Runs.{Text}
 
 -- * ? [ ] \ and -
 abbrev pub star : ℕ

@@ -1,7 +1,7 @@
 -- The limit on the bytes of a value.
 use Rattle.std.specs.Prelude.{◌≡◌, ℕ, ◌<◌, ◌++◌, length, nat_le, if◌then◌else◌, string_bytes, String, Result, Ok, Err, IfSome}
 use Rattle.std.specs.declared.alloc.Global.{Global}
-use Rattle.tcltext.specs.Tree.{Text}
+use Rattle.tclchars.specs.Runs.{Text}
 use Rattle.tclvalue.specs.Faults.{Answer, ◌>>=◌, GivesText, cause_of, value_too_long}
 use Rattle.tclvalue.specs.declared.bounded.Bounded.{Bounded}
 use Rattle.tclvalue.specs.declared.fault.ValueFault.{ValueFault}

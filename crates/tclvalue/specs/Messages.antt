@@ -1,6 +1,6 @@
 -- The messages of errors that catch(n) sees.
 use Rattle.std.specs.Prelude.{◌++◌, codes}
-use Rattle.tcltext.specs.Tree.{Text}
+use Rattle.tclchars.specs.Runs.{Text}
 
 unfoldable pub divide_by_zero : Text
 divide_by_zero = codes "divide by zero"

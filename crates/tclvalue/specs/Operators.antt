@@ -6,11 +6,11 @@ use Rattle.std.specs.Fmt.{signed_decimal}
 use Rattle.std.specs.declared.cmp.Ordering.{Ordering}
 use Rattle.std.specs.Ordering.{nat_cmp, int_cmp, is_lt, is_gt, is_le, is_ge, is_eq, is_ne}
 use Rattle.std.specs.Cmp.Lexicographic.{slice_cmp}
-use Rattle.tcltext.specs.Tree.{Text}
+use Rattle.tclchars.specs.Runs.{Text}
 use Rattle.tcltext.specs.Numerals.{numeral}
 use Rattle.tcltext.specs.Symbols.{unary_symbol, binary_symbol}
-use Rattle.tcltext.specs.declared.Numeral.{Numeral}
-use Rattle.tcltext.specs.declared.Numeral.TheVariants as numerals
+use Rattle.tcltext.specs.declared.number.Numeral.{Numeral}
+use Rattle.tcltext.specs.declared.number.Numeral.TheVariants as numerals
 use Rattle.tcltext.specs.declared.operator.UnaryOperator.{UnaryOperator}
 use Rattle.tcltext.specs.declared.operator.UnaryOperator.TheVariants.{Minus, Plus, Complement, Not}
 use Rattle.tcltext.specs.declared.operator.BinaryOperator.{BinaryOperator}

@@ -2,7 +2,7 @@
 use Rattle.std.specs.Prelude.{ℕ, zero, suc, List, [], ◌∷◌, ◌++◌, length, ◌-◌, Bool, true, false, ◌&&◌, not, if◌then◌else◌, Option, Some, None, option_map, nat_eq, encode_utf8, find}
 use Rattle.std.specs.Option.{option_or}
 use Rattle.std.specs.List.{starts_with}
-use Rattle.tcltext.specs.Tree.{Text}
+use Rattle.tclchars.specs.Runs.{Text}
 use Rattle.tclvalue.specs.declared.searches.Replacement.{Replacement}
 
 abbrev pub is_nil : Text → Bool

@@ -1,0 +1,70 @@
+use Rattle.std.proofs.Common.{length, map, ◌+◌, ◌*◌}
+use denote.Text.{Utf8}
+use denote.Shadow.{shadow}
+use Rattle.tclscript.specs.Pieces.{IsEndOf}
+use Rattle.tclscript.specs.View.{command_view, word_view, part_view}
+use Rattle.tclscript.proofs.Turns.{CommandsSoFar, WordsSoFar, PartsSoFar}
+use Rattle.tclscript.proofs.reading.+read.Given as goal
+
+abbrev pub decreases-read_bracket : goal.decreases-read_bracket
+decreases-read_bracket g l = 10 * l.depth
+
+abbrev pub decreases-read_index : goal.decreases-read_index
+decreases-read_index g l = 10 * l.depth
+
+abbrev pub decreases-read_dollar : goal.decreases-read_dollar
+decreases-read_dollar g l = 10 * l.depth + 1
+
+abbrev pub decreases-read_part : goal.decreases-read_part
+decreases-read_part g l = 10 * l.depth + 2
+
+abbrev pub decreases-read_parts : goal.decreases-read_parts
+decreases-read_parts g l = 10 * l.depth + 3
+
+abbrev pub decreases-read_quotes : goal.decreases-read_quotes
+decreases-read_quotes g l = 10 * l.depth + 4
+
+abbrev pub decreases-read_quoted : goal.decreases-read_quoted
+decreases-read_quoted g l = 10 * l.depth + 5
+
+abbrev pub decreases-read_plain_word : goal.decreases-read_plain_word
+decreases-read_plain_word g l = 10 * l.depth + 6
+
+abbrev pub decreases-read_word : goal.decreases-read_word
+decreases-read_word g l = 10 * l.depth + 7
+
+abbrev pub decreases-read_command : goal.decreases-read_command
+decreases-read_command g l = 10 * l.depth + 8
+
+abbrev pub decreases-read_script : goal.decreases-read_script
+decreases-read_script g l = 10 * l.depth + 9
+
+abbrev pub invariant-read_command-loop-alloc : goal.invariant-read_command-loop-alloc
+invariant-read_command-loop-alloc g l = record {
+  utf8 : shadow (Utf8 l.rest);
+  end : IsEndOf (g.S.Source.text l.source) l.rest;
+  so_far : WordsSoFar l.nested l.depth l.text (g.S.Source.shown l.source l.first_text) (map (word_view (g.S.Source.shown l.source)) l.words.items) l.rest;
+}
+
+abbrev pub decreases-read_command-loop-alloc : goal.decreases-read_command-loop-alloc
+decreases-read_command-loop-alloc g l = length l.rest
+
+abbrev pub invariant-read_parts-loop-alloc : goal.invariant-read_parts-loop-alloc
+invariant-read_parts-loop-alloc g l = record {
+  utf8 : shadow (Utf8 l.rest);
+  end : IsEndOf (g.S.Source.text l.source) l.rest;
+  so_far : PartsSoFar l.context l.depth l.text (map (part_view (g.S.Source.shown l.source)) l.parts.items) l.rest;
+}
+
+abbrev pub decreases-read_parts-loop-alloc : goal.decreases-read_parts-loop-alloc
+decreases-read_parts-loop-alloc g l = length l.rest
+
+abbrev pub invariant-read_script-loop-alloc : goal.invariant-read_script-loop-alloc
+invariant-read_script-loop-alloc g l = record {
+  utf8 : shadow (Utf8 l.rest);
+  end : IsEndOf (g.S.Source.text l.source) l.rest;
+  so_far : CommandsSoFar l.nested l.depth l.text (map (command_view (g.S.Source.shown l.source)) l.commands.items) l.rest;
+}
+
+abbrev pub decreases-read_script-loop-alloc : goal.decreases-read_script-loop-alloc
+decreases-read_script-loop-alloc g l = length l.rest

@@ -1,0 +1,11 @@
+pub mod Marks
+pub mod Tree
+pub mod Ends
+pub mod Passing
+pub mod Pieces
+pub mod Reading
+pub mod View
+pub mod Text
+pub mod Grammar
+pub mod Faults
+pub mod Offending

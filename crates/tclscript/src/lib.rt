@@ -1,0 +1,18 @@
+//! Scripts of Tcl as trees, and what is wrong with a text that is none (Tcl(n)).
+#![tactic(auto)]
+
+mod context;
+mod laws;
+mod piece;
+mod reading;
+mod runs;
+#[cfg(test)]
+mod tests;
+mod text;
+mod tree;
+
+pub use laws::{first_offending, one_fault, one_script, script_of_grammar};
+pub use piece::{ByteRange, Source};
+pub use reading::{read_bracket, read_dollar, read_quotes};
+pub use text::{MAX_BYTES, MAX_NESTING, parse_pieces, parse_script};
+pub use tree::{Command, Part, Script, Word};
