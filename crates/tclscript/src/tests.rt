@@ -65,6 +65,8 @@ fn ranges(rt: HostRuntime) -> Result<(), Fail> {
     assert_eq!(rt; word.parts.len(), 1);
     let last = script.commands.last().ok_or("a command")?;
     assert_eq!(rt; last.source, ByteRange { start: 12, end: 15 });
+    assert_eq!(rt; last.source.of(text), "$ef");
+    assert_eq!(rt; ByteRange { start: 0, end: 1 }.of("\u{e9}"), "");
     assert!(rt;
         matches!(
             last.words.first().map(|w| w.parts.as_slice()),
