@@ -73,6 +73,9 @@ fn ranges(rt: HostRuntime) -> Result<(), Fail> {
             Some([Part::Variable(ByteRange { start: 13, end: 15 })])
         )
     );
+    let owned = own_script(rt.alloc(), format!(in rt.alloc(); "{text}")?)?;
+    let last = owned.script.commands.last().ok_or("a command")?;
+    assert_eq!(rt; last.source.of(owned.text.as_str()), "$ef");
     Ok(())
 }
 
