@@ -29,3 +29,4 @@ pub mod Operands
 pub mod Prefixes
 pub mod Viable
 pub mod BadEscapes
+pub mod LastByte

@@ -1,3 +1,4 @@
+pub mod Marks
 pub mod Tree
 pub mod Ends
 pub mod Passing
