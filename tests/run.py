@@ -38,6 +38,7 @@ def main():
     for name, compare in (("tcltext_cases", "compare.py"), ("tclvalue_cases", "values.py")):
         subprocess.run(["sh", os.path.join(TOP, "tools", "cases.sh"), name], cwd=TOP, check=False)
         commands.append([sys.executable, "-B", os.path.join(HERE, "tcl", compare), os.path.join(TOP, "build", "bin", name)])
+    commands.append([sys.executable, "-B", os.path.join(HERE, "tcl", "memory.py"), os.path.join(TOP, "build", "bin")])
     passed, failed = 0, 0 if build.returncode == 0 else 1
     for command in commands:
         more = counted(command)
