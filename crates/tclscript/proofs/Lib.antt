@@ -29,3 +29,4 @@ pub mod Prefixes
 pub mod Viable
 pub mod BadEscapes
 pub mod LastByte
+pub mod Unfinished
