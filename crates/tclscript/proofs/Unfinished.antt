@@ -173,3 +173,279 @@ parts_finish c (part q ps) t h = go h (parts_finish c ps h.second h.is_second) (
             is_second = m.is r;
           };
       }
+
+-- Words in brackets
+
+abbrev PlainHere : Parts → Text → Text → Type 0
+PlainHere ps t r = IsPlainWord true ps (λ c inside more. IsParts c ps inside more) t r
+
+still_begins : (p : ℕ → Bool) (t more : Text) → DoesBegin p t → DoesBegin p (t ++ more)
+still_begins p [] more h = absurd h
+still_begins p (b ∷ t) more h = h
+
+plain_finish : (ps : Parts) (t : Text) → PlainHere ps t [] → Finished PlainHere 93 t
+plain_finish ps t (e, inl h) = as_is PlainHere InBracket t ps (λ r. (refl, inl h))
+plain_finish ps t (e, inr (inl h)) = as_is PlainHere InBracket t ps (λ r. (refl, inr (inl (h.0, h.1, parts-like InQuotes ps h.0 (34 ∷ []) [] (93 ∷ r) (refl, refl) h.2))))
+plain_finish ps t (e, inr (inr h)) =
+    let m = parts_finish InBracket ps t h.1 in
+    record { more = m.more; value = m.value; like = m.like; is = λ r. (refl, inr (inr (still_begins (λ b. not (b == 123 || b == 34)) t m.more h.0, m.is r))) }
+
+word_finish : (w : Word) (t : Text) → IsWord true w t [] → Finished (λ w t r. IsWord true w t r) 93 t
+word_finish (word_of false ps) t h = (let m = plain_finish ps t h in record { more = m.more; value = word_of false m.value; like = m.like; is = m.is })
+word_finish (word_of true ps) t h =
+    let m = plain_finish ps h.0 h.3 in
+    record {
+      more = m.more;
+      value = word_of true m.value;
+      like = λ r some. subst (λ ys. Like ys [] (m.more ++ 93 ∷ r)) (sym h.1) tt;
+      is = λ r. (h.0 ++ m.more, ap (λ ys. ys ++ m.more) h.1, plain_goes_on true m.value (h.0 ++ m.more) (93 ∷ r) (m.is r), m.is r);
+    }
+
+none_words : (ws : Words) (r : Text) → IsWords true ws [] r → ws ≡ no_words
+none_words no_words r h = refl
+none_words (word w ws) r h =
+    let more : h.second ≡ [] = second_none h.first h.second h.whole in
+    absurd (some_nonempty h.is_second.first (word_some true w h.is_second.first (h.is_second.second ++ r) h.is_second.is_first) (no_front h.is_second.first h.is_second.second (sym more ∙ h.is_second.whole))) where
+  second_none : (x y : Text) → [] ≡ x ++ y → y ≡ []
+  second_none [] y h = sym h
+  second_none (b ∷ x) y h = cc
+
+words_finish : (ws : Words) (t : Text) → IsWords true ws t [] → Finished (λ ws t r. IsWords true ws t r) 93 t
+words_finish no_words t h = as_is (λ ws t r. IsWords true ws t r) InBracket t no_words (λ r. (h.0, refl))
+words_finish (word w ws) t h = go h (words_finish ws h.is_second.second h.is_second.is_second) (empty_or h.is_second.second) where
+  go : (h : IsWords true (word w ws) t []) → Finished (λ ws t r. IsWords true ws t r) 93 h.is_second.second → (h.is_second.second ≡ []) ⊎ (h.is_second.second ≢ []) → Finished (λ ws t r. IsWords true ws t r) 93 t
+  go h m (inl none) =
+      let body = h.is_second.first in
+      let gap = h.first in
+      let f = word_finish w body (subst (λ ys. IsWord true w body (ys ++ [])) none h.is_second.is_first) in
+      let same : t ≡ gap ++ body = h.whole ∙ ap (λ ys. gap ++ ys) (h.is_second.whole ∙ ap (λ ys. body ++ ys) none ∙ append-nil body) in
+      let some = some_nonempty body (word_some true w body (h.is_second.second ++ []) h.is_second.is_first) in
+      record {
+        more = f.more;
+        value = word f.value no_words;
+        like = λ r _. subst (λ ys. Like ys [] (f.more ++ 93 ∷ r)) (sym same) (like_before gap body [] (f.more ++ 93 ∷ r) (f.like r some));
+        is = λ r.
+          record {
+            first = gap;
+            second = body ++ f.more;
+            whole = ap (λ ys. ys ++ f.more) same ∙ append_assoc gap body f.more;
+            is_first = h.is_first;
+            is_second = record { first = body ++ f.more; second = []; whole = sym (append-nil (body ++ f.more)); is_first = f.is r; is_second = (grammar.IsBlanks.nothing, refl) };
+          };
+      }
+  go h m (inr some) =
+      let body = h.is_second.first in
+      let gap = h.first in
+      let rest = h.is_second.second in
+      let same : t ≡ (gap ++ body) ++ rest = h.whole ∙ ap (λ ys. gap ++ ys) h.is_second.whole ∙ sym (append_assoc gap body rest) in
+      record {
+        more = m.more;
+        value = word w m.value;
+        like = λ r _. subst (λ ys. Like ys [] (m.more ++ 93 ∷ r)) (sym same) (like_before (gap ++ body) rest [] (m.more ++ 93 ∷ r) (m.like r some));
+        is = λ r.
+          record {
+            first = gap;
+            second = body ++ (rest ++ m.more);
+            whole = ap (λ ys. ys ++ m.more) same ∙ append_assoc (gap ++ body) rest m.more ∙ append_assoc gap body (rest ++ m.more);
+            is_first = h.is_first;
+            is_second = record {
+              first = body;
+              second = rest ++ m.more;
+              whole = refl;
+              is_first = subst (λ ys. IsWord true w body ys) (sym (append_assoc rest m.more (93 ∷ r))) (word-like true w body rest [] (m.more ++ 93 ∷ r) (m.like r some) h.is_second.is_first);
+              is_second = m.is r;
+            };
+          };
+      }
+
+-- Commands in brackets
+
+abbrev CommandHere : Text × Words → Text → Text → Type 0
+CommandHere c t r = IsCommand true c.0 c.1 t r
+
+command_finish : (source : Text) (ws : Words) (t : Text) → IsCommand true source ws t [] → Finished CommandHere 93 t
+command_finish source no_words t h = absurd h
+command_finish source (word w ws) t h = go h (words_finish ws h.0 h.3) (empty_or h.0) where
+  go : (h : IsCommand true source (word w ws) t []) → Finished (λ ws t r. IsWords true ws t r) 93 h.0 → (h.0 ≡ []) ⊎ (h.0 ≢ []) → Finished CommandHere 93 t
+  go h m (inl none) =
+      let f = word_finish w source (subst (λ ys. IsWord true w source (ys ++ [])) none h.2) in
+      let same : t ≡ source = h.1 ∙ ap (λ ys. source ++ ys) none ∙ append-nil source in
+      record {
+        more = f.more;
+        value = (source ++ f.more, word f.value no_words);
+        like = λ r some. subst (λ ys. Like ys [] (f.more ++ 93 ∷ r)) (sym same) (f.like r (subst (λ ys. ys ≢ []) same some));
+        is = λ r. ([], ap (λ ys. ys ++ f.more) same ∙ sym (append-nil (source ++ f.more)), f.is r, (grammar.IsBlanks.nothing, refl));
+      }
+  go h m (inr some) =
+      let rest = h.0 in
+      record {
+        more = m.more;
+        value = (source, word w m.value);
+        like = λ r _. subst (λ ys. Like ys [] (m.more ++ 93 ∷ r)) (sym h.1) (like_before source rest [] (m.more ++ 93 ∷ r) (m.like r some));
+        is = λ r. (
+          rest ++ m.more,
+          ap (λ ys. ys ++ m.more) h.1 ∙ append_assoc source rest m.more,
+          subst (λ ys. IsWord true w source ys) (sym (append_assoc rest m.more (93 ∷ r))) (word-like true w source rest [] (m.more ++ 93 ∷ r) (m.like r some) h.2),
+          m.is r,
+        );
+      }
+
+-- gaps
+
+comment_append : {x : Text} → IsComment x → {y : Text} → IsComment y → IsComment (x ++ y)
+comment_append grammar.IsComment.nothing k = k
+comment_append (grammar.IsComment.other a b h) k = grammar.IsComment.other a b (comment_append h k)
+comment_append (grammar.IsComment.escaped h) k = grammar.IsComment.escaped (comment_append h k)
+
+-- more text, with which it is a gap before what closes
+record GapFinished (t : Text) : Type 0 where
+  more : Text
+  like : (z : Text) → t ≢ [] → Like t [] z
+  is : (r : Text) → IsGap (t ++ more) (93 ∷ r)
+
+plain_like : (b : ℕ) (bs z : Text) → (b == 92) ≡ false → (b == 58) ≡ false → Like (b ∷ bs) [] z
+plain_like b [] z h k = (rw h refl, rw k refl)
+plain_like b (c ∷ bs) z h k = tt
+
+gap_byte : (b : ℕ) → is_gap b ≡ true → ((b == 92) ≡ false) × ((b == 58) ≡ false)
+gap_byte b h = (grind (arith, nat_tests), grind (arith, nat_tests))
+
+gap_finish : {t after : Text} → IsGap t after → GapFinished t
+gap_finish grammar.IsGap.nothing = record { more = []; like = λ z some. absurd (some refl); is = λ r. grammar.IsGap.nothing }
+gap_finish (grammar.IsGap.space {b} {bs} h k) =
+    let m = gap_finish k in
+    let byte = gap_byte b h in
+    record { more = m.more; like = λ z some. plain_like b bs z byte.0 byte.1; is = λ r. grammar.IsGap.space h (m.is r) }
+gap_finish (grammar.IsGap.line {bs} k) = (let m = gap_finish k in record { more = m.more; like = λ z some. tt; is = λ r. grammar.IsGap.line (m.is r) })
+gap_finish (grammar.IsGap.comment {inside} {bs} h k) =
+    let m = gap_finish k in
+    record {
+      more = m.more;
+      like = λ z some. plain_like hash (inside ++ newline ∷ bs) z refl refl;
+      is = λ r. subst (λ ys. IsGap (hash ∷ ys) (93 ∷ r)) (sym (append_assoc inside (newline ∷ bs) m.more)) (grammar.IsGap.comment h (m.is r));
+    }
+gap_finish (grammar.IsGap.open_comment {inside} h) = record { more = newline ∷ []; like = λ z some. plain_like hash inside z refl refl; is = λ r. grammar.IsGap.comment h grammar.IsGap.nothing }
+gap_finish (grammar.IsGap.open_escape {inside} h) = record {
+  more = 97 ∷ (newline ∷ []);
+  like = λ z some. plain_like hash (inside ++ backslash ∷ []) z refl refl;
+  is = λ r.
+    subst (λ ys. IsGap (hash ∷ ys) (93 ∷ r)) (append_assoc inside (backslash ∷ (97 ∷ [])) (newline ∷ []) ∙ sym (append_assoc inside (backslash ∷ []) (97 ∷ (newline ∷ []))))
+    (grammar.IsGap.comment (comment_append h (grammar.IsComment.escaped grammar.IsComment.nothing)) grammar.IsGap.nothing);
+}
+
+none_commands : (s : Commands) (r : Text) → IsCommands true s [] r → s ≡ no_commands
+none_commands no_commands r h = refl
+none_commands (command source ws cs) r h =
+    let more : h.second ≡ [] = second_none h.first h.second h.whole in
+    absurd (begun h.is_second.first (no_front h.is_second.first h.is_second.second (sym more ∙ h.is_second.whole)) h.is_second.is_first.0) where
+  second_none : (x y : Text) → [] ≡ x ++ y → y ≡ []
+  second_none [] y h = sym h
+  second_none (b ∷ x) y h = cc
+
+  begun : (t : Text) → t ≡ [] → DoesBegin (λ b. not (b == hash)) t → ⊥
+  begun t e h = subst (DoesBegin (λ b. not (b == hash))) e h
+
+body_some : (p : ℕ → Bool) (t : Text) → DoesBegin p t → t ≢ []
+body_some p [] h = absurd h
+body_some p (b ∷ t) h = λ e. cc
+
+pub commands_finish : (s : Commands) (t : Text) → IsCommands true s t [] → Finished (λ s t r. IsCommands true s t r) 93 t
+commands_finish no_commands t h = (let m = gap_finish h.0 in record { more = m.more; value = no_commands; like = λ r some. m.like (m.more ++ 93 ∷ r) some; is = λ r. (m.is r, refl) })
+commands_finish (command source ws cs) t h = go h (commands_finish cs h.is_second.second h.is_second.is_second) (empty_or h.is_second.second) where
+  go : (h : IsCommands true (command source ws cs) t []) → Finished (λ s t r. IsCommands true s t r) 93 h.is_second.second → (h.is_second.second ≡ []) ⊎ (h.is_second.second ≢ []) → Finished (λ s t r. IsCommands true s t r) 93 t
+  go h m (inl none) =
+      let body = h.is_second.first in
+      let gap = h.first in
+      let free = h.is_second.is_first.0 in
+      let f = command_finish source ws body (subst (λ ys. IsCommand true source ws body (ys ++ [])) none h.is_second.is_first.1) in
+      let same : t ≡ gap ++ body = h.whole ∙ ap (λ ys. gap ++ ys) (h.is_second.whole ∙ ap (λ ys. body ++ ys) none ∙ append-nil body) in
+      let some = body_some (λ b. not (b == hash)) body free in
+      let before : h.second ++ [] ≢ [] = subst (λ ys. ys ≢ []) (sym (append-nil h.second ∙ h.is_second.whole ∙ ap (λ ys. body ++ ys) none ∙ append-nil body)) some in
+      record {
+        more = f.more;
+        value = command f.value.0 f.value.1 no_commands;
+        like = λ r _. subst (λ ys. Like ys [] (f.more ++ 93 ∷ r)) (sym same) (like_before gap body [] (f.more ++ 93 ∷ r) (f.like r some));
+        is = λ r.
+          record {
+            first = gap;
+            second = body ++ f.more;
+            whole = ap (λ ys. ys ++ f.more) same ∙ append_assoc gap body f.more;
+            is_first = gap-any h.is_first before ((body ++ f.more) ++ 93 ∷ r);
+            is_second = record {
+              first = body ++ f.more;
+              second = [];
+              whole = sym (append-nil (body ++ f.more));
+              is_first = (still_begins (λ b. not (b == hash)) body f.more free, f.is r);
+              is_second = (grammar.IsGap.nothing, refl);
+            };
+          };
+      }
+  go h m (inr some) =
+      let body = h.is_second.first in
+      let gap = h.first in
+      let rest = h.is_second.second in
+      let free = h.is_second.is_first.0 in
+      let same : t ≡ (gap ++ body) ++ rest = h.whole ∙ ap (λ ys. gap ++ ys) h.is_second.whole ∙ sym (append_assoc gap body rest) in
+      let before : h.second ++ [] ≢ [] = subst (λ ys. ys ≢ []) (sym (append-nil h.second ∙ h.is_second.whole)) (body_some (λ b. not (b == hash)) (body ++ rest) (still_begins (λ b. not (b == hash)) body rest free)) in
+      record {
+        more = m.more;
+        value = command source ws m.value;
+        like = λ r _. subst (λ ys. Like ys [] (m.more ++ 93 ∷ r)) (sym same) (like_before (gap ++ body) rest [] (m.more ++ 93 ∷ r) (m.like r some));
+        is = λ r.
+          record {
+            first = gap;
+            second = body ++ (rest ++ m.more);
+            whole = ap (λ ys. ys ++ m.more) same ∙ append_assoc (gap ++ body) rest m.more ∙ append_assoc gap body (rest ++ m.more);
+            is_first = gap-any h.is_first before ((body ++ (rest ++ m.more)) ++ 93 ∷ r);
+            is_second = record {
+              first = body;
+              second = rest ++ m.more;
+              whole = refl;
+              is_first = (
+                free,
+                subst (λ ys. IsCommand true source ws body ys) (sym (append_assoc rest m.more (93 ∷ r))) (command-like true source ws body rest [] (m.more ++ 93 ∷ r) (m.like r some) h.is_second.is_first.1),
+              );
+              is_second = m.is r;
+            };
+          };
+      }
+
+-- Braces
+
+abbrev Found : Type 0
+Found = Option (Text × Text)
+
+none_behind : (b : ℕ) (found : Found) → behind b found ≡ None → found ≡ None
+none_behind b None h = refl
+none_behind b (Some p) h = cc
+
+-- what closes so many open braces
+closing_braces : (d : ℕ) → (more : Text) × (inside : Text) × (braced_at false d more ≡ Some (inside, []))
+closing_braces zero = (125 ∷ [], [], braced_at-cons false 0 125 [])
+closing_braces (suc d) = (let m = closing_braces d in (125 ∷ m.0, 125 ∷ m.1, braced_at-cons false (suc d) 125 m.0 ∙ ap (behind 125) m.2))
+
+closing_end : (escaped : Bool) (d : ℕ) → (more : Text) × (inside : Text) × (braced_at escaped d more ≡ Some (inside, []))
+closing_end false d = closing_braces d
+closing_end true d = (let m = closing_braces d in (97 ∷ m.0, 97 ∷ m.1, braced_at-cons true d 97 m.0 ∙ ap (behind 97) m.2))
+
+some_none : {A : Type 0} (x : A) → Some x ≡ None → ⊥
+some_none x h = cc
+
+-- what closes an open brace behind a text in which none does
+closing : (bs : Text) (escaped : Bool) (d : ℕ) → braced_at escaped d bs ≡ None → (more : Text) × (inside : Text) × (braced_at escaped d (bs ++ more) ≡ Some (inside, []))
+closing [] escaped d h = closing_end escaped d
+closing (b ∷ bs) escaped d h = on_step (brace_step escaped d b) refl (closing bs) where
+  on_step : (step : Option (Bool × ℕ)) → brace_step escaped d b ≡ step → ((e : Bool) (k : ℕ) → braced_at e k bs ≡ None → (more : Text) × (inside : Text) × (braced_at e k (bs ++ more) ≡ Some (inside, [])))
+      → (more : Text) × (inside : Text) × (braced_at escaped d (b ∷ (bs ++ more)) ≡ Some (inside, []))
+  on_step None e next = absurd (some_none ([], bs) (sym (braced_at-cons escaped d b bs ∙ ap (after_step b bs (λ e d. braced_at e d bs)) e) ∙ h))
+  on_step (Some s) e next =
+      let none = none_behind b (braced_at s.0 s.1 bs) (sym (braced_at-cons escaped d b bs ∙ ap (after_step b bs (λ e d. braced_at e d bs)) e) ∙ h) in
+      let m = next s.0 s.1 none in
+      (m.0, b ∷ m.1, braced_at-cons escaped d b (bs ++ m.0) ∙ ap (after_step b (bs ++ m.0) (λ e d. braced_at e d (bs ++ m.0))) e ∙ ap (behind b) m.2)
+
+-- no brace closes it yet: more text does
+pub brace_finish : (bs : Text) → braced_at false 0 bs ≡ None → (more : Text) × (inside : Text) × (bs ++ more ≡ inside ++ 125 ∷ []) × Balanced inside
+brace_finish bs h =
+    let m = closing bs false 0 h in
+    let so = close_sound (bs ++ m.0) false zero m.1 [] m.2 in
+    (m.0, m.1, so.0, so.1)
