@@ -24,8 +24,8 @@ def made(draw, alphabet, longest):
 
 
 LIST = list("aab {}{}\"\\ \n\t") + ["\\x41", "\\u00e9", "\\101", "\\n", "é", "]", "$", ";", "#", "\\\n "]
-PATTERN = list("*?[]-\\abc") + ["[a-c]", "[c-a]", "é", "*a", "[^"]
-PATTERN_TEXT = list("abc]-^\\é")
+PATTERN = list("**??ab[]-\\") + ["[ab]", "[a-c]", "[c-a]", "[b-]", "é", "*a", "b*", "[^"]
+PATTERN_TEXT = list("aabb]-^\\é")
 SCRIPT = list("aab {}\"\\ \n;#") + ["\\x41", "\\u00e9", "\\n", "{a b}", "\"a b\"", "\\\n ", "é"]
 
 
