@@ -98,8 +98,8 @@ literal_finish c x t goes some e (inr (inr last)) = record {
   value = tree.backslash (7 ∷ []);
   like = λ r some. like_all t [] (97 ∷ (closer c ∷ r)) some refl refl refl refl;
   is = λ r.
-    subst (λ ys. PartHere c (tree.backslash (7 ∷ [])) (ys ++ 97 ∷ []) (closer c ∷ r)) (sym (e ∙ last.0))
-    (backslash_goes_on c (97 ∷ (closer c ∷ r)) refl, (97 ∷ [], refl, refl));
+      subst (λ ys. PartHere c (tree.backslash (7 ∷ [])) (ys ++ 97 ∷ []) (closer c ∷ r)) (sym (e ∙ last.0))
+      (backslash_goes_on c (97 ∷ (closer c ∷ r)) refl, (97 ∷ [], refl, refl));
 }
 
 part_finish : (c : Context) (q : Part) (t : Text) → parts_end c (t ++ []) ≡ false → IsPart c q t [] → Finished (PartHere c) (closer c) t
@@ -159,19 +159,19 @@ parts_finish c (part q ps) t h = go h (parts_finish c ps h.second h.is_second) (
         value = part q m.value;
         like = λ r _. subst (λ ys. Like ys [] (m.more ++ closer c ∷ r)) (sym h.whole) (like_before body rest [] (m.more ++ closer c ∷ r) (m.like r some));
         is = λ r.
-          let z = m.more ++ closer c ∷ r in
-          let l = m.like r some in
-          record {
-            first = body;
-            second = rest ++ m.more;
-            whole = ap (λ ys. ys ++ m.more) h.whole ∙ append_assoc body rest m.more;
-            is_first = (
-              ap (λ ys. parts_end c (body ++ ys)) (append_assoc rest m.more (closer c ∷ r)) ∙ ap (parts_end c) (sym (append_assoc body rest z))
-              ∙ sym (parts_end-like c (body ++ rest) [] z (like_before body rest [] z l)) ∙ ap (parts_end c) (append_assoc body rest []) ∙ h.is_first.0,
-              subst (λ ys. IsPart c q body ys) (sym (append_assoc rest m.more (closer c ∷ r))) (part-like c q body rest [] z l h.is_first.1),
-            );
-            is_second = m.is r;
-          };
+            let z = m.more ++ closer c ∷ r in
+            let l = m.like r some in
+            record {
+              first = body;
+              second = rest ++ m.more;
+              whole = ap (λ ys. ys ++ m.more) h.whole ∙ append_assoc body rest m.more;
+              is_first = (
+                ap (λ ys. parts_end c (body ++ ys)) (append_assoc rest m.more (closer c ∷ r)) ∙ ap (parts_end c) (sym (append_assoc body rest z))
+                    ∙ sym (parts_end-like c (body ++ rest) [] z (like_before body rest [] z l)) ∙ ap (parts_end c) (append_assoc body rest []) ∙ h.is_first.0,
+                subst (λ ys. IsPart c q body ys) (sym (append_assoc rest m.more (closer c ∷ r))) (part-like c q body rest [] z l h.is_first.1),
+              );
+              is_second = m.is r;
+            };
       }
 
 -- Words in brackets
@@ -206,9 +206,9 @@ none_words no_words r h = refl
 none_words (word w ws) r h =
     let more : h.second ≡ [] = second_none h.first h.second h.whole in
     absurd (some_nonempty h.is_second.first (word_some true w h.is_second.first (h.is_second.second ++ r) h.is_second.is_first) (no_front h.is_second.first h.is_second.second (sym more ∙ h.is_second.whole))) where
-  second_none : (x y : Text) → [] ≡ x ++ y → y ≡ []
-  second_none [] y h = sym h
-  second_none (b ∷ x) y h = cc
+      second_none : (x y : Text) → [] ≡ x ++ y → y ≡ []
+      second_none [] y h = sym h
+      second_none (b ∷ x) y h = cc
 
 words_finish : (ws : Words) (t : Text) → IsWords true ws t [] → Finished (λ ws t r. IsWords true ws t r) 93 t
 words_finish no_words t h = as_is (λ ws t r. IsWords true ws t r) InBracket t no_words (λ r. (h.0, refl))
@@ -225,13 +225,13 @@ words_finish (word w ws) t h = go h (words_finish ws h.is_second.second h.is_sec
         value = word f.value no_words;
         like = λ r _. subst (λ ys. Like ys [] (f.more ++ 93 ∷ r)) (sym same) (like_before gap body [] (f.more ++ 93 ∷ r) (f.like r some));
         is = λ r.
-          record {
-            first = gap;
-            second = body ++ f.more;
-            whole = ap (λ ys. ys ++ f.more) same ∙ append_assoc gap body f.more;
-            is_first = h.is_first;
-            is_second = record { first = body ++ f.more; second = []; whole = sym (append-nil (body ++ f.more)); is_first = f.is r; is_second = (grammar.IsBlanks.nothing, refl) };
-          };
+            record {
+              first = gap;
+              second = body ++ f.more;
+              whole = ap (λ ys. ys ++ f.more) same ∙ append_assoc gap body f.more;
+              is_first = h.is_first;
+              is_second = record { first = body ++ f.more; second = []; whole = sym (append-nil (body ++ f.more)); is_first = f.is r; is_second = (grammar.IsBlanks.nothing, refl) };
+            };
       }
   go h m (inr some) =
       let body = h.is_second.first in
@@ -243,19 +243,19 @@ words_finish (word w ws) t h = go h (words_finish ws h.is_second.second h.is_sec
         value = word w m.value;
         like = λ r _. subst (λ ys. Like ys [] (m.more ++ 93 ∷ r)) (sym same) (like_before (gap ++ body) rest [] (m.more ++ 93 ∷ r) (m.like r some));
         is = λ r.
-          record {
-            first = gap;
-            second = body ++ (rest ++ m.more);
-            whole = ap (λ ys. ys ++ m.more) same ∙ append_assoc (gap ++ body) rest m.more ∙ append_assoc gap body (rest ++ m.more);
-            is_first = h.is_first;
-            is_second = record {
-              first = body;
-              second = rest ++ m.more;
-              whole = refl;
-              is_first = subst (λ ys. IsWord true w body ys) (sym (append_assoc rest m.more (93 ∷ r))) (word-like true w body rest [] (m.more ++ 93 ∷ r) (m.like r some) h.is_second.is_first);
-              is_second = m.is r;
+            record {
+              first = gap;
+              second = body ++ (rest ++ m.more);
+              whole = ap (λ ys. ys ++ m.more) same ∙ append_assoc (gap ++ body) rest m.more ∙ append_assoc gap body (rest ++ m.more);
+              is_first = h.is_first;
+              is_second = record {
+                first = body;
+                second = rest ++ m.more;
+                whole = refl;
+                is_first = subst (λ ys. IsWord true w body ys) (sym (append_assoc rest m.more (93 ∷ r))) (word-like true w body rest [] (m.more ++ 93 ∷ r) (m.like r some) h.is_second.is_first);
+                is_second = m.is r;
+              };
             };
-          };
       }
 
 -- Commands in brackets
@@ -329,8 +329,8 @@ gap_finish (grammar.IsGap.open_escape {inside} h) = record {
   more = 97 ∷ (newline ∷ []);
   like = λ z some. plain_like hash (inside ++ backslash ∷ []) z refl refl;
   is = λ r.
-    subst (λ ys. IsGap (hash ∷ ys) (93 ∷ r)) (append_assoc inside (backslash ∷ (97 ∷ [])) (newline ∷ []) ∙ sym (append_assoc inside (backslash ∷ []) (97 ∷ (newline ∷ []))))
-    (grammar.IsGap.comment (comment_append h (grammar.IsComment.escaped grammar.IsComment.nothing)) grammar.IsGap.nothing);
+      subst (λ ys. IsGap (hash ∷ ys) (93 ∷ r)) (append_assoc inside (backslash ∷ (97 ∷ [])) (newline ∷ []) ∙ sym (append_assoc inside (backslash ∷ []) (97 ∷ (newline ∷ []))))
+      (grammar.IsGap.comment (comment_append h (grammar.IsComment.escaped grammar.IsComment.nothing)) grammar.IsGap.nothing);
 }
 
 none_commands : (s : Commands) (r : Text) → IsCommands true s [] r → s ≡ no_commands
@@ -338,12 +338,12 @@ none_commands no_commands r h = refl
 none_commands (command source ws cs) r h =
     let more : h.second ≡ [] = second_none h.first h.second h.whole in
     absurd (begun h.is_second.first (no_front h.is_second.first h.is_second.second (sym more ∙ h.is_second.whole)) h.is_second.is_first.0) where
-  second_none : (x y : Text) → [] ≡ x ++ y → y ≡ []
-  second_none [] y h = sym h
-  second_none (b ∷ x) y h = cc
+      second_none : (x y : Text) → [] ≡ x ++ y → y ≡ []
+      second_none [] y h = sym h
+      second_none (b ∷ x) y h = cc
 
-  begun : (t : Text) → t ≡ [] → DoesBegin (λ b. not (b == hash)) t → ⊥
-  begun t e h = subst (DoesBegin (λ b. not (b == hash))) e h
+      begun : (t : Text) → t ≡ [] → DoesBegin (λ b. not (b == hash)) t → ⊥
+      begun t e h = subst (DoesBegin (λ b. not (b == hash))) e h
 
 body_some : (p : ℕ → Bool) (t : Text) → DoesBegin p t → t ≢ []
 body_some p [] h = absurd h
@@ -366,19 +366,19 @@ commands_finish (command source ws cs) t h = go h (commands_finish cs h.is_secon
         value = command f.value.0 f.value.1 no_commands;
         like = λ r _. subst (λ ys. Like ys [] (f.more ++ 93 ∷ r)) (sym same) (like_before gap body [] (f.more ++ 93 ∷ r) (f.like r some));
         is = λ r.
-          record {
-            first = gap;
-            second = body ++ f.more;
-            whole = ap (λ ys. ys ++ f.more) same ∙ append_assoc gap body f.more;
-            is_first = gap-any h.is_first before ((body ++ f.more) ++ 93 ∷ r);
-            is_second = record {
-              first = body ++ f.more;
-              second = [];
-              whole = sym (append-nil (body ++ f.more));
-              is_first = (still_begins (λ b. not (b == hash)) body f.more free, f.is r);
-              is_second = (grammar.IsGap.nothing, refl);
+            record {
+              first = gap;
+              second = body ++ f.more;
+              whole = ap (λ ys. ys ++ f.more) same ∙ append_assoc gap body f.more;
+              is_first = gap-any h.is_first before ((body ++ f.more) ++ 93 ∷ r);
+              is_second = record {
+                first = body ++ f.more;
+                second = [];
+                whole = sym (append-nil (body ++ f.more));
+                is_first = (still_begins (λ b. not (b == hash)) body f.more free, f.is r);
+                is_second = (grammar.IsGap.nothing, refl);
+              };
             };
-          };
       }
   go h m (inr some) =
       let body = h.is_second.first in
@@ -392,22 +392,22 @@ commands_finish (command source ws cs) t h = go h (commands_finish cs h.is_secon
         value = command source ws m.value;
         like = λ r _. subst (λ ys. Like ys [] (m.more ++ 93 ∷ r)) (sym same) (like_before (gap ++ body) rest [] (m.more ++ 93 ∷ r) (m.like r some));
         is = λ r.
-          record {
-            first = gap;
-            second = body ++ (rest ++ m.more);
-            whole = ap (λ ys. ys ++ m.more) same ∙ append_assoc (gap ++ body) rest m.more ∙ append_assoc gap body (rest ++ m.more);
-            is_first = gap-any h.is_first before ((body ++ (rest ++ m.more)) ++ 93 ∷ r);
-            is_second = record {
-              first = body;
-              second = rest ++ m.more;
-              whole = refl;
-              is_first = (
-                free,
-                subst (λ ys. IsCommand true source ws body ys) (sym (append_assoc rest m.more (93 ∷ r))) (command-like true source ws body rest [] (m.more ++ 93 ∷ r) (m.like r some) h.is_second.is_first.1),
-              );
-              is_second = m.is r;
+            record {
+              first = gap;
+              second = body ++ (rest ++ m.more);
+              whole = ap (λ ys. ys ++ m.more) same ∙ append_assoc (gap ++ body) rest m.more ∙ append_assoc gap body (rest ++ m.more);
+              is_first = gap-any h.is_first before ((body ++ (rest ++ m.more)) ++ 93 ∷ r);
+              is_second = record {
+                first = body;
+                second = rest ++ m.more;
+                whole = refl;
+                is_first = (
+                  free,
+                  subst (λ ys. IsCommand true source ws body ys) (sym (append_assoc rest m.more (93 ∷ r))) (command-like true source ws body rest [] (m.more ++ 93 ∷ r) (m.like r some) h.is_second.is_first.1),
+                );
+                is_second = m.is r;
+              };
             };
-          };
       }
 
 -- Braces
