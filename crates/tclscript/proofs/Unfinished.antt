@@ -1,24 +1,23 @@
 -- What stands at the end of a text goes on before what closes.
-use Rattle.std.proofs.Common.{◌≡◌, ◌≢◌, ℕ, zero, suc, ◌+◌, ◌<◌, ◌≤◌, [], ◌∷◌, ◌++◌, length, Bool, true, false, not, ◌||◌, ◌==◌, ◌&&◌, Option, Some, None, refl, sym, ap, ap₂, subst, ◌∙◌, arith, append_assoc, append-nil, length-append, ◌⊎◌, inl, inr}
+use Rattle.std.proofs.Common.{◌≡◌, ◌≢◌, ℕ, zero, suc, ◌<◌, [], ◌∷◌, ◌++◌, length, Bool, true, false, not, ◌||◌, ◌==◌, Option, Some, None, refl, sym, ap, subst, ◌∙◌, arith, append_assoc, append-nil, ◌⊎◌, inl, inr}
 use Rattle.std.proofs.lemmas.Bool.Decides.{nat_tests}
 use Rattle.tclchars.specs.Runs.{Text, begins}
 use Rattle.tclchars.specs.Bytes.{newline, hash, backslash, is_gap, DoesBegin}
-use Rattle.tclchars.specs.Backslash.{after_backslash}
 use Rattle.tclchars.specs.Braces.{Balanced, brace_step, after_step, behind, braced_at}
-use Rattle.tclchars.proofs.BraceLemmas.{braced_at-nil, braced_at-cons}
+use Rattle.tclchars.proofs.BraceLemmas.{braced_at-cons}
 use Rattle.tclchars.proofs.BraceClose.{close_sound}
 use Rattle.tclscript.specs.declared.context.Context.{Context}
 use Rattle.tclscript.specs.declared.context.Context.TheVariants.{InScript, InBracket, InIndex, InQuotes}
 use Rattle.tclscript.specs.Tree as tree
 use Rattle.tclscript.specs.Tree.{Commands, no_commands, command, Words, no_words, word, Word, word_of, Parts, no_parts, part, Part, literal, variable, indexed, bracket}
 use Rattle.tclchars.specs.Classes.{in_class}
-use Rattle.tclscript.specs.Ends.{script_ends, command_ends, word_ends, parts_end, class_of, bare}
+use Rattle.tclscript.specs.Ends.{parts_end, class_of}
 use Rattle.tclscript.specs.Grammar as grammar
 use Rattle.tclscript.specs.Grammar.{IsLongestName, IsBlanks, IsComment, IsGap, IsLiteral, IsPlainWord, IsCommands, IsCommand, IsWords, IsWord, IsParts, IsPart}
 use Rattle.tclscript.proofs.Names.{longest_before}
 use Rattle.tclscript.proofs.PartsExact.{part_some, backslash_goes_on}
 use Rattle.tclscript.proofs.WordsExact.{plain_goes_on, word_some}
-use Rattle.tclscript.proofs.Firm.{Like, like_before, like_some, parts_end-like, commands-like, command-like, word-like, parts-like, part-like, gap-any}
+use Rattle.tclscript.proofs.Firm.{Like, like_before, parts_end-like, commands-like, command-like, word-like, parts-like, part-like, gap-any}
 use Rattle.tclscript.proofs.LastByte.{IsStop, escape_finish}
 
 -- a byte at which parts end
