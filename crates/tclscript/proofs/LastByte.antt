@@ -1,10 +1,10 @@
 -- What a backslash at the end of a text stands for, it stands for before what closes as well.
-use Rattle.std.proofs.Common.{◌≡◌, ℕ, zero, suc, ◌+◌, ◌*◌, [], ◌∷◌, ◌++◌, Bool, true, false, ◌&&◌, ◌==◌, nat_lt, nat_le, Option, Some, None, refl, sym, ap, ap₂, subst, ◌∙◌, append-nil}
+use Rattle.std.proofs.Common.{◌≡◌, ℕ, zero, suc, ◌+◌, ◌*◌, [], ◌∷◌, ◌++◌, Bool, true, false, ◌&&◌, ◌==◌, nat_lt, nat_le, Option, Some, None, refl, sym, ap, ap₂, ◌∙◌, append-nil}
 use Rattle.std.specs.Prelude.{encode_utf8}
 use Rattle.std.specs.Char.{digit_value}
 use Rattle.tclchars.specs.Bytes.{newline, is_continuation}
 use Rattle.tclchars.specs.Runs.{Text, front, back}
-use Rattle.tclchars.specs.Backslash.{is_octal, is_hexadecimal, is_blank_or_tab, digit_at, octal_on, octal_at, hexadecimal_on, hexadecimal_at, character, begins_hexadecimal, code_at, wide_code_at, letter_value, after_backslash}
+use Rattle.tclchars.specs.Backslash.{is_octal, is_hexadecimal, is_blank_or_tab, octal_on, octal_at, hexadecimal_on, hexadecimal_at, character, code_at, wide_code_at, after_backslash}
 use Rattle.tclscript.proofs.NextByte.{both_ways, escape_of}
 
 -- a byte that ends what a backslash takes along
@@ -67,18 +67,18 @@ module _ (k : ℕ) (stop : IsStop k) (r : Text) where
       (ap character (octal_stop 3 0 (b ∷ e)) ∙ character_stop (octal_at 3 0 (b ∷ e)))
       (code_stop 2 b e) (code_stop 4 b e) (wide_stop e)
       (let run = run_stop is_continuation stop.continuation e in ap₂ (λ (xs ys : Text). let found : Option (Text × Text) = Some (b ∷ xs, ys) in found) run.0 run.1) where
-    go : (t u v w x y : Bool) → (let found : Option (Text × Text) = Some (32 ∷ [], back is_blank_or_tab (e ++ k ∷ r)) in found) ≡ Some (32 ∷ [], back is_blank_or_tab e ++ k ∷ r)
-        → character (octal_at 3 0 (b ∷ (e ++ k ∷ r))) ≡ then_some (character (octal_at 3 0 (b ∷ e))) → code_at 2 b (e ++ k ∷ r) ≡ then_some (code_at 2 b e) → code_at 4 b (e ++ k ∷ r) ≡ then_some (code_at 4 b e)
-        → wide_code_at (e ++ k ∷ r) ≡ then_some (wide_code_at e)
-        → (let found : Option (Text × Text) = Some (b ∷ front is_continuation (e ++ k ∷ r), back is_continuation (e ++ k ∷ r)) in found) ≡ Some (b ∷ front is_continuation e, back is_continuation e ++ k ∷ r)
-        → escape_of b t u v w x y (e ++ k ∷ r) ≡ then_some (escape_of b t u v w x y e)
-    go true u v w x y h1 h2 h3 h4 h5 h6 = h1
-    go false true v w x y h1 h2 h3 h4 h5 h6 = h2
-    go false false true w x y h1 h2 h3 h4 h5 h6 = h3
-    go false false false true x y h1 h2 h3 h4 h5 h6 = h4
-    go false false false false true y h1 h2 h3 h4 h5 h6 = h5
-    go false false false false false true h1 h2 h3 h4 h5 h6 = h6
-    go false false false false false false h1 h2 h3 h4 h5 h6 = refl
+        go : (t u v w x y : Bool) → (let found : Option (Text × Text) = Some (32 ∷ [], back is_blank_or_tab (e ++ k ∷ r)) in found) ≡ Some (32 ∷ [], back is_blank_or_tab e ++ k ∷ r)
+            → character (octal_at 3 0 (b ∷ (e ++ k ∷ r))) ≡ then_some (character (octal_at 3 0 (b ∷ e))) → code_at 2 b (e ++ k ∷ r) ≡ then_some (code_at 2 b e) → code_at 4 b (e ++ k ∷ r) ≡ then_some (code_at 4 b e)
+            → wide_code_at (e ++ k ∷ r) ≡ then_some (wide_code_at e)
+            → (let found : Option (Text × Text) = Some (b ∷ front is_continuation (e ++ k ∷ r), back is_continuation (e ++ k ∷ r)) in found) ≡ Some (b ∷ front is_continuation e, back is_continuation e ++ k ∷ r)
+            → escape_of b t u v w x y (e ++ k ∷ r) ≡ then_some (escape_of b t u v w x y e)
+        go true u v w x y h1 h2 h3 h4 h5 h6 = h1
+        go false true v w x y h1 h2 h3 h4 h5 h6 = h2
+        go false false true w x y h1 h2 h3 h4 h5 h6 = h3
+        go false false false true x y h1 h2 h3 h4 h5 h6 = h4
+        go false false false false true y h1 h2 h3 h4 h5 h6 = h5
+        go false false false false false true h1 h2 h3 h4 h5 h6 = h6
+        go false false false false false false h1 h2 h3 h4 h5 h6 = refl
 
   pub escape_finish : (e v : Text) → after_backslash (e ++ []) ≡ Some (v, []) → after_backslash (e ++ k ∷ r) ≡ Some (v, k ∷ r)
   escape_finish [] v h = absurd (apart h) where

@@ -30,3 +30,4 @@ pub mod Prefixes
 pub mod Viable
 pub mod BadEscapes
 pub mod LastByte
+pub mod Unfinished

@@ -1,12 +1,12 @@
 -- Ranges of bytes that cut no character.
-use Rattle.std.proofs.Common.{◌≡◌, ℕ, ◌+◌, ◌-◌, ◌<◌, ◌≤◌, [], ◌++◌, length, take, drop, Bool, true, false, not, ◌||◌, ◌&&◌, nat_lt, nat_le, refl, sym, ap, ap₂, subst, ◌∙◌, arith, length-append}
+use Rattle.std.proofs.Common.{◌≡◌, ℕ, ◌+◌, ◌-◌, ◌<◌, ◌≤◌, length, take, drop, Bool, true, false, nat_lt, nat_le, refl, sym, ap₂, subst, ◌∙◌, arith}
 use Rattle.std.specs.Prelude.{slice_index}
 use Rattle.std.proofs.lemmas.Bool.Decides.{nat_tests}
 use Rattle.std.specs.Str.{IsUtf8, IsCharBoundary}
 use Rattle.std.proofs.lemmas.Str.{IsCharBoundary-from_rest}
 use Rattle.tclchars.specs.Runs.{Text}
 use Rattle.tclscript.specs.Pieces.{IsEndOf, IsFrontOf, is_boundary, between}
-use Rattle.tclscript.proofs.Ends.{end_cut, end_drop, end_no_longer, front_cut, front_take}
+use Rattle.tclscript.proofs.Ends.{end_cut, end_drop, front_cut, front_take}
 
 le_holds : (m n : ℕ) → nat_le m n ≡ true → m ≤ n
 le_holds m n h = grind (arith, nat_tests)

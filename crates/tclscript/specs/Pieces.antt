@@ -1,5 +1,5 @@
 -- Pieces of a source text.
-use Rattle.std.specs.Prelude.{◌≡◌, ℕ, ◌-◌, [], ◌++◌, length, take, drop, Bool, ◌||◌, ◌&&◌, ◌==◌, nat_lt, nat_le, slice_index, if◌then◌else◌}
+use Rattle.std.specs.Prelude.{◌≡◌, ℕ, ◌-◌, [], ◌++◌, length, take, drop, Bool, ◌||◌, ◌&&◌, nat_lt, nat_le, slice_index, if◌then◌else◌}
 use Rattle.tclchars.specs.Runs.{Text}
 
 abbrev pub IsEndOf : Text → Text → Type 0
