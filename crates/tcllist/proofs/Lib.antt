@@ -8,4 +8,6 @@ pub mod ReadLemmas
 pub mod PieceTurns
 pub mod ListTurns
 pub mod ListAnswers
+pub mod Cuts
+pub mod FaultCuts
 pub mod RoundTrip
