@@ -33,7 +33,7 @@ first b y bs rest h = cc
 octal-zero : (v w y : ℕ) (bs rest : Text) → octal_at 0 v bs ≡ (w, y ∷ rest) → NumberCut (octal_at 0 v) w bs y rest
 octal-zero v w y bs rest h = number_stops (octal_at 0 v) v w y bs rest refl (λ e other. refl) h
 
-octal-digit : (n v b : ℕ) (bs : Text) (t u : Bool) → nat_lt (digit_value b) 8 ≡ t → nat_lt (v * 8 + digit_value b) 256 ≡ u → octal_at (suc n) v (b ∷ bs) ≡ (if t then (if u then octal_at n (v * 8 + digit_value b) bs else (v, b ∷ bs)) else (v, b ∷ bs))
+pub octal-digit : (n v b : ℕ) (bs : Text) (t u : Bool) → nat_lt (digit_value b) 8 ≡ t → nat_lt (v * 8 + digit_value b) 256 ≡ u → octal_at (suc n) v (b ∷ bs) ≡ (if t then (if u then octal_at n (v * 8 + digit_value b) bs else (v, b ∷ bs)) else (v, b ∷ bs))
 octal-digit n v b bs true u t' u' = rw t' (rw u' refl)
 octal-digit n v b bs false u t' u' = rw t' refl
 
@@ -60,7 +60,7 @@ octal_cut (suc n) v w y [] rest h = absurd (no_more v w y rest h)
 octal_cut (suc n) v w y (b ∷ bs) rest h = octal_cases n v w b y bs rest (nat_lt (digit_value b) 8) (nat_lt (v * 8 + digit_value b) 256) refl refl (λ x k. octal_cut n x w y bs rest k) h
 
 -- hexadecimal digits
-hexadecimal-digit : (n v b : ℕ) (bs : Text) (t : Bool) → nat_lt (digit_value b) 16 ≡ t → hexadecimal_at (suc n) v (b ∷ bs) ≡ (if t then hexadecimal_at n (v * 16 + digit_value b) bs else (v, b ∷ bs))
+pub hexadecimal-digit : (n v b : ℕ) (bs : Text) (t : Bool) → nat_lt (digit_value b) 16 ≡ t → hexadecimal_at (suc n) v (b ∷ bs) ≡ (if t then hexadecimal_at n (v * 16 + digit_value b) bs else (v, b ∷ bs))
 hexadecimal-digit n v b bs true t' = rw t' refl
 hexadecimal-digit n v b bs false t' = rw t' refl
 
@@ -120,15 +120,13 @@ run_cut b v p y bs rest h =
       again = λ other. ap₂ (λ (f k : Text). Some (b ∷ f, k)) (front_run p (front p bs) (y ∷ other) (front_passes p bs) stop) (back_run p (front p bs) (y ∷ other) (front_passes p bs) stop) ∙ ap (λ t. Some (t, y ∷ other)) q.0;
     }
 
-is_half : ℕ → Bool
+abbrev pub is_half : ℕ → Bool
 is_half w = nat_le 55296 w && nat_lt w 57344
 
-character-half : (w : ℕ) (r : Text) → is_half w ≡ true → character (w, r) ≡ None
-unfolding is_half
+pub character-half : (w : ℕ) (r : Text) → is_half w ≡ true → character (w, r) ≡ None
 character-half w r h = rw h refl
 
-character-whole : (w : ℕ) (r : Text) → is_half w ≡ false → character (w, r) ≡ Some (encode_utf8 w, r)
-unfolding is_half
+pub character-whole : (w : ℕ) (r : Text) → is_half w ≡ false → character (w, r) ≡ Some (encode_utf8 w, r)
 character-whole w r h = rw h refl
 
 number_case : (f : Text → ℕ × Text) (v : Text) (y : ℕ) (bs rest : Text) (w : ℕ) (r : Text) (t : Bool) → f bs ≡ (w, r) → is_half w ≡ t → ((w : ℕ) → f bs ≡ (w, y ∷ rest) → NumberCut f w bs y rest) → character (w, r) ≡ Some (v, y ∷ rest)
@@ -150,14 +148,14 @@ character_cut f v y bs rest more h = number_case f v y bs rest (f bs).0 (f bs).1
 under : (f g : Text → Option (Text × Text)) (b : ℕ) → ((xs : Text) → f (b ∷ xs) ≡ g xs) → (v : Text) (y : ℕ) (bs rest : Text) → MarkCut g v bs y rest → MarkCut f v (b ∷ bs) y rest
 under f g b same v y bs rest k = record { taken = b ∷ k.taken; whole = ap (λ xs. b ∷ xs) k.whole; again = λ other. same (k.taken ++ y ∷ other) ∙ k.again other }
 
-code-digit : (n b h : ℕ) (xs : Text) → is_hexadecimal h ≡ true → code_at (suc n) b (h ∷ xs) ≡ character (hexadecimal_at n (digit_value h) xs)
+pub code-digit : (n b h : ℕ) (xs : Text) → is_hexadecimal h ≡ true → code_at (suc n) b (h ∷ xs) ≡ character (hexadecimal_at n (digit_value h) xs)
 code-digit n b h xs e =
     ap (λ (t : Bool). if t then character (hexadecimal_at (suc n) 0 (h ∷ xs)) else Some (b ∷ [], h ∷ xs)) e
     ∙ ap character (hexadecimal-digit n 0 h xs true e ∙ ap (λ v. hexadecimal_at n v xs) zero_first) where
       zero_first : 0 * 16 + digit_value h ≡ digit_value h
       zero_first = omega arith
 
-code-none : (n b y : ℕ) (xs : Text) → is_hexadecimal y ≡ false → code_at n b (y ∷ xs) ≡ Some (b ∷ [], y ∷ xs)
+pub code-none : (n b y : ℕ) (xs : Text) → is_hexadecimal y ≡ false → code_at n b (y ∷ xs) ≡ Some (b ∷ [], y ∷ xs)
 code-none n b y xs e = rw e refl
 
 code_cases : (n b : ℕ) (v : Text) (y h : ℕ) (bs rest : Text) (t : Bool) → is_hexadecimal h ≡ t → code_at (suc n) b (h ∷ bs) ≡ Some (v, y ∷ rest) → MarkCut (code_at (suc n) b) v (h ∷ bs) y rest
@@ -177,7 +175,7 @@ code_cut : (n b : ℕ) (v : Text) (y : ℕ) (bs rest : Text) → code_at (suc n)
 code_cut n b v y [] rest e = absurd (nothing_left (b ∷ []) v y rest e)
 code_cut n b v y (h ∷ bs) rest e = code_cases n b v y h bs rest (is_hexadecimal h) refl e
 
-wide-none : (h : ℕ) (xs : Text) → is_hexadecimal h ≡ false → wide_code_at (h ∷ xs) ≡ Some (85 ∷ [], h ∷ xs)
+pub wide-none : (h : ℕ) (xs : Text) → is_hexadecimal h ≡ false → wide_code_at (h ∷ xs) ≡ Some (85 ∷ [], h ∷ xs)
 wide-none h xs t = rw t refl
 
 wide_cases : (v : Text) (y h : ℕ) (bs rest : Text) (t : Bool) → is_hexadecimal h ≡ t → wide_code_at (h ∷ bs) ≡ Some (v, y ∷ rest) → MarkCut wide_code_at v (h ∷ bs) y rest
@@ -193,19 +191,19 @@ wide_cut v y [] rest e = absurd (nothing_left (85 ∷ []) v y rest e)
 wide_cut v y (h ∷ bs) rest e = wide_cases v y h bs rest (is_hexadecimal h) refl e
 
 -- the whole of it, by the byte behind the backslash
-octal_first : (b : ℕ) (xs : Text) → is_octal b ≡ true → octal_at 3 0 (b ∷ xs) ≡ octal_at 2 (0 * 8 + digit_value b) xs
+pub octal_first : (b : ℕ) (xs : Text) → is_octal b ≡ true → octal_at 3 0 (b ∷ xs) ≡ octal_at 2 (0 * 8 + digit_value b) xs
 octal_first b xs h = octal-digit 2 0 b xs true true h (small b h) where
   small : (b : ℕ) → nat_lt (digit_value b) 8 ≡ true → nat_lt (0 * 8 + digit_value b) 256 ≡ true
   small b h = less (digit_value b) h where
     less : (d : ℕ) → nat_lt d 8 ≡ true → nat_lt (0 * 8 + d) 256 ≡ true
     less d h = grind (arith, nat_tests)
 
-abbrev marked : ℕ → Bool → Bool → Bool → Bool → Bool → Bool → Text → Option (Text × Text)
+abbrev pub marked : ℕ → Bool → Bool → Bool → Bool → Bool → Bool → Text → Option (Text × Text)
 marked b n o x u l w xs =
     if n then Some (32 ∷ [], back is_blank_or_tab xs) else if o then character (octal_at 3 0 (b ∷ xs)) else if x then code_at 2 b xs else if u then code_at 4 b xs
     else if l then wide_code_at xs else if w then Some (b ∷ front is_continuation xs, back is_continuation xs) else Some (letter_value b ∷ [], xs)
 
-same_mark : (b : ℕ) (n o x u l w : Bool) → (b == newline) ≡ n → is_octal b ≡ o → (b == 120) ≡ x → (b == 117) ≡ u → (b == 85) ≡ l → nat_le 128 b ≡ w → (xs : Text) → after_backslash (b ∷ xs) ≡ marked b n o x u l w xs
+pub same_mark : (b : ℕ) (n o x u l w : Bool) → (b == newline) ≡ n → is_octal b ≡ o → (b == 120) ≡ x → (b == 117) ≡ u → (b == 85) ≡ l → nat_le 128 b ≡ w → (xs : Text) → after_backslash (b ∷ xs) ≡ marked b n o x u l w xs
 same_mark b n o x u l w n' o' x' u' l' w' xs =
     ap (λ t. marked b t (is_octal b) (b == 120) (b == 117) (b == 85) (nat_le 128 b) xs) n' ∙ ap (λ t. marked b n t (b == 120) (b == 117) (b == 85) (nat_le 128 b) xs) o'
     ∙ ap (λ t. marked b n o t (b == 117) (b == 85) (nat_le 128 b) xs) x' ∙ ap (λ t. marked b n o x t (b == 85) (nat_le 128 b) xs) u'

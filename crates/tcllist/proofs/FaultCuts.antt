@@ -1,17 +1,18 @@
 -- Up to and with an offending character a text is the front of no list.
 use Rattle.std.proofs.Common.{◌≡◌, ℕ, suc, ◌+◌, List, [], ◌∷◌, ◌++◌, length, take, Bool, refl, sym, ap, subst, ◌∙◌, arith, append_assoc, length-append}
 use Rattle.std.proofs.Math.Seq.{take-append-add}
-use Rattle.tclchars.specs.Bytes.{is_space, AllPass, MayBegin, DoesBegin}
+use Rattle.tclchars.specs.Bytes.{backslash, is_space, AllPass, MayBegin, DoesBegin}
 use Rattle.tclchars.specs.Runs.{Text}
 use Rattle.tclchars.specs.Braces.{Balanced}
 use Rattle.tclchars.specs.declared.fault.Fault.{Fault}
 use Rattle.tclchars.specs.declared.fault.Fault.TheVariants as marks
-use Rattle.tclchars.specs.declared.fault.TextFault.TheVariants.{JoinedToClose}
+use Rattle.tclchars.specs.declared.fault.TextFault.TheVariants.{JoinedToClose, BadCharacter}
 use Rattle.tcllist.specs.ListGrammar as grammar
 use Rattle.tcllist.specs.ListGrammar.{Piece, Bare, is_quote, begins_element, IsElement, IsList}
 use Rattle.tcllist.specs.ListFaults as faults
 use Rattle.tcllist.specs.ListFaults.{IsJoined, IsWrong, IsFaulty, here, behind, IsListFault}
 use Rattle.tcllist.proofs.Cuts.{piece_cut}
+use Rattle.tcllist.proofs.Nothing.{nothing_more}
 use Rattle.tcllist.proofs.ReadLemmas.{no_list}
 
 -- an element in front of y is one whatever follows y
@@ -153,3 +154,50 @@ no_further bs more at es h is =
     let place : at ≡ length k.taken = omega (arith, h.1.1, k.place, ap length k.whole, length-append k.taken (k.y ∷ k.rest)) in
     let front : take (at + 1) bs ++ more ≡ k.taken ++ k.y ∷ more = ap (λ n. take (n + 1) bs ++ more) place ∙ ap (λ xs. take (length k.taken + 1) xs ++ more) k.whole ∙ up_to k.taken k.y k.rest more in
     no_list (k.taken ++ k.y ∷ more) (k.again more).0 es (k.again more).1 (subst (λ xs. IsList xs es) front is)
+
+-- What is wrong with a backslash is wrong whatever follows the text
+bad_same : (m n : ℕ) → marks.BadCharacter m ≡ marks.BadCharacter n → m ≡ n
+bad_same m n h = cc
+
+begins_more : (p : ℕ → Bool) (bs more : Text) → DoesBegin p bs → DoesBegin p (bs ++ more)
+begins_more p [] more h = absurd h
+begins_more p (b ∷ bs) more h = h
+
+piece_more : (ends : ℕ → Bool) (bs e rest more : Text) → Piece ends bs e (backslash ∷ rest) → Piece ends (bs ++ more) e (backslash ∷ (rest ++ more))
+piece_more ends bs e rest more m =
+    let k = piece_cut m backslash rest refl in
+    subst (λ xs. Piece ends xs e (backslash ∷ (rest ++ more))) (sym (ap (λ xs. xs ++ more) k.whole ∙ append_assoc k.taken (backslash ∷ rest) more)) (k.again (rest ++ more))
+
+abbrev StaysWrong : (Text → Fault → Type 0) → Text → Type 0
+StaysWrong Wrong bs = (f : Fault) × Wrong bs f
+
+wrong_more : {bs : Text} {f : Fault} → IsWrong bs f → (left : ℕ) → f ≡ marks.BadCharacter left → (more : Text) → StaysWrong IsWrong (bs ++ more)
+wrong_more (faults.IsWrong.open_brace none) left e more = cc
+wrong_more (faults.IsWrong.joined_to_brace inside rest w is joined) left e more = cc
+wrong_more (faults.IsWrong.open_quote m last) left e more = cc
+wrong_more (faults.IsWrong.joined_to_quote m joined) left e more = cc
+wrong_more (faults.IsWrong.bad_in_quotes {bs} {e = el} {rest} m nothing) left e more =
+    (marks.BadCharacter (suc (length (rest ++ more))), faults.IsWrong.bad_in_quotes (piece_more is_quote bs el rest more m) (nothing_more rest more nothing))
+wrong_more (faults.IsWrong.bad_in_bare {bs} {e = el} {rest} starts m nothing) left e more =
+    (marks.BadCharacter (suc (length (rest ++ more))), faults.IsWrong.bad_in_bare (begins_more begins_element bs more starts) (piece_more is_space bs el rest more m) (nothing_more rest more nothing))
+
+behind_more : (spaces body e tail more : Text) → AllPass is_space spaces → IsElement body e tail → MayBegin is_space tail → (tail ≡ [] → ⊥) → StaysWrong IsFaulty (tail ++ more) → StaysWrong IsFaulty ((spaces ++ body) ++ more)
+behind_more spaces body e [] more pass is h some k = absurd (some refl)
+behind_more spaces body e (z ∷ tail) more pass is h some k =
+    let c = element_cut is z tail refl h in
+    let whole : (spaces ++ body) ++ more ≡ spaces ++ (c.taken ++ z ∷ (tail ++ more)) =
+    append_assoc spaces body more ∙ ap (λ xs. spaces ++ xs) (ap (λ xs. xs ++ more) c.whole ∙ append_assoc c.taken (z ∷ tail) more)
+    in
+    (k.0, subst (λ xs. IsFaulty xs k.0) (sym whole) (behind spaces (c.taken ++ z ∷ (tail ++ more)) pass (c.again (tail ++ more)) h k.1))
+
+some_text : {bs : Text} {f : Fault} → IsFaulty bs f → bs ≡ [] → ⊥
+some_text {bs} {f} h e = no_list [] f [] (subst (λ xs. IsFaulty xs f) e h) tt
+
+faulty_more : {bs : Text} {f : Fault} → IsFaulty bs f → (left : ℕ) → f ≡ marks.BadCharacter left → (more : Text) → StaysWrong IsFaulty (bs ++ more)
+faulty_more (here spaces body pass wrong) left e more =
+    let k = wrong_more wrong left e more in
+    (k.0, subst (λ xs. IsFaulty xs k.0) (sym (append_assoc spaces body more)) (here spaces (body ++ more) pass k.1))
+faulty_more (behind spaces body {e = el} {rest} pass is h next) left e more = behind_more spaces body el rest more pass is h (some_text next) (faulty_more next left e more)
+
+pub no_more : (bs more : Text) (at : ℕ) (es : List Text) → IsListFault bs (BadCharacter at) → IsList (bs ++ more) es → ⊥
+no_more bs more at es h is = let k = faulty_more h.1.2 h.1.0 refl more in no_list (bs ++ more) k.0 es k.1 is

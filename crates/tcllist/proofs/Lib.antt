@@ -9,5 +9,6 @@ pub mod PieceTurns
 pub mod ListTurns
 pub mod ListAnswers
 pub mod Cuts
+pub mod Nothing
 pub mod FaultCuts
 pub mod RoundTrip
