@@ -1,0 +1,6 @@
+pub mod Tree
+pub mod Grammar
+pub mod Marks
+pub mod Row
+pub mod Faults
+pub mod Reading
