@@ -1,3 +1,5 @@
 pub mod Results
+pub mod Runs
 pub mod Rows
 pub mod Sound
+pub mod Complete
