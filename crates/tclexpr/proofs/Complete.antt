@@ -130,6 +130,14 @@ no_operator m rest after is none n = λ i more is'. absurd (apart (sym (ap infix
 pub no_goes_on : (m : Mark) (rest after : Text) → mark_at (after_white rest) ≡ Some (m, after) → (GoesOn m → ⊥) → NextIsNot GoesOn rest
 no_goes_on m rest after is stop = λ k more is' goes. stop (subst GoesOn (sym (found_once (mark_at (after_white rest)) m k after more is is').0) goes)
 
+mark_nil : mark_at [] ≡ None
+unfolding mark_at
+mark_nil = refl
+
+-- nothing follows where the text ends
+pub ends_here : (rest : Text) → after_white rest ≡ [] → NextIsNot GoesOn rest
+ends_here rest is = λ m more found goes. found_none (mark_at (after_white rest)) m more (ap mark_at is ∙ mark_nil) found
+
 -- an operator follows what is of its level
 pub operator_follows : (i : Infix) (rest after : Text) → mark_at (after_white rest) ≡ Some (marks.Infix i, after) → Follows (level i) rest
 operator_follows i rest after is = λ j more is'. omega (arith, ap level (infix_once i j (found_once (mark_at (after_white rest)) (marks.Infix i) (marks.Infix j) after more is is').0))
@@ -223,3 +231,16 @@ module _ (O : Type 0) (IsOperand : Text → Text → O → ℕ → Type 0) (read
         ∙ ap (λ r. r >>= (λ y. expect is_colon y.1 >>= (λ after. below whole after >>= (λ z. Ok ((choice ce y.0.0 z.0.0, suc (max h (max y.0.1 z.0.1))), z.1))))) yes'
         ∙ ap (λ r. expected is_colon (length (after_white cut'.0)) r >>= (λ after. below whole after >>= (λ z. Ok ((choice ce ye z.0.0, suc (max h (max i z.0.1))), z.1)))) parts
         ∙ ap (λ r. r >>= (λ z. Ok ((choice ce ye z.0.0, suc (max h (max i z.0.1))), z.1))) no'
+
+  -- An expression is read, where so many may nest as do in it.
+  pub complete : (h d : ℕ) (bs : Text) (e : Expr O) → IsExprText O IsOperand h bs e → h ≤ d → expr_at read_operand d bs ≡ Ok e
+  unfolding expr_at
+  complete h d bs e is deep =
+      ap (λ r. r >>= (λ x. ended x.0.0 (after_white x.1))) (expr_again is.2 d deep bs is.1 is.3 (ends_here is.1 is.4))
+      ∙ ap (ended e) is.4
+
+  -- A text is one expression at most.
+  pub unique : (bs : Text) (h k : ℕ) (e f : Expr O) → IsExprText O IsOperand h bs e → IsExprText O IsOperand k bs f → e ≡ f
+  unique bs h k e f is is' = one (sym (complete h (max h k) bs e is (omega arith)) ∙ complete k (max h k) bs f is' (omega arith)) where
+    one : (let ok : Result (Expr O) Fault = Ok e in ok) ≡ Ok f → e ≡ f
+    one h = cc

@@ -3,3 +3,4 @@ pub mod Runs
 pub mod Rows
 pub mod Sound
 pub mod Complete
+pub mod FaultSound

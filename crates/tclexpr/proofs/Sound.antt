@@ -133,7 +133,7 @@ pub le_not : (a b : ℕ) → nat_le a b ≡ false → b < a
 le_not a b h = grind (arith, nat_tests)
 
 -- a mark that had to come next, came
-expected_ok : (wanted : Mark → Bool) (left : ℕ) (found : Option (Mark × Text)) (rest : Text) → expected wanted left found ≡ Ok rest → (m : Mark) × (found ≡ Some (m, rest)) × (wanted m ≡ true)
+pub expected_ok : (wanted : Mark → Bool) (left : ℕ) (found : Option (Mark × Text)) (rest : Text) → expected wanted left found ≡ Ok rest → (m : Mark) × (found ≡ Some (m, rest)) × (wanted m ≡ true)
 expected_ok wanted left None rest h = cc
 expected_ok wanted left (Some p) rest h = tested (wanted p.0) refl h where
   tested : (t : Bool) → wanted p.0 ≡ t → cond t (let ok : Result Text Fault = Ok p.1 in ok) (Err (BadExpression left)) ≡ Ok rest → (m : Mark) × (Some p ≡ Some (m, rest)) × (wanted m ≡ true)

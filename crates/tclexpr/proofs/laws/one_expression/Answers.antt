@@ -1,5 +1,6 @@
 use Rattle.tclexpr.proofs.Sound.{level_more}
 use Rattle.tclexpr.proofs.Complete.{lt_true}
+use Rattle.tclexpr.proofs.FaultSound.{BelowFault}
 use Rattle.tclexpr.proofs.laws.one_expression.Goals as goal
 
 pub returns : goal.returns
