@@ -4,3 +4,4 @@ pub mod Rows
 pub mod Sound
 pub mod Complete
 pub mod FaultSound
+pub mod FaultComplete
