@@ -2,3 +2,4 @@ pub mod RunLemmas
 pub mod BraceLemmas
 pub mod BraceClose
 pub mod BackslashLemmas
+pub mod BracedTextLemmas

@@ -8,7 +8,7 @@ use Rattle.std.proofs.lemmas.Str.{IsCharBoundary-start, IsCharBoundary-after_asc
 use Rattle.tclchars.specs.Runs.{front, back}
 use Rattle.tclchars.specs.Classes.{in_class}
 use Rattle.tclchars.specs.declared.runs.Class.{Class}
-use Rattle.tclchars.specs.declared.runs.Class.TheVariants.{Blank, Gap, Space, BlankOrTab, Plain, BareScript, BareBracket, BareIndex, BareQuote, BareElement, Name, InName}
+use Rattle.tclchars.specs.declared.runs.Class.TheVariants.{Blank, Gap, Space, BlankOrTab, Plain, BareScript, BareBracket, BareIndex, BareQuote, BareElement, Name, InName, Unescaped}
 
 pub front-cons_true : (p : ℕ → Bool) (b : ℕ) (bs : List ℕ) → p b ≡ true → front p (b ∷ bs) ≡ b ∷ front p bs
 front-cons_true p b bs h = rw h refl
@@ -74,6 +74,7 @@ is_narrow BareQuote = false
 is_narrow BareElement = false
 is_narrow Name = true
 is_narrow InName = false
+is_narrow Unescaped = false
 
 narrow_ascii : (class : Class) (b : ℕ) → is_narrow class ≡ true → in_class class b ≡ true → b < 128
 narrow_ascii Blank b n h = grind (arith, nat_tests)
@@ -88,6 +89,7 @@ narrow_ascii BareIndex b n h = cc
 narrow_ascii BareQuote b n h = cc
 narrow_ascii BareElement b n h = cc
 narrow_ascii InName b n h = cc
+narrow_ascii Unescaped b n h = cc
 
 wide_ascii : (class : Class) (b : ℕ) → is_narrow class ≡ false → in_class class b ≡ false → b < 128
 wide_ascii Plain b n h = grind (arith, nat_tests)
@@ -97,6 +99,7 @@ wide_ascii BareIndex b n h = grind (arith, nat_tests)
 wide_ascii BareQuote b n h = grind (arith, nat_tests)
 wide_ascii BareElement b n h = grind (arith, nat_tests)
 wide_ascii InName b n h = grind (arith, nat_tests)
+wide_ascii Unescaped b n h = grind (arith, nat_tests)
 wide_ascii Blank b n h = cc
 wide_ascii Gap b n h = cc
 wide_ascii Space b n h = cc

@@ -4,7 +4,7 @@ use Rattle.tclchars.specs.Bytes.{is_blank, is_gap, is_plain, is_space, backslash
 use Rattle.tclchars.specs.Runs.{Text}
 use Rattle.tclchars.specs.Backslash.{is_blank_or_tab}
 use Rattle.tclchars.specs.declared.runs.Class.{Class}
-use Rattle.tclchars.specs.declared.runs.Class.TheVariants.{Blank, Gap, Space, BlankOrTab, Plain, BareScript, BareBracket, BareIndex, BareQuote, BareElement, Name, InName}
+use Rattle.tclchars.specs.declared.runs.Class.TheVariants.{Blank, Gap, Space, BlankOrTab, Plain, BareScript, BareBracket, BareIndex, BareQuote, BareElement, Name, InName, Unescaped}
 
 -- letters, digits and the underscore, of which the names of variables are made
 abbrev pub is_name : ℕ → Bool
@@ -27,6 +27,7 @@ in_class BareQuote b = not (is_substitution b || b == 34)
 in_class BareElement b = not (is_space b || b == backslash)
 in_class Name b = is_name b
 in_class InName b = not (b == 125)
+in_class Unescaped b = not (b == backslash)
 
 -- whether there is a first byte, and it passes
 abbrev pub begins_in : (ℕ → Bool) → Text → Bool

@@ -3,12 +3,14 @@
 #![tactic(auto)]
 
 mod backslash;
+mod braced_text;
 mod braces;
 mod fault;
 mod laws;
 mod runs;
 
 pub use backslash::read_backslash;
+pub use braced_text::push_braced_text;
 pub use braces::split_close;
 pub use fault::{Fault, ReadError, TextFault, place};
 pub use laws::closing_brace;

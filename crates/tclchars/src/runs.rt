@@ -30,6 +30,8 @@ pub enum Class {
     Name,
     /// What stands in a name in braces.
     InName,
+    /// What is no backslash.
+    Unescaped,
 }
 
 fn is_blank(b: u8) -> bool
@@ -84,6 +86,7 @@ fn in_class(class: Class, b: u8) -> bool
         Class::BareElement => !(is_space(b) || b == b'\\'),
         Class::Name => is_name(b),
         Class::InName => b != b'}',
+        Class::Unescaped => b != b'\\',
     }
 }
 

@@ -1,0 +1,20 @@
+-- What the text between the braces of a word stands for (Tcl(n), rules 6 and 9): itself, but that a backslash before a newline and
+-- the blanks and tabs behind them are one space. A backslash and any other character are passed over together.
+use Rattle.std.specs.Prelude.{[], ◌∷◌, ◌==◌, if◌then◌else◌}
+use Rattle.tclchars.specs.Bytes.{newline, backslash}
+use Rattle.tclchars.specs.Runs.{Text}
+use Rattle.tclchars.specs.Backslash.{is_blank_or_tab}
+
+abbrev mutual
+  pub braced_text : Text → Text
+  braced_text [] = []
+  braced_text (b ∷ bs) = if b == backslash then behind_backslash bs else b ∷ braced_text bs
+
+  pub behind_backslash : Text → Text
+  behind_backslash [] = backslash ∷ []
+  behind_backslash (b ∷ bs) = if b == newline then 32 ∷ behind_newline bs else backslash ∷ (b ∷ braced_text bs)
+
+  pub behind_newline : Text → Text
+  behind_newline [] = []
+  behind_newline (b ∷ bs) =
+      if is_blank_or_tab b then behind_newline bs else if b == backslash then behind_backslash bs else b ∷ braced_text bs
