@@ -1,0 +1,55 @@
+-- What a reader leaves is an end of its text, and shorter where something was read.
+use Rattle.std.proofs.Common.{◌≡◌, ℕ, zero, suc, ◌+◌, ◌<◌, ◌≤◌, List, [], ◌∷◌, ◌++◌, length, Bool, true, false, not, ◌||◌, ◌&&◌, ◌==◌, Option, Some, None, Result, Ok, Err, refl, sym, ap, subst, ◌∙◌, arith, append_assoc, length-append}
+use Rattle.std.proofs.lemmas.Bool.Decides.{nat_tests}
+use Rattle.tclchars.specs.Bytes.{newline, backslash, is_gap, is_blank, is_end}
+use Rattle.tclchars.specs.Runs.{Text, front, back, begins}
+use Rattle.tclchars.specs.Classes.{in_class}
+use Rattle.tclchars.specs.Braces.{braced_at}
+use Rattle.tclchars.specs.Reading.{◌>>=◌, Read, read_map, items_at, items_step}
+use Rattle.tclchars.specs.declared.fault.Fault.{Fault}
+use Rattle.tclscript.specs.Pieces.{IsEndOf}
+use Rattle.tclscript.specs.Ends.{word_ends}
+use Rattle.tclscript.specs.Reading.{on_mark, closed, ended}
+use Rattle.tclscript.proofs.Ends.{end_same, end_behind, end_through, end_no_longer, IsBehind, behind_mark, behind_through, end_mark}
+use Rattle.tclscript.proofs.Escapes.{either, back_end, LeavesSome, backslash_end}
+use Rattle.tclscript.proofs.Passes.{pass_end}
+
+-- Readers
+
+-- what follows what was read is such a text
+abbrev pub Leaves : {A : Type 0} → (Text → Type 0) → Read A → Type 0
+Leaves P (Ok x) = P x.1
+Leaves P (Err e) = Unit {0}
+
+abbrev pub LeavesText : (Text → Type 0) → Result Text Fault → Type 0
+LeavesText P (Ok rest) = P rest
+LeavesText P (Err e) = Unit {0}
+
+pub leaves_map : {A B : Type 0} (P : Text → Type 0) (f : A → B) (r : Read A) → Leaves P r → Leaves P (read_map f r)
+leaves_map P f (Ok x) l = l
+leaves_map P f (Err e) l = tt
+
+pub leaves_then : {A B : Type 0} (P Q : Text → Type 0) (r : Read A) (f : A × Text → Read B) → Leaves P r → ((x : A) (rest : Text) → P rest → Leaves Q (f (x, rest))) → Leaves Q (r >>= f)
+leaves_then P Q (Ok x) f l more = more x.0 x.1 l
+leaves_then P Q (Err e) f l more = tt
+
+pub text_then : {B : Type 0} (P Q : Text → Type 0) (r : Result Text Fault) (f : Text → Read B) → LeavesText P r → ((rest : Text) → P rest → Leaves Q (f rest)) → Leaves Q (r >>= f)
+text_then P Q (Ok rest) f l more = more rest l
+text_then P Q (Err e) f l more = tt
+
+pub at_mark : {A : Type 0} (P : A → Type 0) (mark : ℕ) (bs : Text) (behind : Text → A) (other : A)
+    → ((rest : Text) → bs ≡ mark ∷ rest → P (behind rest)) → (begins mark bs ≡ false → P other) → P (on_mark mark bs behind other)
+at_mark P mark [] behind other here otherwise = otherwise refl
+at_mark P mark (b ∷ bs) behind other here otherwise = go (b == mark) refl where
+  go : (t : Bool) → (b == mark) ≡ t → P (on_mark mark (b ∷ bs) behind other)
+  go true h = let is : b ≡ mark = grind (arith, nat_tests) in rw h (here bs (ap (λ c. c ∷ bs) is))
+  go false h = rw h (otherwise h)
+
+pub closed_leaves : (mark : ℕ) (fault : Fault) (bs : Text) → LeavesText (IsEndOf bs) (closed mark fault bs)
+closed_leaves mark fault bs = at_mark (LeavesText (IsEndOf bs)) mark bs (λ rest. Ok rest) (Err fault) (λ rest is. end_mark bs mark rest is) (λ h. tt)
+
+pub ended_leaves : (nested : Bool) (bs : Text) → LeavesText (IsEndOf bs) (ended nested bs)
+ended_leaves nested bs = go (word_ends nested bs) refl where
+  go : (t : Bool) → word_ends nested bs ≡ t → LeavesText (IsEndOf bs) (ended nested bs)
+  go true h = rw h (end_same bs)
+  go false h = rw h tt

@@ -1,0 +1,47 @@
+-- Where scripts, commands, words and parts end, told by the bytes that follow.
+use Rattle.std.specs.Prelude.{ℕ, [], ◌∷◌, Bool, true, false, ◌||◌, ◌&&◌, ◌==◌}
+use Rattle.tclchars.specs.Runs.{Text, begins}
+use Rattle.tclchars.specs.Bytes.{newline, backslash, is_end, is_gap}
+use Rattle.tclchars.specs.declared.runs.Class.{Class}
+use Rattle.tclchars.specs.declared.runs.Class.TheVariants.{BareScript, BareBracket, BareIndex, BareQuote}
+use Rattle.tclscript.specs.declared.context.Context.{Context}
+use Rattle.tclscript.specs.declared.context.Context.TheVariants.{InScript, InBracket, InIndex, InQuotes}
+
+-- a script in brackets ends at the bracket that closes
+abbrev pub script_ends : Bool → Text → Bool
+script_ends nested [] = true
+script_ends nested (b ∷ bs) = nested && b == 93
+
+-- a command ends at a newline or semicolon as well
+abbrev pub command_ends : Bool → Text → Bool
+command_ends nested [] = true
+command_ends nested (b ∷ bs) = is_end b || (nested && b == 93)
+
+-- a word ends at white space as well, of which a backslash before a newline is a part
+abbrev pub word_ends : Bool → Text → Bool
+word_ends nested [] = true
+word_ends nested (b ∷ bs) = is_gap b || (nested && b == 93) || (b == backslash && begins newline bs)
+
+-- nothing, or this mark
+abbrev pub stands_before : ℕ → Text → Bool
+stands_before mark [] = true
+stands_before mark (b ∷ bs) = b == mark
+
+-- the parts of a bare word end with it, those of an index at its parenthesis, and those of a quoted word at its quote
+abbrev pub parts_end : Context → Text → Bool
+parts_end InScript bs = word_ends false bs
+parts_end InBracket bs = word_ends true bs
+parts_end InIndex bs = stands_before 41 bs
+parts_end InQuotes bs = stands_before 34 bs
+
+-- what stands for itself there
+abbrev pub class_of : Context → Class
+class_of InScript = BareScript
+class_of InBracket = BareBracket
+class_of InIndex = BareIndex
+class_of InQuotes = BareQuote
+
+-- where a bare word stands, in brackets or not
+abbrev pub bare : Bool → Context
+bare true = InBracket
+bare false = InScript

@@ -1,0 +1,155 @@
+-- Reading a script from left to right, with the first fault that is met. A fault has the number of bytes from its mark on.
+use Rattle.std.specs.Prelude.{◌≡◌, ℕ, zero, suc, ◌-◌, List, [], ◌∷◌, length, take, Bool, true, false, ◌==◌, if◌then◌else◌, Option, Some, None, Result, Ok, Err}
+use Rattle.tclchars.specs.Runs.{Text, front, back}
+use Rattle.tclchars.specs.Classes.{in_class}
+use Rattle.tclchars.specs.Backslash.{after_backslash}
+use Rattle.tclchars.specs.Braces.{braced_at}
+use Rattle.tclchars.specs.Reading.{◌>>=◌, Read, read_map, items_at}
+use Rattle.tclchars.specs.declared.fault.Fault.{Fault}
+use Rattle.tclchars.specs.declared.fault.Fault.TheVariants.{OpenBrace, OpenQuote, OpenBracket, JoinedToClose, TooDeep, BadCharacter}
+use Rattle.tclchars.specs.declared.runs.Class.TheVariants.{InName}
+use Rattle.tclscript.specs.declared.context.Context.{Context}
+use Rattle.tclscript.specs.declared.context.Context.TheVariants.{InIndex, InQuotes}
+use Rattle.tclscript.specs.declared.runs.Passing.TheVariants.{Name}
+use Rattle.tclscript.specs.Tree.{Commands, Words, word, Word, word_of, Parts, no_parts, part, Part, literal, braced, backslash, variable, indexed, bracket, parts_of, words_of, commands_of}
+use Rattle.tclscript.specs.Ends.{script_ends, command_ends, word_ends, parts_end, class_of, bare}
+use Rattle.tclscript.specs.Passing.{pass, skip_blanks, skip_gap}
+
+-- Marks
+
+-- what is read behind this mark where the text begins with it, or otherwise
+abbrev pub on_mark : {A : Type 0} → ℕ → Text → (Text → A) → A → A
+on_mark mark [] behind other = other
+on_mark mark (b ∷ bs) behind other = if b == mark then behind bs else other
+
+-- what follows the mark that closes, or the fault where it is missing
+abbrev pub closed : ℕ → Fault → Text → Result Text Fault
+closed mark fault bs = on_mark mark bs (λ rest. Ok rest) (Err fault)
+
+-- what follows a closing brace or quote, where the word ends
+abbrev pub ended : Bool → Text → Result Text Fault
+ended nested bs = if word_ends nested bs then Ok bs else Err (JoinedToClose (length bs))
+
+-- Parts
+
+-- the readers of what brackets and the parentheses of indexes hold
+pub record Inner : Type 0 where
+  pub script : Text → Read Commands
+  pub index : Text → Read Parts
+
+-- behind a bracket
+unfoldable pub bracket_at : Inner → Text → Read Part
+bracket_at inner bs = do
+  x ← inner.script bs
+  rest ← closed 93 (OpenBracket (suc (length bs))) x.1
+  Ok (bracket x.0, rest)
+
+-- the parts of an index, behind its parenthesis
+unfoldable pub index_at : Inner → Text → Read Parts
+index_at inner bs = do
+  x ← inner.index bs
+  rest ← closed 41 (BadCharacter (suc (length bs))) x.1
+  Ok (x.0, rest)
+
+-- behind the brace of a name
+unfoldable pub braced_name_at : Text → Read Part
+braced_name_at bs = do
+  rest ← closed 125 (OpenBrace (suc (length bs))) (back (in_class InName) bs)
+  Ok (variable (front (in_class InName) bs), rest)
+
+-- a name without a parenthesis: without a name the dollar is itself
+abbrev pub plain_variable : Text → Part
+plain_variable [] = literal (36 ∷ [])
+plain_variable (b ∷ bs) = variable (b ∷ bs)
+
+-- behind a name
+abbrev pub after_name : Inner → Text × Text → Read Part
+after_name inner p = on_mark 40 p.1 (λ bs. read_map (indexed p.0) (index_at inner bs)) (Ok (plain_variable p.0, p.1))
+
+-- behind a dollar
+unfoldable pub dollar_at : Inner → Text → Read Part
+dollar_at inner bs = on_mark 123 bs braced_name_at (after_name inner (pass Name bs))
+
+-- behind a backslash and what it takes along; at the text's end a backslash is itself
+abbrev pub escaped : Text → Option (Text × Text) → Read Part
+escaped bs (Some p) = Ok (backslash p.0, p.1)
+escaped [] None = Ok (literal (92 ∷ []), [])
+escaped (b ∷ bs) None = Err (BadCharacter (suc (length (b ∷ bs))))
+
+-- behind a backslash
+unfoldable pub backslash_at : Text → Read Part
+backslash_at bs = escaped bs (after_backslash bs)
+
+-- a run of text that stands for itself
+abbrev pub literal_at : Context → Text → Read Part
+literal_at context bs = Ok (literal (front (in_class (class_of context)) bs), back (in_class (class_of context)) bs)
+
+-- one part, where parts don't end
+unfoldable pub part_at : Context → Inner → Text → Read Part
+part_at context inner bs = on_mark 36 bs (dollar_at inner) (on_mark 91 bs (bracket_at inner) (on_mark 92 bs backslash_at (literal_at context bs)))
+
+unfoldable pub parts_with : Context → Inner → Text → Read Parts
+parts_with context inner bs = read_map parts_of (items_at (λ bs. bs) (parts_end context) (part_at context inner) (suc (length bs)) bs)
+
+-- Words
+
+abbrev pub in_braces : Bool → ℕ → Option (Text × Text) → Read Parts
+in_braces nested left None = Err (OpenBrace left)
+in_braces nested left (Some p) = ended nested p.1 >>= (λ rest. Ok (part (braced p.0) no_parts, rest))
+
+-- a word in braces, behind its first brace
+unfoldable pub braced_word_at : Bool → Text → Read Parts
+braced_word_at nested bs = in_braces nested (suc (length bs)) (braced_at false 0 bs)
+
+-- a word in quotes, behind its first quote
+unfoldable pub quoted_word_at : Bool → Inner → Text → Read Parts
+quoted_word_at nested inner bs = do
+  x ← parts_with InQuotes inner bs
+  after ← closed 34 (OpenQuote (suc (length bs))) x.1
+  rest ← ended nested after
+  Ok (x.0, rest)
+
+-- a word that doesn't expand
+unfoldable pub plain_word_at : Bool → Inner → Text → Read Parts
+plain_word_at nested inner bs = on_mark 123 bs (braced_word_at nested) (on_mark 34 bs (quoted_word_at nested inner) (parts_with (bare nested) inner bs))
+
+abbrev pub unless_word_ends : Bool → Text → Option Text
+unless_word_ends nested bs = if word_ends nested bs then None else Some bs
+
+-- what follows the mark {*}, unless a word ends there
+unfoldable pub after_expansion : Bool → Text → Option Text
+after_expansion nested bs = on_mark 123 bs (λ xs. on_mark 42 xs (λ ys. on_mark 125 ys (unless_word_ends nested) None) None) None
+
+abbrev pub word_from : Bool → Inner → Text → Option Text → Read Word
+word_from nested inner bs None = read_map (word_of false) (plain_word_at nested inner bs)
+word_from nested inner bs (Some rest) = read_map (word_of true) (plain_word_at nested inner rest)
+
+unfoldable pub word_at : Bool → Inner → Text → Read Word
+word_at nested inner bs = word_from nested inner bs (after_expansion nested bs)
+
+-- Commands and scripts
+
+-- what was read before that rest
+abbrev pub taken : Text → Text → Text
+taken bs rest = take (length bs - length rest) bs
+
+-- the words behind the first
+abbrev pub words_at : Bool → Inner → Text → Read (List Word)
+words_at nested inner bs = items_at skip_blanks (command_ends nested) (word_at nested inner) (suc (length bs)) bs
+
+-- a command, with the source of its first word
+unfoldable pub command_at : Bool → Inner → Text → Read (Text × Words)
+command_at nested inner bs = do
+  w ← word_at nested inner bs
+  read_map (λ ws. (taken bs w.1, word w.0 (words_of ws))) (words_at nested inner w.1)
+
+unfoldable pub script_with : Bool → Inner → Text → Read Commands
+script_with nested inner bs = read_map commands_of (items_at skip_gap (script_ends nested) (command_at nested inner) (suc (length bs)) bs)
+
+-- the readers of what may nest no deeper than the number
+unfoldable pub inner_at : ℕ → Inner
+inner_at zero = record { script = λ bs. Err TooDeep; index = λ bs. Err TooDeep }
+inner_at (suc depth) = record { script = script_with true (inner_at depth); index = parts_with InIndex (inner_at depth) }
+
+unfoldable pub script_at : ℕ → Text → Result Commands Fault
+script_at depth bs = script_with false (inner_at depth) bs >>= (λ x. Ok x.0)

@@ -1,0 +1,90 @@
+ghost use Rattle.std.specs.Prelude.{◌≡◌};
+ghost use Rattle.tclscript.specs.Ends.{word_ends, command_ends, script_ends, stands_before, parts_end, bare, class_of};
+
+use tclchars::{Class, begins_class};
+
+/// Where the parts of a word stand, which says what stands for itself there and what ends them.
+#[derive(Clone, Copy, Debug, PartialEq, Eq)]
+pub enum Context {
+    /// In a bare word of a script.
+    InScript,
+    /// In a bare word of a script in brackets.
+    InBracket,
+    /// In the parentheses of an index.
+    InIndex,
+    /// In quotes.
+    InQuotes,
+}
+
+/// What stands for itself there.
+pub(crate) fn class_of(context: Context) -> Class
+    ensures { result ≡ class_of context }
+{
+    match context {
+        Context::InScript => Class::BareScript,
+        Context::InBracket => Class::BareBracket,
+        Context::InIndex => Class::BareIndex,
+        Context::InQuotes => Class::BareQuote,
+    }
+}
+
+/// Where a bare word stands, in brackets or not.
+pub(crate) fn bare(nested: bool) -> Context
+    ensures { result ≡ bare nested }
+{
+    if nested { Context::InBracket } else { Context::InScript }
+}
+
+/// Whether a word ends before the text: nothing follows it, or white space, an end of the command, or the bracket that closes.
+pub(crate) fn word_ends(text: &str, nested: bool) -> bool
+    ensures { result ≡ word_ends nested text.now }
+{
+    match text.as_bytes() {
+        [] => true,
+        [b'\\', b'\n', ..] => true,
+        [b']', ..] if nested => true,
+        _ => begins_class(text, Class::Gap),
+    }
+}
+
+/// Whether a command ends before the text, in front of which no blank stands.
+pub(crate) fn command_ends(text: &str, nested: bool) -> bool
+    ensures { result ≡ command_ends nested text.now }
+{
+    match text.as_bytes() {
+        [] => true,
+        [b, ..] => *b == b'\n' || *b == b';' || (nested && *b == b']'),
+    }
+}
+
+/// Whether a script ends before the text, in front of which no gap stands.
+pub(crate) fn script_ends(text: &str, nested: bool) -> bool
+    ensures { result ≡ script_ends nested text.now }
+{
+    match text.as_bytes() {
+        [] => true,
+        [b, ..] => nested && *b == b']',
+    }
+}
+
+// Whether the text is nothing, or begins with that mark.
+fn stands_before(text: &str, mark: u8) -> bool
+    ensures { result ≡ stands_before mark text.now }
+{
+    match text.as_bytes() {
+        [] => true,
+        [b, ..] => *b == mark,
+    }
+}
+
+/// Whether no part begins with the text.
+pub(crate) fn parts_end(text: &str, context: Context) -> bool
+    ensures { result ≡ parts_end context text.now }
+{
+    match context {
+        Context::InScript => word_ends(text, false),
+        Context::InBracket => word_ends(text, true),
+        Context::InIndex => stands_before(text, b')'),
+        Context::InQuotes => stands_before(text, b'"'),
+    }
+}

@@ -1,0 +1,15 @@
+//! Scripts of Tcl as trees, and what is wrong with a text that is none (Tcl(n)).
+#![tactic(auto)]
+
+mod context;
+mod piece;
+mod reading;
+mod runs;
+mod text;
+mod tree;
+#[cfg(test)]
+mod tests;
+
+pub use piece::{ByteRange, Source};
+pub use text::{MAX_BYTES, MAX_NESTING, parse_pieces, parse_script};
+pub use tree::{Command, Part, Script, Word};

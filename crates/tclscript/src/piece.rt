@@ -1,0 +1,44 @@
+ghost use Rattle.std.specs.Prelude.{◌≡◌, ◌-◌, take, drop};
+ghost use Rattle.tclchars.specs.Runs.{Text};
+ghost use Rattle.tclscript.specs.Pieces.{IsEndOf, IsFrontOf};
+
+/// A source text, with what stands for a piece of it.
+pub trait Source<P> {
+    ghost text: { Self → Text };
+    ghost shown: { Self → P → Text };
+
+    /// The piece at the front of `rest`, which is an end of the source.
+    fn cut(&self, rest: &str, piece: &str) -> P
+        requires end { IsEndOf (text self.now) rest.now }
+        requires front { IsFrontOf rest.now piece.now }
+        ensures { shown self.now result ≡ piece.now };
+}
+
+impl<'a> Source<&'a str> for &'a str {
+    ghost text = { λ source. source.now };
+
+    ghost shown = { λ source piece. piece.now };
+
+    fn cut(&self, rest: &str, piece: &str) -> &'a str {
+        let from_rest = self.split_at(self.len() - rest.len()).1;
+        from_rest.split_at(piece.len()).0
+    }
+}
+
+/// Where a piece stands in its source, in bytes.
+#[derive(Clone, Copy, Debug, Drop, PartialEq, Eq)]
+pub struct ByteRange {
+    pub start: usize,
+    pub end: usize,
+}
+
+impl<'a> Source<ByteRange> for &'a str {
+    ghost text = { λ source. source.now };
+
+    ghost shown = { λ source range. take (range.end - range.start) (drop range.start source.now) };
+
+    fn cut(&self, rest: &str, piece: &str) -> ByteRange {
+        let start = self.len() - rest.len();
+        ByteRange { start, end: start + piece.len() }
+    }
+}

@@ -1,0 +1,369 @@
+ghost use Rattle.std.specs.Prelude.{◌≡◌, ◌∷◌, ◌<◌, length, suc, option_map};
+ghost use Rattle.tclchars.specs.Reading.{Gives};
+ghost use Rattle.tclscript.specs.Pieces.{IsEndOf, IsFrontOf};
+ghost use Rattle.tclscript.specs.Tree as tree;
+ghost use Rattle.tclscript.specs.Reading.{closed, ended, after_expansion, inner_at, script_with, command_at, word_at, plain_word_at, braced_word_at, quoted_word_at, parts_with, part_at, literal_at, dollar_at, braced_name_at, index_at, bracket_at, backslash_at, plain_variable, taken, script_at};
+ghost use Rattle.tclscript.specs.View.{script_view, command_view, word_view, part_view, parts_view};
+
+use crate::context::{Context, bare, class_of, command_ends, parts_end, script_ends, word_ends};
+use crate::piece::Source;
+use crate::runs::{Passing, skip_blanks, skip_gap, split_passed};
+use crate::tree::{Command, Part, Script, Word};
+use std::alloc::Global;
+use tclchars::{Class, Fault, ReadError, after_mark, read_backslash, split_close, split_front};
+
+// What follows the mark that closes, or the fault where it is missing.
+fn closed(text: &str, mark: u8, fault: Fault) -> Result<&str, ReadError>
+    requires { mark < 128 }
+    ensures { Gives (λ rest. rest.now) result (closed mark fault text.now) }
+{
+    match after_mark(text, mark) {
+        Some(rest) => Ok(rest),
+        None => Err(ReadError::Fault(fault)),
+    }
+}
+
+// What follows a closing brace or quote, where the word ends.
+fn ended(text: &str, nested: bool) -> Result<&str, ReadError>
+    ensures { Gives (λ rest. rest.now) result (ended nested text.now) }
+{
+    if word_ends(text, nested) {
+        Ok(text)
+    } else {
+        Err(ReadError::Fault(Fault::JoinedToClose(text.len())))
+    }
+}
+
+// How many bytes there are from a mark on, with what stands behind it.
+fn left_with_mark(behind: &str) -> usize
+    ensures { result ≡ suc (length behind.now) }
+{
+    behind.len() + 1
+}
+
+// What follows the mark {*}, unless a word ends there.
+fn after_expansion(text: &str, nested: bool) -> Option<&str>
+    ensures { option_map (λ rest. rest.now) result ≡ after_expansion nested text.now }
+{
+    let rest = after_mark(after_mark(after_mark(text, b'{')?, b'*')?, b'}')?;
+    if word_ends(rest, nested) { None } else { Some(rest) }
+}
+
+// What was read of the text before that rest.
+fn taken<'a, S: Source<P>, P: Drop>(source: &S, text: &'a str, rest: &'a str) -> P
+    requires text { IsEndOf (S.text source.now) text.now }
+    requires rest { IsEndOf text.now rest.now }
+    ensures { S.shown source.now result ≡ taken text.now rest.now }
+{
+    source.cut(text, text.split_at(text.len() - rest.len()).0)
+}
+
+fn read_literal<'a, S: Source<P>, P: Drop>(source: &S, text: &'a str, context: Context) -> (Part<P>, &'a str)
+    requires { IsEndOf (S.text source.now) text.now }
+    ensures { literal_at context text.now ≡ Ok (part_view (S.shown source.now) result.0, result.1.now) }
+{
+    let (run, rest) = split_front(text, class_of(context));
+    (Part::Literal(source.cut(text, run)), rest)
+}
+
+// A name without a parenthesis, behind a dollar; without a name the dollar is itself.
+fn plain_variable<'a, S: Source<P>, P: Drop>(source: &S, text: &'a str, behind: &'a str, name: &'a str) -> Part<P>
+    requires text { IsEndOf (S.text source.now) text.now }
+    requires dollar { text.now ≡ 36 ∷ behind.now }
+    requires name { IsFrontOf behind.now name.now }
+    ensures { part_view (S.shown source.now) result ≡ plain_variable name.now }
+{
+    if name.is_empty() {
+        Part::Literal(taken(source, text, behind))
+    } else {
+        Part::Variable(source.cut(behind, name))
+    }
+}
+
+// Behind a backslash, which stands in front of the text; at the text's end it is itself.
+fn read_escape<'a, S: Source<P>, P: Drop>(source: &S, text: &'a str, behind: &'a str) -> Result<(Part<P>, &'a str), ReadError>
+    requires text { IsEndOf (S.text source.now) text.now }
+    requires mark { text.now ≡ 92 ∷ behind.now }
+    ensures { Gives (λ x. (part_view (S.shown source.now) x.0, x.1.now)) result (backslash_at behind.now) }
+{
+    match read_backslash(behind) {
+        Some((c, rest)) => Ok((Part::Backslash(c), rest)),
+        None => {
+            if behind.is_empty() {
+                Ok((Part::Literal(taken(source, text, behind)), behind))
+            } else {
+                Err(ReadError::Fault(Fault::BadCharacter(text.len())))
+            }
+        }
+    }
+}
+
+// Behind the brace of a name.
+fn read_braced_name<'a, S: Source<P>, P: Drop>(source: &S, text: &'a str) -> Result<(Part<P>, &'a str), ReadError>
+    requires { IsEndOf (S.text source.now) text.now }
+    ensures { Gives (λ x. (part_view (S.shown source.now) x.0, x.1.now)) result (braced_name_at text.now) }
+{
+    let (name, after) = split_front(text, Class::InName);
+    let rest = closed(after, b'}', Fault::OpenBrace(left_with_mark(text)))?;
+    Ok((Part::Variable(source.cut(text, name)), rest))
+}
+
+// A word in braces, behind its first brace.
+fn read_braced<'a, S: Source<P>, P: Drop>(
+    alloc: Global,
+    source: &S,
+    text: &'a str,
+    nested: bool,
+) -> Result<(Vec<Part<P>>, &'a str), ReadError>
+    requires { IsEndOf (S.text source.now) text.now }
+    ensures { Gives (λ x. (parts_view (S.shown source.now) x.0.items, x.1.now)) result (braced_word_at nested text.now) }
+{
+    let Some((inner, after)) = split_close(text) else {
+        return Err(ReadError::Fault(Fault::OpenBrace(left_with_mark(text))));
+    };
+    let rest = ended(after, nested)?;
+    let mut parts = Vec::new(alloc);
+    parts.push(Part::Braced(source.cut(text, inner)))?;
+    Ok((parts, rest))
+}
+
+/// The tree of a text, where so many brackets and indexes nest at most.
+pub(crate) fn read_source<S: Source<P>, P: Drop>(alloc: Global, source: &S, text: &str, depth: usize) -> Result<Script<P>, ReadError>
+    requires { S.text source.now ≡ text.now }
+    ensures { Gives (script_view (S.shown source.now)) result (script_at depth text.now) }
+{
+    let (script, _) = read_script(alloc, source, text, depth, false)?;
+    Ok(script)
+}
+
+#[cycle(read)]
+fn read_script<'a, S: Source<P>, P: Drop>(
+    alloc: Global,
+    source: &S,
+    text: &'a str,
+    depth: usize,
+    nested: bool,
+) -> Result<(Script<P>, &'a str), ReadError>
+    requires { IsEndOf (S.text source.now) text.now }
+    ensures { Gives (λ x. (script_view (S.shown source.now) x.0, x.1.now)) result (script_with nested (inner_at depth) text.now) }
+{
+    let mut commands = Vec::new(alloc);
+    let mut rest = text;
+    loop {
+        let start = skip_gap(rest);
+        if script_ends(start, nested) {
+            return Ok((Script { commands }, start));
+        }
+        let (command, after) = read_command(alloc, source, start, depth, nested)?;
+        commands.push(command)?;
+        rest = after;
+    }
+}
+
+#[cycle(read)]
+fn read_command<'a, S: Source<P>, P: Drop>(
+    alloc: Global,
+    source: &S,
+    text: &'a str,
+    depth: usize,
+    nested: bool,
+) -> Result<(Command<P>, &'a str), ReadError>
+    requires { IsEndOf (S.text source.now) text.now }
+    ensures { Gives (λ x. (command_view (S.shown source.now) x.0, x.1.now)) result (command_at nested (inner_at depth) text.now) }
+{
+    let (first, behind) = read_word(alloc, source, text, depth, nested)?;
+    let first_text = taken(source, text, behind);
+    let mut words = Vec::new(alloc);
+    words.push(first)?;
+    let mut rest = behind;
+    loop {
+        let start = skip_blanks(rest);
+        if command_ends(start, nested) {
+            return Ok((Command { source: first_text, words }, start));
+        }
+        let (word, after) = read_word(alloc, source, start, depth, nested)?;
+        words.push(word)?;
+        rest = after;
+    }
+}
+
+#[cycle(read)]
+fn read_word<'a, S: Source<P>, P: Drop>(
+    alloc: Global,
+    source: &S,
+    text: &'a str,
+    depth: usize,
+    nested: bool,
+) -> Result<(Word<P>, &'a str), ReadError>
+    requires { IsEndOf (S.text source.now) text.now }
+    ensures { Gives (λ x. (word_view (S.shown source.now) x.0, x.1.now)) result (word_at nested (inner_at depth) text.now) }
+{
+    match after_expansion(text, nested) {
+        Some(behind) => {
+            let (parts, rest) = read_plain_word(alloc, source, behind, depth, nested)?;
+            Ok((Word { expands: true, parts }, rest))
+        }
+        None => {
+            let (parts, rest) = read_plain_word(alloc, source, text, depth, nested)?;
+            Ok((Word { expands: false, parts }, rest))
+        }
+    }
+}
+
+// A word that doesn't expand.
+#[cycle(read)]
+fn read_plain_word<'a, S: Source<P>, P: Drop>(
+    alloc: Global,
+    source: &S,
+    text: &'a str,
+    depth: usize,
+    nested: bool,
+) -> Result<(Vec<Part<P>>, &'a str), ReadError>
+    requires { IsEndOf (S.text source.now) text.now }
+    ensures { Gives (λ x. (parts_view (S.shown source.now) x.0.items, x.1.now)) result (plain_word_at nested (inner_at depth) text.now) }
+{
+    if let Some(behind) = after_mark(text, b'{') {
+        return read_braced(alloc, source, behind, nested);
+    }
+    match after_mark(text, b'"') {
+        Some(behind) => read_quoted(alloc, source, behind, depth, nested),
+        None => read_parts(alloc, source, text, depth, bare(nested)),
+    }
+}
+
+// A word in quotes, behind its first quote.
+#[cycle(read)]
+fn read_quoted<'a, S: Source<P>, P: Drop>(
+    alloc: Global,
+    source: &S,
+    text: &'a str,
+    depth: usize,
+    nested: bool,
+) -> Result<(Vec<Part<P>>, &'a str), ReadError>
+    requires { IsEndOf (S.text source.now) text.now }
+    ensures { Gives (λ x. (parts_view (S.shown source.now) x.0.items, x.1.now)) result (quoted_word_at nested (inner_at depth) text.now) }
+{
+    let (parts, close) = read_parts(alloc, source, text, depth, Context::InQuotes)?;
+    let after = closed(close, b'"', Fault::OpenQuote(left_with_mark(text)))?;
+    let rest = ended(after, nested)?;
+    Ok((parts, rest))
+}
+
+#[cycle(read)]
+fn read_parts<'a, S: Source<P>, P: Drop>(
+    alloc: Global,
+    source: &S,
+    text: &'a str,
+    depth: usize,
+    context: Context,
+) -> Result<(Vec<Part<P>>, &'a str), ReadError>
+    requires { IsEndOf (S.text source.now) text.now }
+    ensures { Gives (λ x. (parts_view (S.shown source.now) x.0.items, x.1.now)) result (parts_with context (inner_at depth) text.now) }
+{
+    let mut parts = Vec::new(alloc);
+    let mut rest = text;
+    loop {
+        if parts_end(rest, context) {
+            return Ok((parts, rest));
+        }
+        let (part, after) = read_part(alloc, source, rest, depth, context)?;
+        parts.push(part)?;
+        rest = after;
+    }
+}
+
+#[cycle(read)]
+fn read_part<'a, S: Source<P>, P: Drop>(
+    alloc: Global,
+    source: &S,
+    text: &'a str,
+    depth: usize,
+    context: Context,
+) -> Result<(Part<P>, &'a str), ReadError>
+    requires { IsEndOf (S.text source.now) text.now }
+    ensures { Gives (λ x. (part_view (S.shown source.now) x.0, x.1.now)) result (part_at context (inner_at depth) text.now) }
+{
+    if let Some(behind) = after_mark(text, b'$') {
+        return read_dollar(alloc, source, text, behind, depth);
+    }
+    if let Some(behind) = after_mark(text, b'[') {
+        return read_bracket(alloc, source, behind, depth);
+    }
+    match after_mark(text, b'\\') {
+        Some(behind) => read_escape(source, text, behind),
+        None => Ok(read_literal(source, text, context)),
+    }
+}
+
+// Behind a dollar, which stands in front of the text.
+#[cycle(read)]
+fn read_dollar<'a, S: Source<P>, P: Drop>(
+    alloc: Global,
+    source: &S,
+    text: &'a str,
+    behind: &'a str,
+    depth: usize,
+) -> Result<(Part<P>, &'a str), ReadError>
+    requires text { IsEndOf (S.text source.now) text.now }
+    requires dollar { text.now ≡ 36 ∷ behind.now }
+    ensures { Gives (λ x. (part_view (S.shown source.now) x.0, x.1.now)) result (dollar_at (inner_at depth) behind.now) }
+{
+    if let Some(inner) = after_mark(behind, b'{') {
+        return read_braced_name(source, inner);
+    }
+    let (name, after) = split_passed(behind, Passing::Name);
+    match after_mark(after, b'(') {
+        Some(index) => {
+            let (parts, rest) = read_index(alloc, source, index, depth)?;
+            Ok((indexed(source, behind, name, parts), rest))
+        }
+        None => Ok((plain_variable(source, text, behind, name), after)),
+    }
+}
+
+// An element of an array, whose name stands in front of the text.
+fn indexed<'a, S: Source<P>, P: Drop>(source: &S, text: &'a str, name: &'a str, parts: Vec<Part<P>>) -> Part<P>
+    requires text { IsEndOf (S.text source.now) text.now }
+    requires name { IsFrontOf text.now name.now }
+    ensures { part_view (S.shown source.now) result ≡ tree.indexed name.now (parts_view (S.shown source.now) parts.items) }
+{
+    Part::Indexed(source.cut(text, name), parts)
+}
+
+// Behind the parenthesis of an index.
+#[cycle(read)]
+fn read_index<'a, S: Source<P>, P: Drop>(
+    alloc: Global,
+    source: &S,
+    text: &'a str,
+    depth: usize,
+) -> Result<(Vec<Part<P>>, &'a str), ReadError>
+    requires { IsEndOf (S.text source.now) text.now }
+    ensures { Gives (λ x. (parts_view (S.shown source.now) x.0.items, x.1.now)) result (index_at (inner_at depth) text.now) }
+{
+    if depth == 0 {
+        return Err(ReadError::Fault(Fault::TooDeep));
+    }
+    let (parts, close) = read_parts(alloc, source, text, depth - 1, Context::InIndex)?;
+    let rest = closed(close, b')', Fault::BadCharacter(left_with_mark(text)))?;
+    Ok((parts, rest))
+}
+
+// Behind a bracket.
+#[cycle(read)]
+fn read_bracket<'a, S: Source<P>, P: Drop>(
+    alloc: Global,
+    source: &S,
+    text: &'a str,
+    depth: usize,
+) -> Result<(Part<P>, &'a str), ReadError>
+    requires { IsEndOf (S.text source.now) text.now }
+    ensures { Gives (λ x. (part_view (S.shown source.now) x.0, x.1.now)) result (bracket_at (inner_at depth) text.now) }
+{
+    if depth == 0 {
+        return Err(ReadError::Fault(Fault::TooDeep));
+    }
+    let (script, close) = read_script(alloc, source, text, depth - 1, true)?;
+    let rest = closed(close, b']', Fault::OpenBracket(left_with_mark(text)))?;
+    Ok((Part::Bracket(script), rest))
+}

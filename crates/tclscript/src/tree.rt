@@ -1,0 +1,42 @@
+/// A script: its commands, in order. A piece of its text is a `P`: a slice of the source, or a range of bytes.
+#[cycle(tree)]
+#[derive(Debug, Drop)]
+pub struct Script<P> {
+    pub commands: Vec<Command<P>>,
+}
+
+/// A command: its words, of which the first names it.
+#[cycle(tree)]
+#[derive(Debug, Drop)]
+pub struct Command<P> {
+    /// The text of the first word, as it stands in the source.
+    pub source: P,
+    pub words: Vec<Word<P>>,
+}
+
+/// A word: its parts, joined.
+#[cycle(tree)]
+#[derive(Debug, Drop)]
+pub struct Word<P> {
+    /// Whether `{*}` stands in front: the elements of its list are words of the command.
+    pub expands: bool,
+    pub parts: Vec<Part<P>>,
+}
+
+/// A part of a word.
+#[cycle(tree)]
+#[derive(Debug, Drop)]
+pub enum Part<P> {
+    /// Text that stands for itself.
+    Literal(P),
+    /// What stands between the braces of a word, as it is.
+    Braced(P),
+    /// The character that a backslash and what follows it stand for.
+    Backslash(char),
+    /// The value of the variable of this name.
+    Variable(P),
+    /// The value of an element of the array of this name, with its index.
+    Indexed(P, Vec<Part<P>>),
+    /// The result of a script in brackets.
+    Bracket(Script<P>),
+}
