@@ -13,11 +13,11 @@ use Rattle.tclexpr.specs.Tree.{Expr, operand, unary, choice, joined, Token, valu
 use Rattle.tclexpr.specs.Grammar.{level, sign_of, IsExpr, simple, choosing, IsChain, single, in_parentheses, signed, joining}
 use Rattle.tclexpr.specs.Marks.{after_white, mark_at}
 use Rattle.tclexpr.specs.Row.{IsToken, IsRow, IsExprText}
-use Rattle.tclexpr.specs.Faults.{NextIsNot, GoesOn}
+use Rattle.tclexpr.specs.Faults.{Follows, NextIsNot, GoesOn}
 use Rattle.tclexpr.specs.Reading.{Extent, whole, chain, is_close, is_colon, is_question, is_open, infix_of, expected, expect, Tall, signed_at, enclosed_at, marked_at, begun_at, prefix_at, join, next_at, going_at, climb_at, chain_at, branches_at, choosing_at, whole_at, extent_at, below_at, ended, expr_at}
 use Rattle.tclexpr.proofs.Results.{found_once, found_none, infix_once}
 use Rattle.tclexpr.proofs.Rows.{row_cut, row_shorter}
-use Rattle.tclexpr.proofs.Sound.{Follows, level_more, level_within, infix_is, question_is, true_false}
+use Rattle.tclexpr.proofs.Sound.{level_more, level_within, infix_is, question_is, true_false}
 
 pub lt_true : (a b : ℕ) → a < b → nat_lt a b ≡ true
 lt_true a b h = grind (arith, nat_tests)

@@ -16,7 +16,7 @@ use Rattle.tclexpr.specs.Tree.{Expr, operand, unary, choice, joined, Token, valu
 use Rattle.tclexpr.specs.Grammar.{operator_level, level, sign_of, IsExpr, simple, choosing, IsChain, single, in_parentheses, signed, joining}
 use Rattle.tclexpr.specs.Marks.{after_white, mark_at}
 use Rattle.tclexpr.specs.Row.{IsToken, IsRow, IsExprText}
-use Rattle.tclexpr.specs.Faults.{NextIsNot, GoesOn}
+use Rattle.tclexpr.specs.Faults.{NextIsNot, GoesOn, Follows}
 use Rattle.tclexpr.specs.Reading.{Extent, whole, chain, is_close, is_colon, is_question, is_open, infix_of, expected, expect, Tall, signed_at, enclosed_at, marked_at, begun_at, prefix_at, join, next_at, going_at, climb_at, chain_at, branches_at, choosing_at, whole_at, extent_at, below_at, ended, expr_at}
 use Rattle.tclexpr.proofs.Results.{bind_ok, ok_pair, read_map_ok, found_once, found_none, infix_once}
 use Rattle.tclexpr.proofs.Rows.{row_join, row_cut}
@@ -146,10 +146,6 @@ chain_weaker (single o) m le = single o
 chain_weaker (in_parentheses ts is) m le = in_parentheses ts is
 chain_weaker (signed u s is) m le = signed u s is
 chain_weaker (joining i ls rs within l r) m le = joining i ls rs (omega arith) l r
-
--- the next operator, if one comes, is of that level at least
-abbrev pub Follows : ℕ → Text → Type 0
-Follows n bs = (i : Infix) (rest : Text) → mark_at (after_white bs) ≡ Some (marks.Infix i, rest) → n ≤ level i
 
 module _ (O : Type 0) (IsOperand : Text → Text → O → ℕ → Type 0) where
   -- what was read, nested less deep than d

@@ -16,6 +16,10 @@ use Rattle.tclexpr.specs.Row.{IsRow}
 abbrev pub NextIsNot : (Mark → Type 0) → Text → Type 0
 NextIsNot Kind bs = (m : Mark) (rest : Text) → mark_at (after_white bs) ≡ Some (m, rest) → Kind m → ⊥
 
+-- the next operator between two operands, if one comes, is of that level at least
+abbrev pub Follows : ℕ → Text → Type 0
+Follows n bs = (i : Infix) (rest : Text) → mark_at (after_white bs) ≡ Some (marks.Infix i, rest) → n ≤ level i
+
 -- what an expression may go on with: an operator between two operands, or a question mark
 abbrev pub GoesOn : Mark → Type 0
 GoesOn (marks.Infix i) = Unit {0}

@@ -4,3 +4,5 @@ pub mod Marks
 pub mod Row
 pub mod Faults
 pub mod Reading
+pub mod Operands
+pub mod View

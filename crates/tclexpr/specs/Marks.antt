@@ -1,5 +1,5 @@
 -- White space and the marks of an expression.
-use Rattle.std.specs.Prelude.{ℕ, [], ◌∷◌, Bool, ◌||◌, ◌&&◌, ◌==◌, if◌then◌else◌, Option, Some, None}
+use Rattle.std.specs.Prelude.{ℕ, [], ◌∷◌, Bool, false, ◌||◌, ◌&&◌, ◌==◌, if◌then◌else◌, Option, Some, None}
 use Rattle.tclchars.specs.Runs.{Text, front, back, begins}
 use Rattle.tclchars.specs.Bytes.{is_space, newline, backslash}
 use Rattle.tclchars.specs.Classes.{is_name}
@@ -8,10 +8,15 @@ use Rattle.tclexpr.specs.declared.operators.Infix.TheVariants.{Operator, And, Or
 use Rattle.tclexpr.specs.declared.operators.Mark.{Mark}
 use Rattle.tclexpr.specs.declared.operators.Mark.TheVariants.{Open, Close, Question, Colon, Complement, Not, Infix}
 
--- what follows the white space at the front, in which a backslash and the newline behind it are one
+-- white space stands in front, or a backslash before a newline
+abbrev pub begins_white : Text → Bool
+begins_white [] = false
+begins_white (b ∷ bs) = is_space b || (b == backslash && begins newline bs)
+
+-- what follows the white space at the front
 unfoldable pub after_white : Text → Text
 after_white [] = []
-after_white (b ∷ bs) = if is_space b || (b == backslash && begins newline bs) then after_white bs else b ∷ bs
+after_white (b ∷ bs) = if begins_white (b ∷ bs) then after_white bs else b ∷ bs
 
 -- the operators of two bytes
 abbrev pub two_bytes : ℕ → ℕ → Option Mark

@@ -53,6 +53,15 @@ Tall O = Expr O × ℕ
 abbrev pub join : {O : Type 0} → Infix → Tall O → Tall O → Tall O
 join i x y = (joined i x.0 y.0, suc (max x.1 y.1))
 
+abbrev pub leaf_of : {O : Type 0} → O × ℕ → Tall O
+leaf_of o = (operand o.0, o.1)
+
+abbrev pub unary_of : {O : Type 0} → UnaryOperator → Tall O → Tall O
+unary_of u x = (unary u x.0, suc x.1)
+
+abbrev pub choice_of : {O : Type 0} → Tall O → Tall O → Tall O → Tall O
+choice_of c y n = (choice c.0 y.0 n.0, suc (max c.1 (max y.1 n.1)))
+
 -- nothing but white space may follow the whole
 abbrev pub ended : {O : Type 0} → Expr O → Text → Result (Expr O) Fault
 ended e [] = Ok e

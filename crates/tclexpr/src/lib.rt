@@ -2,7 +2,13 @@
 #![tactic(auto)]
 
 mod laws;
+mod marks;
+mod numbers;
+mod operand;
 mod operators;
+mod reading;
+mod tree;
 
 pub use laws::one_expression;
 pub use operators::{BinaryOperator, Infix, Mark, UnaryOperator};
+pub use tree::{Expr, Operand};
