@@ -1,7 +1,10 @@
 -- Ends of texts.
-use Rattle.std.proofs.Common.{◌≡◌, ℕ, ◌<◌, ◌≤◌, [], ◌∷◌, ◌++◌, length, refl, sym, ap, subst, ◌∙◌, arith, append_assoc, length-append}
+use Rattle.std.proofs.Common.{◌≡◌, ℕ, ◌<◌, ◌≤◌, ◌-◌, take, drop, append-nil, ap₂, [], ◌∷◌, ◌++◌, length, refl, sym, ap, subst, ◌∙◌, arith, append_assoc, length-append}
 use Rattle.tclchars.specs.Runs.{Text}
-use Rattle.tclscript.specs.Pieces.{IsEndOf}
+use Rattle.std.specs.Str.{IsUtf8, IsCharBoundary}
+use Rattle.std.proofs.lemmas.Str.{IsCharBoundary-at_seam, IsCharBoundary-from_take}
+use Rattle.std.proofs.Math.Seq.{take-append_seam, drop-append_seam}
+use Rattle.tclscript.specs.Pieces.{IsEndOf, IsFrontOf}
 
 pub end_same : (bs : Text) → IsEndOf bs bs
 end_same bs = ([], refl)
@@ -34,3 +37,22 @@ behind_through bs xs ys b e =
 pub end_mark : (bs : Text) (mark : ℕ) (rest : Text) → bs ≡ mark ∷ rest → IsEndOf bs rest
 end_mark bs mark rest is = (mark ∷ [], is)
 
+
+pub whole_same : (bs : Text) → IsFrontOf bs bs
+whole_same bs = ([], sym (append-nil bs))
+
+-- how long what stands before an end is
+pub end_length : (bs rest : Text) (e : IsEndOf bs rest) → length bs - length rest ≡ length e.0
+end_length bs rest e = omega (arith, ap length e.1, length-append e.0 rest)
+
+pub end_cut : (bs rest : Text) → IsUtf8 rest → IsEndOf bs rest → IsCharBoundary bs (length bs - length rest)
+end_cut bs rest u e = subst (λ (n : ℕ). IsCharBoundary bs n) (sym (end_length bs rest e)) (IsCharBoundary-at_seam bs e.0 rest e.1 u)
+
+pub end_drop : (bs rest : Text) → IsEndOf bs rest → drop (length bs - length rest) bs ≡ rest
+end_drop bs rest e = ap₂ (λ (n : ℕ) (xs : Text). drop n xs) (end_length bs rest e) e.1 ∙ drop-append_seam e.0 rest
+
+pub front_take : (bs piece : Text) → IsFrontOf bs piece → take (length piece) bs ≡ piece
+front_take bs piece f = ap (take (length piece)) f.1 ∙ take-append_seam piece f.0
+
+pub front_cut : (bs piece : Text) → IsUtf8 bs → IsUtf8 piece → IsFrontOf bs piece → IsCharBoundary bs (length piece)
+front_cut bs piece u v f = IsCharBoundary-from_take bs (length piece) u (omega (arith, ap length f.1, length-append piece f.0)) (subst IsUtf8 (sym (front_take bs piece f)) v)

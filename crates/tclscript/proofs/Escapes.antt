@@ -4,7 +4,7 @@ use Rattle.std.specs.Char.{digit_value}
 use Rattle.tclchars.specs.Bytes.{newline, is_continuation}
 use Rattle.tclchars.specs.Runs.{Text, front, back}
 use Rattle.tclchars.specs.Backslash.{is_octal, is_hexadecimal, is_blank_or_tab, digit_at, octal_on, octal_at, hexadecimal_on, hexadecimal_at, character, begins_hexadecimal, code_at, wide_code_at, letter_value, after_backslash}
-use Rattle.tclscript.specs.Pieces.{IsEndOf}
+use Rattle.tclscript.specs.Pieces.{IsEndOf, IsFrontOf}
 use Rattle.tclscript.proofs.Ends.{end_same, end_behind, end_through}
 
 -- a choice has what both sides have
@@ -15,6 +15,17 @@ either P false x y here there = there
 pub back_end : (p : ℕ → Bool) (bs : Text) → IsEndOf bs (back p bs)
 back_end p [] = end_same []
 back_end p (b ∷ bs) = either (IsEndOf (b ∷ bs)) (p b) (back p bs) (b ∷ bs) (end_behind b bs _ (back_end p bs)) (end_same (b ∷ bs))
+
+pub front_whole : (p : ℕ → Bool) (bs : Text) → bs ≡ front p bs ++ back p bs
+front_whole p [] = refl
+front_whole p (b ∷ bs) = go (front_whole p bs) (p b) where
+  go : bs ≡ front p bs ++ back p bs → (t : Bool) → b ∷ bs ≡ (if t then b ∷ front p bs else []) ++ (if t then back p bs else b ∷ bs)
+  go more true = ap (λ xs. b ∷ xs) more
+  go more false = refl
+
+-- a run at the front
+pub run_front : (p : ℕ → Bool) (bs run : Text) → run ≡ front p bs → IsFrontOf bs run
+run_front p bs run is = (back p bs, front_whole p bs ∙ ap (λ xs. xs ++ back p bs) (sym is))
 
 -- what follows, if anything was read
 abbrev pub LeavesSome : {A : Type 0} → (Text → Type 0) → Option (A × Text) → Type 0

@@ -6,3 +6,14 @@ pub mod Readers
 pub mod Scans
 pub mod Going
 pub mod Loops
+pub mod PassedOver
+pub mod Names
+pub mod Exact
+pub mod Marks
+pub mod Dollars
+pub mod PartsExact
+pub mod PartFaults
+pub mod WordsExact
+pub mod ScriptExact
+pub mod Whole
+pub mod Examples

@@ -5,3 +5,5 @@ pub mod Pieces
 pub mod Reading
 pub mod View
 pub mod Text
+pub mod Grammar
+pub mod Faults

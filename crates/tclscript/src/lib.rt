@@ -2,6 +2,7 @@
 #![tactic(auto)]
 
 mod context;
+mod laws;
 mod piece;
 mod reading;
 mod runs;
@@ -10,6 +11,7 @@ mod tree;
 #[cfg(test)]
 mod tests;
 
+pub use laws::{one_fault, one_script, script_of_grammar};
 pub use piece::{ByteRange, Source};
 pub use text::{MAX_BYTES, MAX_NESTING, parse_pieces, parse_script};
 pub use tree::{Command, Part, Script, Word};

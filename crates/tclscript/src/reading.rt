@@ -42,6 +42,7 @@ fn left_with_mark(behind: &str) -> usize
 }
 
 // What follows the mark {*}, unless a word ends there.
+#[tactic(auto, unfolding(crate::specs::Reading::after_expansion))]
 fn after_expansion(text: &str, nested: bool) -> Option<&str>
     ensures { option_map (λ rest. rest.now) result ≡ after_expansion nested text.now }
 {
@@ -81,6 +82,7 @@ fn plain_variable<'a, S: Source<P>, P: Drop>(source: &S, text: &'a str, behind: 
 }
 
 // Behind a backslash, which stands in front of the text; at the text's end it is itself.
+#[tactic(auto, unfolding(crate::specs::Reading::backslash_at))]
 fn read_escape<'a, S: Source<P>, P: Drop>(source: &S, text: &'a str, behind: &'a str) -> Result<(Part<P>, &'a str), ReadError>
     requires text { IsEndOf (S.text source.now) text.now }
     requires mark { text.now ≡ 92 ∷ behind.now }
@@ -99,6 +101,7 @@ fn read_escape<'a, S: Source<P>, P: Drop>(source: &S, text: &'a str, behind: &'a
 }
 
 // Behind the brace of a name.
+#[tactic(auto, unfolding(crate::specs::Reading::braced_name_at))]
 fn read_braced_name<'a, S: Source<P>, P: Drop>(source: &S, text: &'a str) -> Result<(Part<P>, &'a str), ReadError>
     requires { IsEndOf (S.text source.now) text.now }
     ensures { Gives (λ x. (part_view (S.shown source.now) x.0, x.1.now)) result (braced_name_at text.now) }
@@ -109,6 +112,7 @@ fn read_braced_name<'a, S: Source<P>, P: Drop>(source: &S, text: &'a str) -> Res
 }
 
 // A word in braces, behind its first brace.
+#[tactic(auto, unfolding(crate::specs::Reading::braced_word_at))]
 fn read_braced<'a, S: Source<P>, P: Drop>(
     alloc: Global,
     source: &S,

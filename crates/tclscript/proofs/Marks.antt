@@ -1,0 +1,137 @@
+-- Marks, runs of bytes, and the ends of what the grammar has.
+use Rattle.std.proofs.Common.{◌≡◌, ◌≢◌, ℕ, zero, suc, ◌+◌, ◌<◌, ◌≤◌, List, [], ◌∷◌, ◌++◌, length, Bool, true, false, not, ◌||◌, ◌&&◌, ◌==◌, Result, Ok, Err, refl, sym, ap, ap₂, subst, ◌∙◌, arith, append_assoc, append-nil, length-append, ◌⊎◌, inl, inr}
+use Rattle.std.proofs.lemmas.Bool.Decides.{nat_tests}
+use Rattle.tclchars.specs.Runs.{Text, front, back, begins}
+use Rattle.tclchars.specs.Bytes.{newline, hash, backslash, is_blank, is_gap, AllPass, MayBegin, DoesBegin}
+use Rattle.tclchars.specs.declared.fault.Fault.{Fault}
+use Rattle.tclscript.specs.declared.context.Context.{Context}
+use Rattle.tclscript.specs.declared.context.Context.TheVariants.{InScript, InBracket, InIndex, InQuotes}
+use Rattle.tclscript.specs.Reading.{on_mark, closed, ended}
+use Rattle.tclscript.specs.Ends.{stands_before, word_ends, parts_end}
+use Rattle.tclchars.specs.declared.fault.Fault.TheVariants.{JoinedToClose}
+
+pub true_false : false ≡ true → ⊥
+true_false h = cc
+
+pub not_true : (b : Bool) → not b ≡ true → b ≡ false
+not_true true h = cc
+not_true false h = refl
+
+-- whether a text begins with the mark
+abbrev pub Without : ℕ → Text → Type 0
+Without mark bs = MayBegin (λ b. not (b == mark)) bs
+
+byte_at : (mark b : ℕ) (bs : Text) (t : Bool) → (b == mark) ≡ t → ((rest : Text) × (b ∷ bs ≡ mark ∷ rest)) ⊎ Without mark (b ∷ bs)
+byte_at mark b bs true h = inl (bs, ap (λ x. x ∷ bs) (is_byte b mark h)) where
+  is_byte : (b c : ℕ) → (b == c) ≡ true → b ≡ c
+  is_byte b c h = grind (arith, nat_tests)
+byte_at mark b bs false h = inr (ap not h)
+
+pub mark_at : (mark : ℕ) (bs : Text) → ((rest : Text) × (bs ≡ mark ∷ rest)) ⊎ Without mark bs
+mark_at mark [] = inr tt
+mark_at mark (b ∷ bs) = byte_at mark b bs (b == mark) refl
+
+same_byte : (b : ℕ) → (b == b) ≡ true
+same_byte b = grind (arith, nat_tests)
+
+pub on_mark-at : {A : Type 0} (mark : ℕ) (bs rest : Text) (f : Text → A) (other : A) → bs ≡ mark ∷ rest → on_mark mark bs f other ≡ f rest
+on_mark-at mark bs rest f other h = ap (λ xs. on_mark mark xs f other) h ∙ rw (same_byte mark) refl
+
+pub on_mark-not : {A : Type 0} (mark : ℕ) (bs : Text) (f : Text → A) (other : A) → Without mark bs → on_mark mark bs f other ≡ other
+on_mark-not mark [] f other h = refl
+on_mark-not mark (b ∷ bs) f other h = rw (not_true (b == mark) h) refl
+
+pub closed_ok : (mark : ℕ) (fault : Fault) (bs rest : Text) → closed mark fault bs ≡ Ok rest → bs ≡ mark ∷ rest
+closed_ok mark fault bs rest h = elim (mark_at mark bs) [
+  inl k ↦ (
+    let e : (let ok : Result Text Fault = Ok k.0 in ok) ≡ Ok rest = sym (on_mark-at mark bs k.0 (λ rest. Ok rest) (Err fault) k.1) ∙ h in
+    let same : k.0 ≡ rest = cc in
+    k.1 ∙ ap (λ xs. mark ∷ xs) same
+  )
+  | inr k ↦ (
+    let e : (let err : Result Text Fault = Err fault in err) ≡ Ok rest = sym (on_mark-not mark bs (λ rest. Ok rest) (Err fault) k) ∙ h in
+    absurd (apart e)
+  )
+] where
+  apart : (let err : Result Text Fault = Err fault in err) ≡ Ok rest → ⊥
+  apart e = cc
+
+pub closed_err : (mark : ℕ) (fault : Fault) (bs : Text) (f : Fault) → closed mark fault bs ≡ Err f → (fault ≡ f) × Without mark bs
+closed_err mark fault bs f h = elim (mark_at mark bs) [
+  inl k ↦ absurd (apart k.0 (sym (on_mark-at mark bs k.0 (λ rest. Ok rest) (Err fault) k.1) ∙ h))
+  | inr k ↦ (
+    let e : (let err : Result Text Fault = Err fault in err) ≡ Err f = sym (on_mark-not mark bs (λ rest. Ok rest) (Err fault) k) ∙ h in
+    (same e, k)
+  )
+] where
+  apart : (rest : Text) → (let ok : Result Text Fault = Ok rest in ok) ≡ Err f → ⊥
+  apart rest e = cc
+
+  same : (let err : Result Text Fault = Err fault in err) ≡ Err f → fault ≡ f
+  same e = cc
+
+pub closed-at : (mark : ℕ) (fault : Fault) (rest : Text) → closed mark fault (mark ∷ rest) ≡ Ok rest
+closed-at mark fault rest = on_mark-at mark (mark ∷ rest) rest (λ rest. Ok rest) (Err fault) refl
+
+-- what stands before a mark, or nothing
+pub none_before : (mark : ℕ) (bs : Text) → stands_before mark bs ≡ true → Without mark bs → bs ≡ []
+none_before mark [] h k = refl
+none_before mark (b ∷ bs) h k = absurd (true_false (sym (not_true (b == mark) k) ∙ h))
+
+-- where a word ends
+abbrev ended_by : Bool → Text → Result Text Fault
+ended_by t bs = elim t as (λ t. Result Text Fault) [ true ↦ Ok bs | false ↦ Err (JoinedToClose (length bs)) ]
+
+ended_cases : (nested : Bool) (bs : Text) (t : Bool) → word_ends nested bs ≡ t → (t ≡ true) × (ended nested bs ≡ Ok bs) ⊎ (t ≡ false) × (ended nested bs ≡ Err (JoinedToClose (length bs)))
+ended_cases nested bs true h = inl (refl, rw h refl)
+ended_cases nested bs false h = inr (refl, rw h refl)
+
+pub ended_ok : (nested : Bool) (bs rest : Text) → ended nested bs ≡ Ok rest → (bs ≡ rest) × (word_ends nested bs ≡ true)
+ended_ok nested bs rest h = elim (ended_cases nested bs (word_ends nested bs) refl) [
+  inl k ↦ (same (sym k.1 ∙ h), k.0)
+  | inr k ↦ absurd (apart (sym k.1 ∙ h))
+] where
+  same : (let ok : Result Text Fault = Ok bs in ok) ≡ Ok rest → bs ≡ rest
+  same e = cc
+
+  apart : (let err : Result Text Fault = Err (JoinedToClose (length bs)) in err) ≡ Ok rest → ⊥
+  apart e = cc
+
+pub ended_err : (nested : Bool) (bs : Text) (f : Fault) → ended nested bs ≡ Err f → (JoinedToClose (length bs) ≡ f) × (word_ends nested bs ≡ false)
+ended_err nested bs f h = elim (ended_cases nested bs (word_ends nested bs) refl) [
+  inl k ↦ absurd (apart (sym k.1 ∙ h))
+  | inr k ↦ (same (sym k.1 ∙ h), k.0)
+] where
+  same : (let err : Result Text Fault = Err (JoinedToClose (length bs)) in err) ≡ Err f → JoinedToClose (length bs) ≡ f
+  same e = cc
+
+  apart : (let ok : Result Text Fault = Ok bs in ok) ≡ Err f → ⊥
+  apart e = cc
+
+pub ended-at : (nested : Bool) (bs : Text) → word_ends nested bs ≡ true → ended nested bs ≡ Ok bs
+ended-at nested bs h = rw h refl
+
+pub ended-not : (nested : Bool) (bs : Text) → word_ends nested bs ≡ false → ended nested bs ≡ Err (JoinedToClose (length bs))
+ended-not nested bs h = rw h refl
+
+-- Runs
+
+run_cons : (p : ℕ → Bool) (b : ℕ) (bs : Text) (t : Bool) → p b ≡ t → (bs ≡ front p bs ++ back p bs) × AllPass p (front p bs) × MayBegin (λ b. not (p b)) (back p bs)
+    → (b ∷ bs ≡ front p (b ∷ bs) ++ back p (b ∷ bs)) × AllPass p (front p (b ∷ bs)) × MayBegin (λ b. not (p b)) (back p (b ∷ bs))
+run_cons p b bs true t so = rw t (ap (λ xs. b ∷ xs) so.0, (t, so.1), so.2)
+run_cons p b bs false t so = rw t (refl, tt, ap not t)
+
+-- a run, what follows it, and that it is the longest
+pub run_taken : (p : ℕ → Bool) (bs : Text) → (bs ≡ front p bs ++ back p bs) × AllPass p (front p bs) × MayBegin (λ b. not (p b)) (back p bs)
+run_taken p [] = (refl, tt, tt)
+run_taken p (b ∷ bs) = run_cons p b bs (p b) refl (run_taken p bs)
+
+pub front_run : (p : ℕ → Bool) (xs r : Text) → AllPass p xs → MayBegin (λ b. not (p b)) r → front p (xs ++ r) ≡ xs
+front_run p [] [] all stop = refl
+front_run p [] (b ∷ r) all stop = rw (not_true (p b) stop) refl
+front_run p (x ∷ xs) r all stop = rw (all.0) (ap (λ ys. x ∷ ys) (front_run p xs r all.1 stop))
+
+pub back_run : (p : ℕ → Bool) (xs r : Text) → AllPass p xs → MayBegin (λ b. not (p b)) r → back p (xs ++ r) ≡ r
+back_run p [] [] all stop = refl
+back_run p [] (b ∷ r) all stop = rw (not_true (p b) stop) refl
+back_run p (x ∷ xs) r all stop = rw (all.0) (back_run p xs r all.1 stop)

@@ -1,0 +1,339 @@
+-- Commands and scripts are read exactly.
+use Rattle.std.proofs.Common.{◌≡◌, ◌≢◌, ℕ, zero, suc, ◌+◌, ◌-◌, ◌<◌, ◌≤◌, max, List, [], ◌∷◌, ◌++◌, length, take, Bool, true, false, not, ◌||◌, ◌&&◌, ◌==◌, Option, Some, None, Result, Ok, Err, refl, sym, ap, ap₂, subst, ◌∙◌, arith, append_assoc, append-nil, length-append, ◌⊎◌, inl, inr}
+use Rattle.std.proofs.lemmas.Bool.Decides.{nat_tests}
+use Rattle.std.proofs.Math.Seq.{take-append_seam}
+use Rattle.tclchars.specs.Runs.{Text, begins}
+use Rattle.tclchars.specs.Bytes.{newline, hash, backslash, is_blank, is_end, is_gap, MayBegin, DoesBegin}
+use Rattle.tclchars.specs.Reading.{◌>>=◌, Read, read_map, items_at}
+use Rattle.tclchars.specs.declared.fault.Fault.{Fault}
+use Rattle.tclscript.specs.declared.runs.Passing.TheVariants.{Blanks, Gap}
+use Rattle.tclscript.specs.Tree.{Commands, no_commands, command, Words, no_words, word, Word, words_of, commands_of, nesting, words_nesting, word_nesting}
+use Rattle.tclscript.specs.Ends.{script_ends, command_ends, word_ends}
+use Rattle.tclscript.specs.Passing.{pass, skip_blanks, skip_gap}
+use Rattle.tclscript.specs.Grammar.{IsBlanks, IsGap, IsCommands, IsCommand, IsWords, IsWord}
+use Rattle.tclscript.specs.Faults as faults
+use Rattle.tclscript.specs.Faults.{CommandsFault, CommandFault, WordsFault, WordFault}
+use Rattle.tclscript.specs.Reading.{Inner, word_at, taken, words_at, command_at, script_with}
+use Rattle.tclscript.proofs.PassedOver.{pass_whole, begins_line, NoBlank, blanks_taken, blanks_over, blanks_stay, NoGap, gap_taken, gap_over, gap_stay}
+use Rattle.tclscript.proofs.Exact.{Took, Exact, bind_ok, bind_err, ok_pair, read_map_ok, read_map_err, ok_err, some_less, Items, items-end, items-more, items-fail, items_sound, items_faulty}
+use Rattle.tclscript.proofs.Marks.{true_false, not_true}
+use Rattle.tclscript.proofs.Dollars.{Anywhere, IsExactInner}
+use Rattle.tclscript.proofs.PartsExact.{commands_close}
+use Rattle.tclscript.proofs.WordsExact.{WordGoesOn, WordIs, word_exact, word_goes_on, word_fault_goes_on, word_some}
+
+-- What follows blanks and gaps
+
+word_here : (nested : Bool) (b : ℕ) (bs : Text) → is_blank b ≡ false → begins_line b bs ≡ false → (is_end b || (nested && b == 93)) ≡ false → word_ends nested (b ∷ bs) ≡ false
+word_here true b bs h k l = grind (arith, nat_tests)
+word_here false b bs h k l = grind (arith, nat_tests)
+
+words_begin : (nested : Bool) (bs : Text) → NoBlank bs → command_ends nested bs ≡ false → word_ends nested bs ≡ false
+words_begin nested [] h k = absurd (true_false (sym k))
+words_begin nested (b ∷ bs) h k = word_here nested b bs h.0 h.1 k
+
+no_blank_byte : (nested : Bool) (b : ℕ) (bs : Text) → word_ends nested (b ∷ bs) ≡ false → (is_blank b ≡ false) × (begins_line b bs ≡ false) × ((is_end b || (nested && b == 93)) ≡ false)
+no_blank_byte true b bs h = (grind (arith, nat_tests), grind (arith, nat_tests), grind (arith, nat_tests))
+no_blank_byte false b bs h = (grind (arith, nat_tests), grind (arith, nat_tests), grind (arith, nat_tests))
+
+no_blank : (nested : Bool) (bs : Text) → word_ends nested bs ≡ false → NoBlank bs × (command_ends nested bs ≡ false)
+no_blank nested [] h = absurd (true_false (sym h))
+no_blank nested (b ∷ bs) h = let k = no_blank_byte nested b bs h in ((k.0, k.1), k.2)
+
+end_byte : (nested : Bool) (b : ℕ) (bs : Text) → (is_end b || (nested && b == 93)) ≡ true → (is_blank b ≡ false) × (begins_line b bs ≡ false)
+end_byte true b bs h = (grind (arith, nat_tests), grind (arith, nat_tests))
+end_byte false b bs h = (grind (arith, nat_tests), grind (arith, nat_tests))
+
+no_blank_at_end : (nested : Bool) (r : Text) → command_ends nested r ≡ true → NoBlank r
+no_blank_at_end nested [] h = tt
+no_blank_at_end nested (b ∷ r) h = end_byte nested b r h
+
+abbrev pub NoComment : Text → Type 0
+NoComment bs = DoesBegin (λ b. not (b == hash)) bs
+
+command_here : (nested : Bool) (b : ℕ) (bs : Text) → (is_gap b || begins_line b bs) ≡ false → (nested && b == 93) ≡ false → word_ends nested (b ∷ bs) ≡ false
+command_here true b bs h k = grind (arith, nat_tests)
+command_here false b bs h k = grind (arith, nat_tests)
+
+commands_begin : (nested : Bool) (bs : Text) → NoGap bs → script_ends nested bs ≡ false → (word_ends nested bs ≡ false) × NoComment bs
+commands_begin nested [] h k = absurd (true_false (sym k))
+commands_begin nested (b ∷ bs) h k = (command_here nested b bs h.0 k, ap not h.1)
+
+no_gap_byte : (nested : Bool) (b : ℕ) (bs : Text) → word_ends nested (b ∷ bs) ≡ false → ((is_gap b || begins_line b bs) ≡ false) × ((nested && b == 93) ≡ false)
+no_gap_byte true b bs h = (grind (arith, nat_tests), grind (arith, nat_tests))
+no_gap_byte false b bs h = (grind (arith, nat_tests), refl)
+
+no_gap : (nested : Bool) (bs : Text) → word_ends nested bs ≡ false → NoComment bs → NoGap bs × (script_ends nested bs ≡ false)
+no_gap nested [] h k = absurd k
+no_gap nested (b ∷ bs) h k = let z = no_gap_byte nested b bs h in ((z.0, not_true (b == hash) k), z.1)
+
+close_byte : (nested : Bool) (b : ℕ) (bs : Text) → (nested && b == 93) ≡ true → ((is_gap b || begins_line b bs) ≡ false) × ((b == hash) ≡ false)
+close_byte true b bs h = (grind (arith, nat_tests), grind (arith, nat_tests))
+close_byte false b bs h = absurd (true_false h)
+
+no_gap_at_end : (nested : Bool) (r : Text) → script_ends nested r ≡ true → NoGap r
+no_gap_at_end nested [] h = tt
+no_gap_at_end nested (b ∷ r) h = close_byte nested b r h
+
+-- the source of what was taken
+taken_is : (t r : Text) → taken (t ++ r) r ≡ t
+taken_is t r = let n : length (t ++ r) - length r ≡ length t = omega (arith, length-append t r) in ap (λ n. take n (t ++ r)) n ∙ take-append_seam t r
+
+begun : (t r : Text) → NoComment (t ++ r) → 0 < length t → NoComment t
+begun [] r h less = absurd (omega arith)
+begun (b ∷ t) r h less = h
+
+more_begun : (t r : Text) → NoComment t → NoComment (t ++ r)
+more_begun [] r h = absurd h
+more_begun (b ∷ t) r h = h
+
+front_some : (t r : Text) → NoComment t → 0 < length t
+front_some [] r h = absurd h
+front_some (b ∷ t) r h = omega arith
+
+module _ (d : ℕ) (inner : Inner) (exact : IsExactInner d inner) (nested : Bool) where
+  abbrev Goes : Text → Type 0
+  Goes = WordGoesOn d inner exact nested
+
+  abbrev TheWord : Word → Text → Text → Type 0
+  TheWord = WordIs d inner exact nested
+
+  -- More words of a command
+
+  abbrev IsBlanksBefore : Text → Text → Type 0
+  IsBlanksBefore gap start = IsBlanks gap
+
+  word_items : Items skip_blanks (command_ends nested) (word_at nested inner) IsBlanksBefore Goes TheWord (WordFault d nested)
+  word_items = record {
+    exact = word_exact d inner exact nested;
+    skips = λ bs. ((pass Blanks bs).0, pass_whole Blanks bs, (blanks_taken bs).0);
+    over = λ gap start h. blanks_over h start;
+    begins = λ bs h. words_begin nested (skip_blanks bs) (blanks_taken bs).1 h;
+    stays = λ start h. (let k = no_blank nested start h in (blanks_stay start k.0, k.1));
+    stops = λ r h. blanks_stay r (no_blank_at_end nested r h);
+    good = λ w t r h. word_goes_on nested w t r h.0;
+    bad = λ bs f h. word_fault_goes_on h;
+    some = λ w t r h. word_some nested w t r h.0;
+  }
+
+  abbrev pub WordsAre : Words → Text → Text → Type 0
+  WordsAre ws t r = IsWords nested ws t r × (words_nesting ws ≤ d)
+
+  abbrev read : ℕ → Text → Read (List Word)
+  read n bs = items_at skip_blanks (command_ends nested) (word_at nested inner) n bs
+
+  nil : (gap r : Text) → IsBlanksBefore gap r → command_ends nested r ≡ true → WordsAre (words_of []) gap r
+  nil gap r h e = ((h, e), omega arith)
+
+  cons : (gap body rest r : Text) (w : Word) (ws : List Word) → IsBlanksBefore gap ((body ++ rest) ++ r) → TheWord w body (rest ++ r) → WordsAre (words_of ws) rest r → WordsAre (words_of (w ∷ ws)) (gap ++ (body ++ rest)) r
+  cons gap body rest r w ws h k l = (
+    record { first = gap; second = body ++ rest; whole = refl; is_first = h; is_second = record { first = body; second = rest; whole = refl; is_first = k.0; is_second = l.0 } },
+    omega (arith, k.1, l.1),
+  )
+
+  here : (gap body : Text) (f : Fault) → IsBlanksBefore gap body → WordFault d nested body f → WordsFault d nested (gap ++ body) f
+  here gap body f h k = faults.WordsFault.next_word gap h k
+
+  later : (gap body rest : Text) (w : Word) (f : Fault) → IsBlanksBefore gap (body ++ rest) → TheWord w body rest → WordsFault d nested rest f → WordsFault d nested (gap ++ (body ++ rest)) f
+  later gap body rest w f h k l = faults.WordsFault.word_after gap body w h k.0 k.1 l
+
+  words_sound : (bs : Text) (ws : List Word) (r : Text) → words_at nested inner bs ≡ Ok (ws, r) → Took (λ ws t r. WordsAre (words_of ws) t r) bs ws r
+  words_sound bs ws r h = items_sound skip_blanks (command_ends nested) (word_at nested inner) IsBlanksBefore Goes TheWord (WordFault d nested) word_items (λ ws t r. WordsAre (words_of ws) t r) nil cons (suc (length bs)) bs ws r h
+
+  words_faulty : (bs : Text) (f : Fault) → words_at nested inner bs ≡ Err f → WordsFault d nested bs f
+  words_faulty bs f h = items_faulty skip_blanks (command_ends nested) (word_at nested inner) IsBlanksBefore Goes TheWord (WordFault d nested) word_items (WordsFault d nested) here later (suc (length bs)) bs f (omega arith) h
+
+  words_list : (ws : Words) (t r : Text) (n : ℕ) → IsWords nested ws t r → words_nesting ws ≤ d → length (t ++ r) < n → (xs : List Word) × (read n (t ++ r) ≡ Ok (xs, r)) × (words_of xs ≡ ws)
+  words_list ws t r zero h deep less = absurd (omega arith)
+  words_list no_words t r (suc n) h deep less = ([], items-end skip_blanks (command_ends nested) (word_at nested inner) IsBlanksBefore Goes TheWord (WordFault d nested) word_items n t r h.0 h.1, refl)
+  words_list (word w ws) t r (suc n) h deep less =
+      let gap = h.first in
+      let body = h.is_second.first in
+      let rest = h.is_second.second in
+      let is : TheWord w body (rest ++ r) = (h.is_second.is_first, omega (arith, deep)) in
+      let whole : t ++ r ≡ gap ++ (body ++ (rest ++ r)) = ap (λ xs. xs ++ r) (h.whole ∙ ap (λ xs. gap ++ xs) h.is_second.whole) ∙ append_assoc gap (body ++ rest) r ∙ ap (λ xs. gap ++ xs) (append_assoc body rest r) in
+      let some = word_some nested w body (rest ++ r) h.is_second.is_first in
+      let k = words_list ws rest r n h.is_second.is_second (omega (arith, deep)) (omega (arith, ap length whole, length-append gap (body ++ (rest ++ r)), length-append body (rest ++ r))) in
+      (
+        w ∷ k.0,
+        ap (read (suc n)) whole ∙ items-more skip_blanks (command_ends nested) (word_at nested inner) IsBlanksBefore Goes TheWord (WordFault d nested) word_items n gap body (rest ++ r) w h.is_first is ∙ ap (read_map (λ xs. w ∷ xs)) k.1,
+        ap (word w) k.2,
+      )
+
+  words_met : {bs : Text} {f : Fault} → WordsFault d nested bs f → (n : ℕ) → length bs < n → read n bs ≡ Err f
+  words_met h zero less = absurd (omega arith)
+  words_met (faults.WordsFault.next_word gap {body = body} {f = f} h k) (suc n) less = items-fail skip_blanks (command_ends nested) (word_at nested inner) IsBlanksBefore Goes TheWord (WordFault d nested) word_items n gap body f h k
+  words_met (faults.WordsFault.word_after gap body w {rest = rest} {f = f} h k deep l) (suc n) less =
+      let some = word_some nested w body rest k in
+      items-more skip_blanks (command_ends nested) (word_at nested inner) IsBlanksBefore Goes TheWord (WordFault d nested) word_items n gap body rest w h (k, deep)
+      ∙ ap (read_map (λ xs. w ∷ xs)) (words_met l n (omega (arith, length-append gap (body ++ rest), length-append body rest)))
+
+  -- A command
+
+  abbrev pub CommandIs : Text × Words → Text → Text → Type 0
+  CommandIs c t r = NoComment t × IsCommand nested c.0 c.1 t r × (words_nesting c.1 ≤ d)
+
+  abbrev CommandGoesOn : Text → Type 0
+  CommandGoesOn bs = Goes bs × NoComment bs
+
+  abbrev CommandBad : Text → Fault → Type 0
+  CommandBad bs f = CommandFault d nested bs f × NoComment bs
+
+  abbrev more_words : Text → Word × Text → Read (Text × Words)
+  more_words bs w = read_map (λ ws. (taken bs w.1, word w.0 (words_of ws))) (words_at nested inner w.1)
+
+  command_sound : (bs : Text) (c : Text × Words) (r : Text) → CommandGoesOn bs → command_at nested inner bs ≡ Ok (c, r) → Took CommandIs bs c r
+  unfolding command_at
+  command_sound bs c r b h =
+      let x = bind_ok (word_at nested inner bs) (more_words bs) (c, r) h in
+      let y = read_map_ok (λ ws. (taken bs x.0.1, word x.0.0 (words_of ws))) (words_at nested inner x.0.1) c r x.2 in
+      let w = (word_exact d inner exact nested).sound bs x.0.0 x.0.1 b.0 x.1 in
+      let m = words_sound x.0.1 y.0 r y.1 in
+      let whole : bs ≡ (w.taken ++ m.taken) ++ r = w.whole ∙ ap (λ ys. w.taken ++ ys) m.whole ∙ sym (append_assoc w.taken m.taken r) in
+      let some = word_some nested x.0.0 w.taken x.0.1 w.is.0 in
+      let source : taken bs x.0.1 ≡ w.taken = ap (λ xs. taken xs x.0.1) w.whole ∙ taken_is w.taken x.0.1 in
+      let made : Took CommandIs bs (w.taken, word x.0.0 (words_of y.0)) r = record {
+        taken = w.taken ++ m.taken;
+        whole = whole;
+        is = (
+          more_begun w.taken m.taken (begun w.taken x.0.1 (subst NoComment w.whole b.1) some),
+          (m.taken, refl, subst (λ ys. IsWord nested x.0.0 w.taken ys) m.whole w.is.0, m.is.0),
+          omega (arith, w.is.1, m.is.1),
+        );
+      } in
+      subst (λ c. Took CommandIs bs c r) (ap (λ s. (s, word x.0.0 (words_of y.0))) (sym source) ∙ y.2) made
+
+  command_faulty : (bs : Text) (f : Fault) → CommandGoesOn bs → command_at nested inner bs ≡ Err f → CommandBad bs f
+  unfolding command_at
+  command_faulty bs f b h = elim (bind_err (word_at nested inner bs) (more_words bs) f h) [
+    inl bad ↦ (faults.CommandFault.first_word ((word_exact d inner exact nested).faulty bs f b.0 bad), b.1)
+    | inr k ↦ (
+      let w = (word_exact d inner exact nested).sound bs k.0.0 k.0.1 b.0 k.1 in
+      let bad = words_faulty k.0.1 f (read_map_err (λ ws. (taken bs k.0.1, word k.0.0 (words_of ws))) (words_at nested inner k.0.1) f k.2) in
+      (subst (λ xs. CommandFault d nested xs f) (sym w.whole) (faults.CommandFault.later_word w.taken k.0.0 w.is.0 w.is.1 bad), b.1)
+    )
+  ]
+
+  command_again : (c : Text × Words) (t r : Text) → CommandIs c t r → command_at nested inner (t ++ r) ≡ Ok (c, r)
+  unfolding command_at
+  command_again (source, no_words) t r h = absurd h.1
+  command_again (source, word w ws) t r h =
+      let rest = h.1.0 in
+      let whole : t ++ r ≡ source ++ (rest ++ r) = ap (λ xs. xs ++ r) h.1.1 ∙ append_assoc source rest r in
+      let first = (word_exact d inner exact nested).again w source (rest ++ r) (h.1.2, omega (arith, h.2)) in
+      let k = words_list ws rest r (suc (length (rest ++ r))) h.1.3 (omega (arith, h.2)) (omega arith) in
+      ap (λ (xs : Text). word_at nested inner xs >>= more_words xs) whole
+      ∙ ap (λ (x : Read Word). x >>= more_words (source ++ (rest ++ r))) first
+      ∙ ap (read_map (λ ws. (taken (source ++ (rest ++ r)) (rest ++ r), word w (words_of ws)))) k.1
+      ∙ ap₂ (λ (s : Text) (ws : Words). let found : Read (Text × Words) = Ok ((s, word w ws), r) in found) (taken_is source (rest ++ r)) k.2
+
+  command_met : (bs : Text) (f : Fault) → CommandFault d nested bs f → command_at nested inner bs ≡ Err f
+  unfolding command_at
+  command_met bs f (faults.CommandFault.first_word h) = ap (λ (x : Read Word). x >>= more_words bs) ((word_exact d inner exact nested).met bs f h)
+  command_met _ f (faults.CommandFault.later_word body w {rest = rest} h deep l) =
+      ap (λ (x : Read Word). x >>= more_words (body ++ rest)) ((word_exact d inner exact nested).again w body rest (h, deep))
+      ∙ ap (read_map (λ ws. (taken (body ++ rest) rest, word w (words_of ws)))) (words_met l (suc (length rest)) (omega arith))
+
+  command_exact : Exact (command_at nested inner) CommandGoesOn CommandIs CommandBad
+  command_exact = record { sound = command_sound; again = command_again; faulty = command_faulty; met = λ bs f h. command_met bs f h.0 }
+
+  -- Commands
+
+  command_goes_on : (c : Text × Words) (t r : Text) → CommandIs c t r → CommandGoesOn (t ++ r)
+  command_goes_on (source, no_words) t r h = absurd h.1
+  command_goes_on (source, word w ws) t r h = (
+    ap (word_ends nested) (ap (λ xs. xs ++ r) h.1.1 ∙ append_assoc source h.1.0 r) ∙ word_goes_on nested w source (h.1.0 ++ r) h.1.2,
+    more_begun t r h.0,
+  )
+
+  fault_goes_on : {bs : Text} {f : Fault} → CommandFault d nested bs f → word_ends nested bs ≡ false
+  fault_goes_on (faults.CommandFault.first_word h) = word_fault_goes_on h
+  fault_goes_on (faults.CommandFault.later_word body w {rest = rest} h deep l) = word_goes_on nested w body rest h
+
+  command_items : Items skip_gap (script_ends nested) (command_at nested inner) IsGap CommandGoesOn CommandIs CommandBad
+  command_items = record {
+    exact = command_exact;
+    skips = λ bs. ((pass Gap bs).0, pass_whole Gap bs, (gap_taken bs).0);
+    over = λ gap start h. gap_over h;
+    begins = λ bs h. commands_begin nested (skip_gap bs) (gap_taken bs).1 h;
+    stays = λ start h. (let k = no_gap nested start h.0 h.1 in (gap_stay start k.0, k.1));
+    stops = λ r h. gap_stay r (no_gap_at_end nested r h);
+    good = command_goes_on;
+    bad = λ bs f h. (fault_goes_on h.0, h.1);
+    some = λ c t r h. front_some t r h.0;
+  }
+
+  abbrev pub CommandsAre : Commands → Text → Text → Type 0
+  CommandsAre s t r = IsCommands nested s t r × (nesting s ≤ d)
+
+  abbrev read_commands : ℕ → Text → Read (List (Text × Words))
+  read_commands n bs = items_at skip_gap (script_ends nested) (command_at nested inner) n bs
+
+  commands_nil : (gap r : Text) → IsGap gap r → script_ends nested r ≡ true → CommandsAre (commands_of []) gap r
+  commands_nil gap r h e = ((h, e), omega arith)
+
+  commands_cons : (gap body rest r : Text) (c : Text × Words) (cs : List (Text × Words)) → IsGap gap ((body ++ rest) ++ r) → CommandIs c body (rest ++ r) → CommandsAre (commands_of cs) rest r
+      → CommandsAre (commands_of (c ∷ cs)) (gap ++ (body ++ rest)) r
+  commands_cons gap body rest r c cs h k l = (
+    record { first = gap; second = body ++ rest; whole = refl; is_first = h; is_second = record { first = body; second = rest; whole = refl; is_first = (k.0, k.1); is_second = l.0 } },
+    omega (arith, k.2, l.1),
+  )
+
+  commands_here : (gap body : Text) (f : Fault) → IsGap gap body → CommandBad body f → CommandsFault d nested (gap ++ body) f
+  commands_here gap body f h k = faults.CommandsFault.first_command gap h k.1 k.0
+
+  commands_later : (gap body rest : Text) (c : Text × Words) (f : Fault) → IsGap gap (body ++ rest) → CommandIs c body rest → CommandsFault d nested rest f → CommandsFault d nested (gap ++ (body ++ rest)) f
+  commands_later gap body rest c f h k l = faults.CommandsFault.later_command gap c.0 body c.1 h k.0 k.1 k.2 l
+
+  script_sound : (bs : Text) (s : Commands) (r : Text) → Anywhere bs → script_with nested inner bs ≡ Ok (s, r) → Took CommandsAre bs s r
+  unfolding script_with
+  script_sound bs s r b h =
+      let x = read_map_ok commands_of (read_commands (suc (length bs)) bs) s r h in
+      let t = items_sound skip_gap (script_ends nested) (command_at nested inner) IsGap CommandGoesOn CommandIs CommandBad command_items (λ cs t r. CommandsAre (commands_of cs) t r) commands_nil commands_cons (suc (length bs)) bs x.0 r x.1 in
+      subst (λ s. Took CommandsAre bs s r) x.2 (record { taken = t.taken; whole = t.whole; is = t.is })
+
+  script_faulty : (bs : Text) (f : Fault) → Anywhere bs → script_with nested inner bs ≡ Err f → CommandsFault d nested bs f
+  unfolding script_with
+  script_faulty bs f b h =
+      items_faulty skip_gap (script_ends nested) (command_at nested inner) IsGap CommandGoesOn CommandIs CommandBad command_items (CommandsFault d nested) commands_here commands_later (suc (length bs)) bs f (omega arith)
+      (read_map_err commands_of (read_commands (suc (length bs)) bs) f h)
+
+  commands_list : (s : Commands) (t r : Text) (n : ℕ) → IsCommands nested s t r → nesting s ≤ d → length (t ++ r) < n → (xs : List (Text × Words)) × (read_commands n (t ++ r) ≡ Ok (xs, r)) × (commands_of xs ≡ s)
+  commands_list s t r zero h deep less = absurd (omega arith)
+  commands_list no_commands t r (suc n) h deep less = ([], items-end skip_gap (script_ends nested) (command_at nested inner) IsGap CommandGoesOn CommandIs CommandBad command_items n t r h.0 h.1, refl)
+  commands_list (command source ws cs) t r (suc n) h deep less =
+      let gap = h.first in
+      let body = h.is_second.first in
+      let rest = h.is_second.second in
+      let is : CommandIs (source, ws) body (rest ++ r) = (h.is_second.is_first.0, h.is_second.is_first.1, omega (arith, deep)) in
+      let back : (body ++ rest) ++ r ≡ body ++ (rest ++ r) = append_assoc body rest r in
+      let whole : t ++ r ≡ gap ++ (body ++ (rest ++ r)) = ap (λ xs. xs ++ r) (h.whole ∙ ap (λ xs. gap ++ xs) h.is_second.whole) ∙ append_assoc gap (body ++ rest) r ∙ ap (λ xs. gap ++ xs) back in
+      let some = front_some body rest h.is_second.is_first.0 in
+      let passed : IsGap gap (body ++ (rest ++ r)) = subst (IsGap gap) (ap (λ xs. xs ++ r) h.is_second.whole ∙ back) h.is_first in
+      let k = commands_list cs rest r n h.is_second.is_second (omega (arith, deep)) (omega (arith, ap length whole, length-append gap (body ++ (rest ++ r)), length-append body (rest ++ r))) in
+      (
+        (source, ws) ∷ k.0,
+        ap (read_commands (suc n)) whole ∙ items-more skip_gap (script_ends nested) (command_at nested inner) IsGap CommandGoesOn CommandIs CommandBad command_items n gap body (rest ++ r) (source, ws) passed is ∙ ap (read_map (λ xs. (source, ws) ∷ xs)) k.1,
+        ap (command source ws) k.2,
+      )
+
+  script_again : (s : Commands) (t r : Text) → CommandsAre s t r → script_with nested inner (t ++ r) ≡ Ok (s, r)
+  unfolding script_with
+  script_again s t r h =
+      let k = commands_list s t r (suc (length (t ++ r))) h.0 h.1 (omega arith) in
+      ap (read_map commands_of) k.1 ∙ ap (λ s. let found : Read Commands = Ok (s, r) in found) k.2
+
+  commands_met : {bs : Text} {f : Fault} → CommandsFault d nested bs f → (n : ℕ) → length bs < n → read_commands n bs ≡ Err f
+  commands_met h zero less = absurd (omega arith)
+  commands_met (faults.CommandsFault.first_command gap {body = body} {f = f} h free k) (suc n) less =
+      items-fail skip_gap (script_ends nested) (command_at nested inner) IsGap CommandGoesOn CommandIs CommandBad command_items n gap body f h (k, free)
+  commands_met (faults.CommandsFault.later_command gap source body ws {rest = rest} {f = f} h free k deep l) (suc n) less =
+      let some = front_some body rest free in
+      items-more skip_gap (script_ends nested) (command_at nested inner) IsGap CommandGoesOn CommandIs CommandBad command_items n gap body rest (source, ws) h (free, k, deep)
+      ∙ ap (read_map (λ xs. (source, ws) ∷ xs)) (commands_met l n (omega (arith, length-append gap (body ++ rest), length-append body rest)))
+
+  script_met : (bs : Text) (f : Fault) → CommandsFault d nested bs f → script_with nested inner bs ≡ Err f
+  unfolding script_with
+  script_met bs f h = ap (read_map commands_of) (commands_met h (suc (length bs)) (omega arith))
+
+  pub script_exact : Exact (script_with nested inner) Anywhere CommandsAre (CommandsFault d nested)
+  script_exact = record { sound = script_sound; again = script_again; faulty = script_faulty; met = script_met }

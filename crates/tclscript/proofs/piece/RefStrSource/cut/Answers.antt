@@ -1,0 +1,14 @@
+use Rattle.std.proofs.Common.{◌≡◌, sym, subst, ◌∙◌}
+use Rattle.std.specs.Str.{IsUtf8}
+use Rattle.tclchars.specs.Runs.{Text}
+use Rattle.tclscript.specs.Pieces.{IsFrontOf}
+use Rattle.tclscript.proofs.Ends.{end_cut, end_drop, front_cut, front_take}
+use Rattle.tclscript.proofs.piece.RefStrSource.cut.Goals as goal
+
+pub split_at-requires : goal.split_at-requires
+split_at-requires c = end_cut c.args.self.now.now c.args.rest.now c.utf8.rest c.requires.end
+
+pub split_at-requires-2 : goal.split_at-requires-2
+split_at-requires-2 c =
+    let is : c.args.rest.now ≡ c.split_at.result.1.now = sym (c.split_at.ensures.back ∙ end_drop c.args.self.now.now c.args.rest.now c.requires.end) in
+    front_cut c.split_at.result.1.now c.args.piece.now (subst IsUtf8 is c.utf8.rest) c.utf8.piece (subst (λ (bs : Text). IsFrontOf bs c.args.piece.now) is c.requires.front)

@@ -1,0 +1,138 @@
+-- The grammar: which texts are scripts, with their trees (Tcl(n)), by cases on the tree over whole texts. A text stands before
+-- what follows it in the source, since what follows says where it ends.
+use Rattle.std.specs.Prelude.{◌≡◌, ◌≢◌, ◌⊎◌, ℕ, [], ◌∷◌, ◌++◌, Bool, true, false, not, ◌||◌, ◌==◌, Some}
+use Rattle.tclchars.specs.Runs.{Text, begins}
+use Rattle.tclchars.specs.Bytes.{newline, hash, backslash, is_blank, is_gap, AllPass, MayBegin, DoesBegin}
+use Rattle.tclchars.specs.Classes.{in_class, is_name}
+use Rattle.tclchars.specs.Backslash.{after_backslash}
+use Rattle.tclchars.specs.Braces.{Balanced}
+use Rattle.tclchars.specs.declared.runs.Class.TheVariants.{InName}
+use Rattle.tclscript.specs.declared.context.Context.{Context}
+use Rattle.tclscript.specs.declared.context.Context.TheVariants.{InIndex, InQuotes}
+use Rattle.tclscript.specs.Tree as tree
+use Rattle.tclscript.specs.Tree.{Commands, no_commands, command, Words, no_words, word, Word, word_of, Parts, no_parts, part, Part, literal, braced, variable, indexed, bracket}
+use Rattle.tclscript.specs.Ends.{script_ends, command_ends, word_ends, parts_end, class_of, bare}
+
+-- what stands between words: blanks, and newlines behind backslashes
+pub data IsBlanks : Text → Type 0 where
+  nothing : IsBlanks []
+  blank : {b : ℕ} {bs : Text} → is_blank b ≡ true → IsBlanks bs → IsBlanks (b ∷ bs)
+  line : {bs : Text} → IsBlanks bs → IsBlanks (backslash ∷ (newline ∷ bs))
+
+-- what a comment holds: no newline but behind a backslash, which is passed over with the byte after it
+pub data IsComment : Text → Type 0 where
+  nothing : IsComment []
+  other : {b : ℕ} {bs : Text} → b ≢ backslash → b ≢ newline → IsComment bs → IsComment (b ∷ bs)
+  escaped : {b : ℕ} {bs : Text} → IsComment bs → IsComment (backslash ∷ (b ∷ bs))
+
+-- What stands between commands, before what follows: white space, ends of commands, newlines behind backslashes, and comments
+-- up to a newline or to the source's end, where a backslash may be the last byte.
+pub data IsGap : Text → Text → Type 0 where
+  nothing : {after : Text} → IsGap [] after
+  space : {b : ℕ} {bs after : Text} → is_gap b ≡ true → IsGap bs after → IsGap (b ∷ bs) after
+  line : {bs after : Text} → IsGap bs after → IsGap (backslash ∷ (newline ∷ bs)) after
+  comment : {inside bs after : Text} → IsComment inside → IsGap bs after → IsGap (hash ∷ (inside ++ newline ∷ bs)) after
+  open_comment : {inside : Text} → IsComment inside → IsGap (hash ∷ inside) []
+  open_escape : {inside : Text} → IsComment inside → IsGap (hash ∷ (inside ++ backslash ∷ [])) []
+
+abbrev pub is_colon : ℕ → Bool
+is_colon b = b == 58
+
+-- a name of a variable: letters, digits, underscores, and runs of two or more colons
+pub data IsName : Text → Type 0 where
+  nothing : IsName []
+  letter : {b : ℕ} {bs : Text} → is_name b ≡ true → IsName bs → IsName (b ∷ bs)
+  colons : (run : Text) {bs : Text} → AllPass is_colon run → IsName bs → IsName (58 ∷ (58 ∷ (run ++ bs)))
+
+-- the longest name at the front
+abbrev pub IsLongestName : Text → Text → Type 0
+IsLongestName name after = IsName name × ((more rest : Text) → after ≡ more ++ rest → IsName (name ++ more) → more ≡ [])
+
+-- what stands for itself, before what follows: a longest run; a dollar sign that begins no variable; a backslash at the end
+abbrev pub IsRun : Context → Text → Text → Type 0
+IsRun c t after = DoesBegin (in_class (class_of c)) t × AllPass (in_class (class_of c)) t × MayBegin (λ b. not (in_class (class_of c) b)) after
+
+abbrev pub IsDollar : Text → Text → Type 0
+IsDollar t after = (t ≡ 36 ∷ []) × IsLongestName [] after × MayBegin (λ b. not (b == 40 || b == 123)) after
+
+abbrev pub IsLastBackslash : Text → Text → Type 0
+IsLastBackslash t after = (t ≡ backslash ∷ []) × (after ≡ [])
+
+abbrev pub IsLiteral : Context → Text → Text → Type 0
+IsLiteral c t after = IsRun c t after ⊎ (IsDollar t after ⊎ IsLastBackslash t after)
+
+-- $name, not before a parenthesis
+abbrev pub IsPlainVariable : Text → Text → Text → Type 0
+IsPlainVariable name bs after = (bs ≡ 36 ∷ name) × (name ≢ []) × IsLongestName name after × MayBegin (λ b. not (b == 40)) after
+
+-- ${name}
+abbrev pub IsBracedVariable : Text → Text → Type 0
+IsBracedVariable name bs = (bs ≡ 36 ∷ (123 ∷ (name ++ 125 ∷ []))) × AllPass (in_class InName) name
+
+-- the text is a first and a second part
+pub record Split (bs : Text) (First : Text → Text → Type 0) (Second : Text → Type 0) : Type 0 where
+  pub first : Text
+  pub second : Text
+  pub whole : bs ≡ first ++ second
+  pub is_first : First first second
+  pub is_second : Second second
+
+-- A word in braces, in quotes or bare, of these parts: Stands says of which texts they are the parts. A word ends behind it.
+abbrev pub IsBracedWord : Parts → Text → Type 0
+IsBracedWord ps bs = (inside : Text) × (ps ≡ part (braced inside) no_parts) × (bs ≡ 123 ∷ (inside ++ 125 ∷ [])) × Balanced inside
+
+abbrev pub IsQuotedWord : (Context → Text → Text → Type 0) → Text → Text → Type 0
+IsQuotedWord Stands bs after = (inside : Text) × (bs ≡ 34 ∷ (inside ++ 34 ∷ [])) × Stands InQuotes inside (34 ∷ after)
+
+abbrev pub IsBareWord : Bool → (Context → Text → Text → Type 0) → Text → Text → Type 0
+IsBareWord nested Stands bs after = DoesBegin (λ b. not (b == 123 || b == 34)) bs × Stands (bare nested) bs after
+
+abbrev pub IsPlainWord : Bool → Parts → (Context → Text → Text → Type 0) → Text → Text → Type 0
+IsPlainWord nested ps Stands bs after = (word_ends nested after ≡ true) × (IsBracedWord ps bs ⊎ (IsQuotedWord Stands bs after ⊎ IsBareWord nested Stands bs after))
+
+-- the mark {*} and a text, where the word doesn't end between them
+abbrev pub IsExpanding : Bool → (Text → Type 0) → Text → Text → Type 0
+IsExpanding nested Is bs after = (body : Text) × (bs ≡ 123 ∷ (42 ∷ (125 ∷ body))) × (word_ends nested (body ++ after) ≡ false) × Is body
+
+-- The flag says that the text stands in brackets.
+abbrev mutual
+  -- commands, with gaps before them and behind the last; a command doesn't begin as a comment does
+  pub IsCommands : Bool → Commands → Text → Text → Type 0
+  IsCommands nested no_commands bs after = IsGap bs after × (script_ends nested after ≡ true)
+  IsCommands nested (command source ws cs) bs after =
+      Split bs (λ gap more. IsGap gap (more ++ after))
+      (λ more. Split more (λ body rest. DoesBegin (λ b. not (b == hash)) body × IsCommand nested source ws body (rest ++ after)) (λ rest. IsCommands nested cs rest after))
+
+  -- the words of a command, and the source of the first
+  pub IsCommand : Bool → Text → Words → Text → Text → Type 0
+  IsCommand nested source no_words bs after = ⊥
+  IsCommand nested source (word w ws) bs after = (rest : Text) × (bs ≡ source ++ rest) × IsWord nested w source (rest ++ after) × IsWords nested ws rest after
+
+  -- more words of a command, behind blanks, up to its end
+  pub IsWords : Bool → Words → Text → Text → Type 0
+  IsWords nested no_words bs after = IsBlanks bs × (command_ends nested after ≡ true)
+  IsWords nested (word w ws) bs after =
+      Split bs (λ blanks more. IsBlanks blanks)
+      (λ more. Split more (λ body rest. IsWord nested w body (rest ++ after)) (λ rest. IsWords nested ws rest after))
+
+  pub IsWord : Bool → Word → Text → Text → Type 0
+  IsWord nested (word_of false ps) bs after = IsPlainWord nested ps (λ c inside more. IsParts c ps inside more) bs after
+  IsWord nested (word_of true ps) bs after = IsExpanding nested (λ body. IsPlainWord nested ps (λ c inside more. IsParts c ps inside more) body after) bs after
+
+  -- parts, up to where no more can follow
+  pub IsParts : Context → Parts → Text → Text → Type 0
+  IsParts c no_parts bs after = (bs ≡ []) × (parts_end c after ≡ true)
+  IsParts c (part p ps) bs after =
+      Split bs (λ body rest. (parts_end c (body ++ (rest ++ after)) ≡ false) × IsPart c p body (rest ++ after)) (λ rest. IsParts c ps rest after)
+
+  pub IsPart : Context → Part → Text → Text → Type 0
+  IsPart c (literal t) bs after = (bs ≡ t) × IsLiteral c t after
+  IsPart c (braced t) bs after = ⊥
+  IsPart c (tree.backslash value) bs after = (escape : Text) × (bs ≡ backslash ∷ escape) × (after_backslash (escape ++ after) ≡ Some (value, after))
+  IsPart c (variable name) bs after = IsPlainVariable name bs after ⊎ IsBracedVariable name bs
+  IsPart c (indexed name ps) bs after = (inside : Text) × (bs ≡ 36 ∷ (name ++ 40 ∷ (inside ++ 41 ∷ []))) × IsName name × IsParts InIndex ps inside (41 ∷ after)
+  IsPart c (bracket s) bs after = (inside : Text) × (bs ≡ 91 ∷ (inside ++ 93 ∷ [])) × IsCommands true s inside (93 ∷ after)
+
+-- the text is a script with this tree
+abbrev pub IsScript : Text → Commands → Type 0
+IsScript bs s = IsCommands false s bs []
