@@ -17,3 +17,7 @@ pub mod WordsExact
 pub mod ScriptExact
 pub mod Whole
 pub mod Examples
+pub mod Turns
+pub mod Views
+pub mod Nested
+pub mod Within

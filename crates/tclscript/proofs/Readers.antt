@@ -164,7 +164,7 @@ in_braces_leave : (nested : Bool) (bs : Text) (left : ℕ) (found : Option (Text
 in_braces_leave nested bs left None e = tt
 in_braces_leave nested bs left (Some p) e = text_then (IsEndOf p.1) (IsEndOf bs) (ended nested p.1) _ (ended_leaves nested p.1) (λ rest f. end_through bs p.1 rest e f)
 
-closing_end : (bs : Text) (found : Option (Text × Text)) → braced_at false 0 bs ≡ found → LeavesSome (IsEndOf bs) found
+pub closing_end : (bs : Text) (found : Option (Text × Text)) → braced_at false 0 bs ≡ found → LeavesSome (IsEndOf bs) found
 closing_end bs None is = tt
 closing_end bs (Some p) is = let c = close_sound bs false 0 p.0 p.1 is in (p.0 ++ 125 ∷ [], c.0 ∙ sym (append_assoc p.0 (125 ∷ []) p.1))
 
@@ -201,7 +201,7 @@ module _ (inner : Inner) (inside : InnerLeaves inner) (nested : Bool) where
         (λ k. parts_leave inner inside (bare nested) bs))
 
   -- what follows {*} is behind it
-  abbrev IsBehindSome : Text → Option Text → Type 0
+  abbrev pub IsBehindSome : Text → Option Text → Type 0
   IsBehindSome bs None = Unit {0}
   IsBehindSome bs (Some rest) = IsBehind bs rest
 
@@ -217,6 +217,9 @@ module _ (inner : Inner) (inside : InnerLeaves inner) (nested : Bool) where
           (λ h. tt))
         (λ h. tt))
       (λ h. tt)
+
+  pub expanded_end : (bs rest : Text) → Some rest ≡ after_expansion nested bs → IsEndOf bs rest
+  expanded_end bs rest is = let b : IsBehind bs rest = subst (IsBehindSome bs) (sym is) (expansion_behind bs) in b.0
 
   from_behind : (bs : Text) (found : Option Text) → IsBehindSome bs found → word_ends nested bs ≡ false → Leaves (IsBehind bs) (word_from nested inner bs found)
   from_behind bs None b e = leaves_map (IsBehind bs) (word_of false) _ (plain_word_behind bs e)

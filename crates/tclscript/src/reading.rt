@@ -132,6 +132,7 @@ fn read_braced<'a, S: Source<P>, P: Drop>(
 }
 
 /// The tree of a text, where so many brackets and indexes nest at most.
+#[tactic(auto, unfolding(crate::specs::Reading::script_at))]
 pub(crate) fn read_source<S: Source<P>, P: Drop>(alloc: Global, source: &S, text: &str, depth: usize) -> Result<Script<P>, ReadError>
     requires { S.text source.now ≡ text.now }
     ensures { Gives (script_view (S.shown source.now)) result (script_at depth text.now) }
@@ -192,6 +193,7 @@ fn read_command<'a, S: Source<P>, P: Drop>(
 }
 
 #[cycle(read)]
+#[tactic(auto, unfolding(crate::specs::Reading::word_at))]
 fn read_word<'a, S: Source<P>, P: Drop>(
     alloc: Global,
     source: &S,
@@ -216,6 +218,7 @@ fn read_word<'a, S: Source<P>, P: Drop>(
 
 // A word that doesn't expand.
 #[cycle(read)]
+#[tactic(auto, unfolding(crate::specs::Reading::plain_word_at))]
 fn read_plain_word<'a, S: Source<P>, P: Drop>(
     alloc: Global,
     source: &S,
@@ -237,6 +240,7 @@ fn read_plain_word<'a, S: Source<P>, P: Drop>(
 
 // A word in quotes, behind its first quote.
 #[cycle(read)]
+#[tactic(auto, unfolding(crate::specs::Reading::quoted_word_at))]
 fn read_quoted<'a, S: Source<P>, P: Drop>(
     alloc: Global,
     source: &S,
@@ -277,6 +281,7 @@ fn read_parts<'a, S: Source<P>, P: Drop>(
 }
 
 #[cycle(read)]
+#[tactic(auto, unfolding(crate::specs::Reading::part_at))]
 fn read_part<'a, S: Source<P>, P: Drop>(
     alloc: Global,
     source: &S,
@@ -301,6 +306,7 @@ fn read_part<'a, S: Source<P>, P: Drop>(
 
 // Behind a dollar, which stands in front of the text.
 #[cycle(read)]
+#[tactic(auto, unfolding(crate::specs::Reading::dollar_at))]
 fn read_dollar<'a, S: Source<P>, P: Drop>(
     alloc: Global,
     source: &S,
@@ -336,6 +342,7 @@ fn indexed<'a, S: Source<P>, P: Drop>(source: &S, text: &'a str, name: &'a str, 
 
 // Behind the parenthesis of an index.
 #[cycle(read)]
+#[tactic(auto, unfolding(crate::specs::Reading::index_at, crate::specs::Reading::inner_at))]
 fn read_index<'a, S: Source<P>, P: Drop>(
     alloc: Global,
     source: &S,
@@ -355,6 +362,7 @@ fn read_index<'a, S: Source<P>, P: Drop>(
 
 // Behind a bracket.
 #[cycle(read)]
+#[tactic(auto, unfolding(crate::specs::Reading::bracket_at, crate::specs::Reading::inner_at))]
 fn read_bracket<'a, S: Source<P>, P: Drop>(
     alloc: Global,
     source: &S,

@@ -1,6 +1,9 @@
 use Rattle.std.proofs.Common.{◌≡◌, length, map, ◌+◌, ◌*◌}
 use denote.Text.{Utf8}
 use denote.Shadow.{shadow}
+use Rattle.tclscript.specs.Pieces.{IsEndOf}
+use Rattle.tclscript.specs.View.{command_view, word_view, part_view}
+use Rattle.tclscript.proofs.Turns.{CommandsSoFar, WordsSoFar, PartsSoFar}
 use Rattle.tclscript.proofs.reading.+read.Given as goal
 
 abbrev pub decreases-read_bracket : goal.decreases-read_bracket
@@ -32,3 +35,33 @@ decreases-read_command g l = 10 * l.depth + 7
 
 abbrev pub decreases-read_script : goal.decreases-read_script
 decreases-read_script g l = 10 * l.depth + 8
+
+abbrev pub invariant-read_command-loop-alloc : goal.invariant-read_command-loop-alloc
+invariant-read_command-loop-alloc g l = record {
+  utf8 : shadow (Utf8 l.rest);
+  end : IsEndOf (g.S.Source.text l.source) l.rest;
+  so_far : WordsSoFar l.nested l.depth l.text (g.S.Source.shown l.source l.first_text) (map (word_view (g.S.Source.shown l.source)) l.words.items) l.rest;
+}
+
+abbrev pub decreases-read_command-loop-alloc : goal.decreases-read_command-loop-alloc
+decreases-read_command-loop-alloc g l = length l.rest
+
+abbrev pub invariant-read_parts-loop-alloc : goal.invariant-read_parts-loop-alloc
+invariant-read_parts-loop-alloc g l = record {
+  utf8 : shadow (Utf8 l.rest);
+  end : IsEndOf (g.S.Source.text l.source) l.rest;
+  so_far : PartsSoFar l.context l.depth l.text (map (part_view (g.S.Source.shown l.source)) l.parts.items) l.rest;
+}
+
+abbrev pub decreases-read_parts-loop-alloc : goal.decreases-read_parts-loop-alloc
+decreases-read_parts-loop-alloc g l = length l.rest
+
+abbrev pub invariant-read_script-loop-alloc : goal.invariant-read_script-loop-alloc
+invariant-read_script-loop-alloc g l = record {
+  utf8 : shadow (Utf8 l.rest);
+  end : IsEndOf (g.S.Source.text l.source) l.rest;
+  so_far : CommandsSoFar l.nested l.depth l.text (map (command_view (g.S.Source.shown l.source)) l.commands.items) l.rest;
+}
+
+abbrev pub decreases-read_script-loop-alloc : goal.decreases-read_script-loop-alloc
+decreases-read_script-loop-alloc g l = length l.rest
