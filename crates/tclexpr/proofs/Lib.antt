@@ -6,3 +6,4 @@ pub mod Sound
 pub mod Complete
 pub mod FaultSound
 pub mod FaultComplete
+pub mod OperandSound

@@ -5,4 +5,5 @@ pub mod Row
 pub mod Faults
 pub mod Reading
 pub mod Operands
+pub mod OperandGrammar
 pub mod View
