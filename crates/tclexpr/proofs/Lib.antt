@@ -7,3 +7,5 @@ pub mod Complete
 pub mod FaultSound
 pub mod FaultComplete
 pub mod OperandSound
+pub mod Turns
+pub mod Steps

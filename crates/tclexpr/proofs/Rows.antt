@@ -28,11 +28,11 @@ unfolding after_white
 after_white_no_longer [] = omega arith
 after_white_no_longer (b ∷ bs) = after_white_one bs b (is_space b || (b == backslash && begins newline bs)) (after_white_no_longer bs)
 
-before_found : (rest : Text) (found : Option Mark) (m : Mark) (r : Text) → before rest found ≡ Some (m, r) → (found ≡ Some m) × (r ≡ rest)
+pub before_found : (rest : Text) (found : Option Mark) (m : Mark) (r : Text) → before rest found ≡ Some (m, r) → (found ≡ Some m) × (r ≡ rest)
 before_found rest None m r h = cc
 before_found rest (Some k) m r h = let two = found_once (Some (k, rest)) k m rest r refl h in (ap (λ m. Some m) two.0, sym two.1)
 
-longest_found : (one other : Option (Mark × Text)) (p : Mark × Text) → longest one other ≡ Some p → (one ≡ Some p) ⊎ (other ≡ Some p)
+pub longest_found : (one other : Option (Mark × Text)) (p : Mark × Text) → longest one other ≡ Some p → (one ≡ Some p) ⊎ (other ≡ Some p)
 longest_found None other p h = inr h
 longest_found (Some q) other p h = inl h
 
