@@ -118,6 +118,11 @@ chain-first d n bs x rest h =
     let l = prefix_leaves d bs x rest h in
     record { turns = suc (length rest); enough = omega arith; is = chain_from operand_at d (below_at operand_at d) n bs x rest h; deep = l.1; end = l.0 }
 
+pub chain-starts : (d n : ℕ) (bs : Text) (e : ReadError) → Fails e (prefix_at operand_at d (below_at operand_at d) bs) → Fails e (chain_at operand_at d (below_at operand_at d) n bs)
+unfolding chain_at
+chain-starts d n bs errors.Memory h = tt
+chain-starts d n bs (errors.Fault f) h = ap (λ r. r >>= (λ x. climb_at operand_at d (below_at operand_at d) n (suc (length x.1)) x.0 x.1)) h
+
 pub chain-end : (d n : ℕ) (bs : Text) (x : Tall Operand) (rest : Text) → ChainSoFar d n bs x rest → Follows (suc n) rest → chain_at operand_at d (below_at operand_at d) n bs ≡ Ok (x, rest)
 chain-end d n bs x rest s f = s.is ∙ climb_stops operand_at d (below_at operand_at d) n s.turns x rest (omega (arith, s.enough)) f
 

@@ -8,7 +8,7 @@ ghost use Rattle.tclexpr.specs.Grammar.{level};
 ghost use Rattle.tclexpr.specs.Marks.{mark_at, after_white};
 ghost use Rattle.tclexpr.specs.Faults.{Follows};
 ghost use Rattle.tclexpr.specs.Operands.{operand_at};
-ghost use Rattle.tclexpr.specs.Reading.{whole, chain, is_close, is_colon, expect, join, prefix_at, leaf_of, unary_of, choice_of, enclosed_at, branches_at, chain_at, whole_at, below_at, expr_at};
+ghost use Rattle.tclexpr.specs.Reading.{whole, chain, is_close, is_colon, is_open, is_question, expect, join, prefix_at, leaf_of, unary_of, choice_of, enclosed_at, branches_at, chain_at, whole_at, below_at, expr_at};
 ghost use Rattle.tclexpr.specs.View.{tall_view, expr_view};
 
 use crate::marks::{level, read_mark, sign_of, skip_white};
@@ -42,6 +42,18 @@ fn after_colon(text: &str) -> Result<&str, ReadError>
         Some((Mark::Colon, rest)) => Ok(rest),
         _ => Err(ReadError::Fault(Fault::BadExpression(start.len()))),
     }
+}
+
+fn is_open(mark: Mark) -> bool
+    ensures { result ≡ is_open mark }
+{
+    matches!(mark, Mark::Open)
+}
+
+fn is_question(mark: Mark) -> bool
+    ensures { result ≡ is_question mark }
+{
+    matches!(mark, Mark::Question)
 }
 
 // The operator that comes next between two operands, where it is of that level at most.
@@ -115,9 +127,13 @@ pub(crate) fn read_whole<'a, S: Source<P>, P: Drop>(
     ensures { Gives (λ x. (tall_view (S.shown source.now) x.0, x.1.now)) result (whole_at operand_at depth (below_at operand_at depth) text.now) }
 {
     let (condition, rest) = read_chain(alloc, source, text, depth, LOOSEST)?;
-    match read_mark(skip_white(rest)) {
-        Some((Mark::Question, behind)) => read_branches(alloc, source, condition, behind, depth),
-        _ => Ok((condition, rest)),
+    let Some((mark, behind)) = read_mark(skip_white(rest)) else {
+        return Ok((condition, rest));
+    };
+    if is_question(mark) {
+        read_branches(alloc, source, condition, behind, depth)
+    } else {
+        Ok((condition, rest))
     }
 }
 
@@ -198,13 +214,15 @@ fn read_prefix<'a, S: Source<P>, P: Drop>(
     ensures { Gives (λ x. (tall_view (S.shown source.now) x.0, x.1.now)) result (prefix_at operand_at depth (below_at operand_at depth) text.now) }
 {
     let start = skip_white(text);
-    match read_mark(start) {
-        None => read_leaf(alloc, source, start, depth),
-        Some((Mark::Open, behind)) => read_enclosed(alloc, source, behind, depth),
-        Some((mark, behind)) => match sign_of(mark) {
-            Some(operator) => read_signed(alloc, source, operator, behind, depth),
-            None => Err(ReadError::Fault(Fault::BadExpression(start.len()))),
-        },
+    let Some((mark, behind)) = read_mark(start) else {
+        return read_leaf(alloc, source, start, depth);
+    };
+    if is_open(mark) {
+        return read_enclosed(alloc, source, behind, depth);
+    }
+    match sign_of(mark) {
+        Some(operator) => read_signed(alloc, source, operator, behind, depth),
+        None => Err(ReadError::Fault(Fault::BadExpression(start.len()))),
     }
 }
 
