@@ -9,3 +9,4 @@ pub mod FaultComplete
 pub mod OperandSound
 pub mod Turns
 pub mod Steps
+pub mod Heights

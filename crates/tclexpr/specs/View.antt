@@ -1,13 +1,18 @@
 -- The tree that a value of the program stands for, where a piece shows its text.
-use Rattle.std.specs.Prelude.{ℕ}
+use Rattle.std.specs.Prelude.{ℕ, List, map}
 use Rattle.tclchars.specs.Runs.{Text}
-use Rattle.tclscript.specs.View.{script_view, parts_view}
+use Rattle.tclscript.specs.View.{script_view, word_view, parts_view}
+use Rattle.tclscript.specs.Tree.{Words, words_of}
+use Rattle.tclscript.specs.declared.tree.Word as script_word
 use Rattle.tclexpr.specs.Operands as operands
 use Rattle.tclexpr.specs.Tree as tree
 use Rattle.tclexpr.specs.declared.tree.Operand.{Operand}
 use Rattle.tclexpr.specs.declared.tree.Operand.TheVariants as rust_operand
 use Rattle.tclexpr.specs.declared.tree.Expr as rust
 use Rattle.tclexpr.specs.declared.tree.Tall.{Tall}
+
+abbrev pub words_view : {P : Type 0} → (P → Text) → List (script_word.Word P) → Words
+words_view shown ws = words_of (map (word_view shown) ws)
 
 abbrev pub operand_view : {P : Type 0} → (P → Text) → Operand P → operands.Operand
 operand_view shown (rust_operand.Number s) = operands.number (shown s)

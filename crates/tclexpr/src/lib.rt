@@ -3,6 +3,7 @@
 
 mod laws;
 mod marks;
+mod nesting;
 mod numbers;
 mod operand;
 mod operators;
