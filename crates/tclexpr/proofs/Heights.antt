@@ -27,7 +27,7 @@ commands_more (b ∷ cs) c = ap (max (words_nesting b.1)) (commands_more cs c) �
 
 -- the height so far, where numbers up to the limit are exact
 abbrev pub Tallest : ℕ → ℕ → ℕ → Type 0
-Tallest limit height n = n < limit → height ≡ n
+Tallest limit height n = n ≤ limit → height ≡ n
 
 pub tallest_more : (limit height h n m k : ℕ) → k ≡ max n m → Tallest limit height n → Tallest limit h m → Tallest limit (max height h) k
 tallest_more limit height h n m k e x y less =

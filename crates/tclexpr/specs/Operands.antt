@@ -109,12 +109,22 @@ is_truth bs =
 
 -- Operands
 
--- a substitution of a script; a dollar that is itself is no operand
+-- a substitution of a script, with how deep it nests; a dollar that is itself is no operand
+abbrev pub operand_of : ℕ → Part → Result (Operand × ℕ) Fault
+operand_of left (tree.variable name) = Ok (variable name, 0)
+operand_of left (tree.indexed name ps) = Ok (indexed name ps, suc (parts_nesting ps))
+operand_of left (tree.bracket s) = Ok (bracket s, suc (nesting s))
+operand_of left part = Err (BadExpression left)
+
 abbrev pub substituted : ℕ → Part × Text → Read (Operand × ℕ)
-substituted left (tree.variable name, rest) = Ok ((variable name, 0), rest)
-substituted left (tree.indexed name ps, rest) = Ok ((indexed name ps, suc (parts_nesting ps)), rest)
-substituted left (tree.bracket s, rest) = Ok ((bracket s, suc (nesting s)), rest)
-substituted left (part, rest) = Err (BadExpression left)
+substituted left p = operand_of left p.0 >>= (λ o. Ok (o, p.1))
+
+-- a variable, behind its dollar, and a script, behind its bracket; so many bytes are left from that on
+abbrev pub variable_at : ℕ → ℕ → Text → Read (Operand × ℕ)
+variable_at d left bs = dollar_at (inner_at d) bs >>= substituted left
+
+abbrev pub script_at : ℕ → ℕ → Text → Read (Operand × ℕ)
+script_at d left bs = bracket_at (inner_at d) bs >>= substituted left
 
 -- a quoted text, behind its first quote
 unfoldable pub quoted_at : ℕ → Text → Read (Operand × ℕ)
@@ -141,6 +151,6 @@ numeric bs (Some rest) = Ok ((number (taken bs rest), 0), rest)
 -- the operand at the front, in which so many brackets and parentheses may nest, with how deep they do
 unfoldable pub operand_at : ℕ → Text → Read (Operand × ℕ)
 operand_at d bs =
-    on_mark 36 bs (λ behind. dollar_at (inner_at d) behind >>= substituted (length bs))
-      (on_mark 91 bs (λ behind. bracket_at (inner_at d) behind >>= substituted (length bs))
+    on_mark 36 bs (variable_at d (length bs))
+      (on_mark 91 bs (script_at d (length bs))
         (on_mark 34 bs (quoted_at d) (on_mark 123 bs braced_text_at (numeric bs (after_number bs)))))

@@ -1,4 +1,4 @@
-use Rattle.std.proofs.Common.{◌≡◌, ◌<◌, ◌++◌, ◌∷◌, [], ◌+◌, max, List, take, map, length, sym, ap, subst, ◌∙◌, arith, rules}
+use Rattle.std.proofs.Common.{◌≡◌, ◌<◌, ◌≤◌, ◌++◌, ◌∷◌, [], ◌+◌, max, List, take, map, length, sym, ap, subst, ◌∙◌, arith, rules}
 use Rattle.std.proofs.Math.Seq.{take-length}
 use Rattle.std.proofs.lemmas.List.{take_more}
 use Rattle.tclchars.specs.Runs.{Text}
@@ -40,7 +40,7 @@ script_nesting-returns g t c = λ shown less.
     let all : take c.loop-command.command-index items ≡ items = ap (λ n. take n items) same ∙ take-length items in
     let k = subst (λ xs. Tallest 18446744073709551615 c.loop-command.height (nesting (commands_of (map (command_view shown) xs)))) (all ∙ c.deref-command-items.ensures.value) (c.loop-command.invariant shown) in
     let e = script_height shown c.args.script.now in
-    k (subst (λ n. n < 18446744073709551615) e less) ∙ sym e
+    k (subst (λ n. n ≤ 18446744073709551615) e less) ∙ sym e
 
 pub words_nesting-loop-word-preserved : goal.words_nesting-loop-word-preserved
 words_nesting-loop-word-preserved g t c = λ shown less.
