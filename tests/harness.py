@@ -7,8 +7,15 @@ import sys
 import tempfile
 import traceback
 
+HERE = os.path.dirname(os.path.abspath(__file__))
+
 NOBODY = 65534
 SECONDS = 60
+
+# How many runs after the last refusal of memory have to be as with ample memory.
+QUIET = 10
+
+MOST_RUNS = 2000
 
 # What the modulefile of most cases says.
 FOO = "setenv FOO on\nprepend-path PATH /opt/foo/bin\n"
@@ -34,6 +41,37 @@ def same(found, wanted, what):
 def true(fact, what):
     if not fact:
         raise Failed(what)
+
+
+def refuser(path):
+    """Builds the allocator that refuses growths in a folder, and gives its path."""
+    shim = os.path.join(path, b"failing_malloc.so")
+    if not os.path.exists(shim):
+        source = os.path.join(HERE, "failing_malloc.c")
+        subprocess.run(["cc", "-shared", "-fPIC", "-O1", "-o", shim, source, "-ldl"], check=True)
+    return shim
+
+
+def refuses_each(shim, run, is_refused, what):
+    """Refuses each growth of memory in turn, and then all from each on. `run` is given the variables that ask for it, and
+    finds what it does with ample memory, or what is refused."""
+    ample = run({})
+    true(not is_refused(ample), f"{what} with ample memory: found {ample!r}")
+    for variable in (b"FAIL_AT", b"FAIL_FROM"):
+        refused = 0
+        quiet = 0
+        number = 0
+        while quiet < QUIET:
+            number += 1
+            true(number <= MOST_RUNS, f"{what}: more than {MOST_RUNS} growths")
+            found = run({b"LD_PRELOAD": shim, variable: b"%d" % number})
+            if found == ample:
+                quiet += 1
+            else:
+                true(is_refused(found), f"{what} with growth {number} refused: found {found!r}")
+                refused += 1
+                quiet = 0
+        true(refused > 0, f"{what}: no growth was refused")
 
 
 class Folder:

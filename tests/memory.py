@@ -1,55 +1,30 @@
 """What the built program does where memory is refused: what it does with ample memory, or `Out of memory` and no change."""
 
-import os
-import subprocess
 import sys
 
-from harness import FOO, case, encoded, loaded, run_all, same, true
-
-HERE = os.path.dirname(os.path.abspath(__file__))
-
-# How many runs after the last refusal have to be as with ample memory.
-QUIET = 10
-
-MOST_RUNS = 2000
+from harness import FOO, case, encoded, loaded, refuser, refuses_each, run_all
 
 
-def refuses_each(folder, words, env):
-    """Refuses each growth in turn, and then all from each on."""
-    shim = os.path.join(folder.path, b"failing_malloc.so")
-    if not os.path.exists(shim):
-        source = os.path.join(HERE, "failing_malloc.c")
-        subprocess.run(["cc", "-shared", "-fPIC", "-O1", "-o", shim, source, "-ldl"], check=True)
-    ample = folder.run(*words, env=env)
-    ample = (ample.stdout, ample.stderr, ample.returncode)
-    for variable in (b"FAIL_AT", b"FAIL_FROM"):
-        refused = 0
-        quiet = 0
-        number = 0
-        while quiet < QUIET:
-            number += 1
-            true(number <= MOST_RUNS, f"{words}: more than {MOST_RUNS} growths")
-            done = folder.run(*words, env={**env, b"LD_PRELOAD": shim, variable: b"%d" % number})
-            found = (done.stdout, done.stderr, done.returncode)
-            if found == ample:
-                quiet += 1
-            else:
-                same(found, (b"", b"ERROR: Out of memory\n", 1), f"{words} with growth {number} refused")
-                refused += 1
-                quiet = 0
-        true(refused > 0, f"{words}: no growth was refused")
+def answers_or_refuses(folder, words, env):
+    """The program answers as with ample memory, or changes nothing and says why."""
+
+    def run(asked):
+        done = folder.run(*words, env={**env, **asked})
+        return done.stdout, done.stderr, done.returncode
+
+    refuses_each(refuser(folder.path), run, (b"", b"ERROR: Out of memory\n", 1).__eq__, words)
 
 
 @case
 def a_load_with_too_little_memory(folder):
     folder.module("foo/1.0", FOO)
-    refuses_each(folder, ["sh", "load", "foo/1.0"], folder.environment(PATH="/usr/bin:/bin"))
+    answers_or_refuses(folder, ["sh", "load", "foo/1.0"], folder.environment(PATH="/usr/bin:/bin"))
 
 
 @case
 def a_load_of_a_loaded_module_with_too_little_memory(folder):
     folder.module("foo/1.0", FOO)
-    refuses_each(folder, ["sh", "load", "foo/1.0"], loaded(folder, "foo/1.0"))
+    answers_or_refuses(folder, ["sh", "load", "foo/1.0"], loaded(folder, "foo/1.0"))
 
 
 @case
@@ -57,7 +32,7 @@ def an_unload_with_too_little_memory(folder):
     folder.module("foo/1.0", FOO)
     folder.module("bar/1", FOO)
     env = loaded(folder, "foo/1.0", "bar/1", FOO="on", PATH="/opt/foo/bin:/usr/bin:/bin")
-    refuses_each(folder, ["sh", "unload", "foo"], env)
+    answers_or_refuses(folder, ["sh", "unload", "foo"], env)
 
 
 @case
@@ -75,8 +50,8 @@ def refusals_with_too_little_memory(folder):
         ["csh", "load", "foo/1.0"],
         ["sh", "avail"],
     ):
-        refuses_each(folder, words, folder.environment())
-    refuses_each(folder, ["sh", "load", "foo/1.0"], encoded({"LOADEDMODULES": "foo/1.0"}))
+        answers_or_refuses(folder, words, folder.environment())
+    answers_or_refuses(folder, ["sh", "load", "foo/1.0"], encoded({"LOADEDMODULES": "foo/1.0"}))
 
 
 if __name__ == "__main__":

@@ -33,7 +33,7 @@ def main():
     program = os.path.join(TOP, "build", "bin", "modulecmd")
     build = subprocess.run(["make", "build"], cwd=TOP, check=False)
     commands = [["rt", "ci"]]
-    for name in ("program", "memory", "shells"):
+    for name in ("program", "memory", "allocations", "shells"):
         commands.append([sys.executable, "-B", os.path.join(HERE, name + ".py"), program])
     passed, failed = 0, 0 if build.returncode == 0 else 1
     for command in commands:

@@ -43,7 +43,7 @@ all_push : (p : Entry → Bool) (xs : List Entry) (x : Entry) → list_all p xs 
 all_push p [] x h k = rw k refl
 all_push p (y ∷ ys) x h k = let g = both_true (p y) (list_all p ys) h in and_both (p y) (list_all p (ys ++ x ∷ [])) g.0 (all_push p ys x g.1 k)
 
-list_push : (xs : List Entry) (x : Entry) → IsLoadedList xs → can_be_added xs x ≡ true → IsLoadedList (xs ++ kept_once x ∷ [])
+pub list_push : (xs : List Entry) (x : Entry) → IsLoadedList xs → can_be_added xs x ≡ true → IsLoadedList (xs ++ kept_once x ∷ [])
 list_push xs x l h =
     let k = both_true (is_entry x) (not (has x.name (names_of xs))) h in
     record {
@@ -79,7 +79,7 @@ distinct_less q (x ∷ xs) h =
     at true f r = and_both (not (has x.name (names_of (filter q xs)))) (are_distinct (names_of (filter q xs))) (rw f refl) r
     at false f r = r
 
-list_less : (name : Text) (xs : List Entry) → IsLoadedList xs → IsLoadedList (without_entry name xs)
+pub list_less : (name : Text) (xs : List Entry) → IsLoadedList xs → IsLoadedList (without_entry name xs)
 list_less name xs l =
     record {
       each = all_less is_entry (λ x. not (bytes_eq name x.name)) xs l.each;

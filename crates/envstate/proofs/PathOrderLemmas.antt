@@ -79,7 +79,7 @@ passes_at : (p : Text → Bool) (x y : Text) (ys : List Text) (b : Bool) → byt
 passes_at p x y ys true e a h k = ap p (same_text x y e) ∙ (both_true (p y) (list_all p ys) a).0
 passes_at p x y ys false e a h k = k h
 
-passes_each : (p : Text → Bool) (x : Text) (xs : List Text) → list_all p xs ≡ true → has x xs ≡ true → p x ≡ true
+pub passes_each : (p : Text → Bool) (x : Text) (xs : List Text) → list_all p xs ≡ true → has x xs ≡ true → p x ≡ true
 passes_each p x [] a h = absurd (false≢true h)
 passes_each p x (y ∷ ys) a h = passes_at p x y ys (bytes_eq x y) refl a h (λ k. passes_each p x ys (both_true (p y) (list_all p ys) a).1 k)
 
@@ -119,7 +119,7 @@ share_apart name = apart (bytes_eq name (share_name name)) refl
     apart true e = let l : length name ≡ length (share_name name) = ap length (same_text name (share_name name) e) in absurd (omega arith)
     apart false e = refl
 
-looked : (b : Bool) (v o : Option Text) → b ≡ false → cond b v o ≡ o
+pub looked : (b : Bool) (v o : Option Text) → b ≡ false → cond b v o ≡ o
 looked b v o e = ap (λ (t : Bool). cond t v o) e
 
 lookup-elements : (e : Environment) (name : Text) (s : PathState) → lookup (with_path e name s) name ≡ text_of s.elements
@@ -152,11 +152,11 @@ record Accepts (old new : Environment) (name : Text) (s : PathState) : Type 0 wh
   written : new ≡ with_path old name s
   writable : IsWritable s
 
-no_refusal : (o : Option Refused) (r : Result Environment Refused) (new : Environment) → unless o r ≡ Ok new → (o ≡ None) × (r ≡ Ok new)
+pub no_refusal : (o : Option Refused) (r : Result Environment Refused) (new : Environment) → unless o r ≡ Ok new → (o ≡ None) × (r ≡ Ok new)
 no_refusal None r new h = (refl, h)
 no_refusal (Some x) r new h = cc
 
-no_path_refusal : (o : Option Refused) (name : Text) (t : Bool) → option_or o (if t then None else Some (bad_value name)) ≡ None → t ≡ true
+pub no_path_refusal : (o : Option Refused) (name : Text) (t : Bool) → option_or o (if t then None else Some (bad_value name)) ≡ None → t ≡ true
 no_path_refusal None name true h = refl
 no_path_refusal None name false h = cc
 no_path_refusal (Some x) name t h = cc
@@ -165,7 +165,7 @@ fits_from : (t : Bool) (e new : Environment) (r : Refused) → (if t then Ok e e
 fits_from true e new r h = (refl, cc)
 fits_from false e new r h = cc
 
-same_ok : (e new : Environment) (r : Result Environment Refused) → r ≡ Ok e → r ≡ Ok new → new ≡ e
+pub same_ok : (e new : Environment) (r : Result Environment Refused) → r ≡ Ok e → r ≡ Ok new → new ≡ e
 same_ok e new r a h = cc
 
 add_accepts : (old new : Environment) (name : Text) (xs : List Text) (end : End) → added_path old name xs end ≡ Ok new → Accepts old new name (add_all (path_in old name) xs end)

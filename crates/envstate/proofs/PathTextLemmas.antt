@@ -1,9 +1,7 @@
 -- The texts of a path variable.
-use Rattle.std.proofs.Common.{◌≡◌, ℕ, ◌-◌, ◌<◌, ◌≤◌, Bool, true, false, cond, not, ◌||◌, List, [], ◌∷◌, ◌++◌, refl, sym, ap, ◌∙◌, arith, Option, Some, None, Bor, take, get_or, append-nil, append_assoc, take_all, Result, Ok, Err, string_bytes}
+use Rattle.std.proofs.Common.{◌≡◌, ℕ, ◌-◌, ◌<◌, ◌≤◌, Bool, true, false, cond, not, ◌||◌, List, [], ◌∷◌, ◌++◌, refl, sym, ap, ◌∙◌, arith, Option, Some, None, Bor, take, get_or, append_assoc, take_all}
 use Rattle.std.specs.Prelude.{filter, bytes_eq, if◌then◌else◌}
-use Rattle.std.specs.Option.{option_or, option_copied, option_map, is_some}
-use Rattle.std.specs.Result.{IfOk}
-use Rattle.std.specs.declared.string.String.{String}
+use Rattle.std.specs.Option.{option_or, option_copied, is_some}
 use Rattle.std.specs.List.{list_any}
 use Rattle.std.proofs.Math.ListN.{length}
 use Rattle.std.proofs.Common.{drop as cut}
@@ -13,7 +11,7 @@ use Rattle.indexmap.specs.IndexMap.{IndexMap}
 use Rattle.indexmap.specs.IndexSet.{insert_key}
 use Rattle.envstate.specs.Texts.{Text, has}
 use Rattle.envstate.specs.Paths.{without}
-use Rattle.envstate.specs.PathTexts.{colon, joined, text_of, after_colons, firsts, counted, paired}
+use Rattle.envstate.specs.PathTexts.{joined, text_of, firsts, counted, paired}
 use Rattle.envstate.specs.Tables.{counter_in}
 use Rattle.envstate.specs.Texts.{shown}
 use Rattle.envstate.proofs.TextLemmas.{same_text, bytes_eq-symmetric, has-push, filter-without}
@@ -70,17 +68,6 @@ or_left_over o x (y ∷ z ∷ zs) h = absurd (omega arith)
 take_whole : {A : Type 0} (xs : List A) (n : ℕ) → length xs ≤ n → take n xs ≡ xs
 take_whole xs n h = take_all n xs h
 
-joined-cons : (x : Text) (xs : List Text) → joined (x ∷ xs) ≡ x ++ after_colons xs
-joined-cons x [] = sym (append-nil x)
-joined-cons x (y ∷ ys) = ap (λ (l : Text). x ++ (colon ∷ l)) (joined-cons y ys)
-
--- the first field and the rest, as a slice is cut
-pub joined-start : (text : Text) (d : Bor Text) (xs : List (Bor Text)) → 1 ≤ length xs → text ≡ (get_or xs 0 d).now → text ++ after_colons (shown (take (length xs - 1) (cut 1 xs))) ≡ joined (shown xs)
-joined-start text d [] l e = absurd (omega arith)
-joined-start text d (x ∷ xs) l e =
-    let w : take (length (x ∷ xs) - 1) xs ≡ xs = take_whole xs _ (omega arith) in
-    rw (e, w) (sym (joined-cons x.now (shown xs)))
-
 shown-push : (xs : List (Bor Text)) (x : Bor Text) → shown (xs ++ x ∷ []) ≡ shown xs ++ x.now ∷ []
 shown-push [] x = refl
 shown-push (y ∷ ys) x = ap (λ (l : List Text). y.now ∷ l) (shown-push ys x)
@@ -132,11 +119,6 @@ text-pair t text [] x d e h = cc
 text-pair t text (f ∷ fs) x d e h =
     let same : text ≡ joined (f ∷ fs) = cc in
     ap Some (h ∙ ap (λ (l : Text). l ++ (58 ∷ x ++ (58 ∷ d))) same ∙ sym (joined-push f fs x d))
-
-pub pair_given : {A E : Type 0} (r : Result (String A) E) (given : Option (String A)) (text : String A) (x d bs : Text) → given ≡ Some text → bs ≡ string_bytes text ++ (58 ∷ x ++ (58 ∷ d))
-    → IfOk r (λ s. string_bytes s ≡ bs) → IfOk r (λ s. (fs : List Text) → option_map string_bytes given ≡ text_of fs → Some (string_bytes s) ≡ text_of (fs ++ x ∷ d ∷ []))
-pair_given (Ok s) given text x d bs e shape h = λ fs k. text-pair (string_bytes s) (string_bytes text) fs x d (ap (option_map string_bytes) (sym e) ∙ k) (h ∙ shape)
-pair_given (Err s) given text x d bs e shape h = h
 
 inserted : (ks : List (Bor Text)) (x : Bor Text) (t : Bool) → has x.now (shown ks) ≡ t → shown (cond t ks (ks ++ x ∷ [])) ≡ with_new (shown ks) x.now
 inserted ks x true h = rw h refl

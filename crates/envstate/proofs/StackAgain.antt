@@ -93,11 +93,11 @@ name_apart name = apart (bytes_eq name (stack_name name)) refl
     apart true e = let l : length name ≡ length (stack_name name) = ap length (same_text name (stack_name name) e) in absurd (omega arith)
     apart false e = refl
 
-found_at : (e : Environment) (name : Text) (value text : Option Text) → lookup (with_value (with_value e name value) (stack_name name) text) (stack_name name) ≡ text
+pub found_at : (e : Environment) (name : Text) (value text : Option Text) → lookup (with_value (with_value e name value) (stack_name name) text) (stack_name name) ≡ text
 found_at e name value text =
     lookup-with_value (with_value e name value) (stack_name name) text (stack_name name) ∙ ap (λ (b : Bool). cond b text (lookup (with_value e name value) (stack_name name))) (bytes_eq-same (stack_name name))
 
-value_at : (e : Environment) (name : Text) (value text : Option Text) → lookup (with_value (with_value e name value) (stack_name name) text) name ≡ value
+pub value_at : (e : Environment) (name : Text) (value text : Option Text) → lookup (with_value (with_value e name value) (stack_name name) text) name ≡ value
 value_at e name value text =
     lookup-with_value (with_value e name value) (stack_name name) text name ∙ ap (λ (b : Bool). cond b text (lookup (with_value e name value) name)) (name_apart name)
     ∙ lookup-with_value e name value name ∙ ap (λ (b : Bool). cond b value (lookup e name)) (bytes_eq-same name)

@@ -16,3 +16,4 @@ pub mod Stacks
 pub mod StackTexts
 pub mod StackVariables
 pub mod StackRuns
+pub mod StackOrder

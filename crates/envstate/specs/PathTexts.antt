@@ -89,10 +89,6 @@ counter_fields s xs = flat_map (λ x. x ∷ decimal (s.counter x) ∷ []) xs
 abbrev pub pairs_text : PathState → Option Text
 pairs_text s = text_of (counter_fields s (written s))
 
--- each with a colon before it
-abbrev pub after_colons : List Text → Text
-after_colons xs = flat_map (λ x. colon ∷ x) xs
-
 -- a text without a colon
 abbrev pub IsPlain : Text → Type 0
 IsPlain x = list_any (λ b. b == colon) x ≡ false

@@ -12,6 +12,7 @@ ghost use Rattle.envstate.specs.Changes.{Edit, AreChanges, applied, edit_of, dif
 
 use crate::env::Env;
 use crate::fault::EnvFault;
+use crate::fields::copy;
 use std::alloc::{AllocError, Global};
 
 /// A variable's name, and its new value, or none where it is unset.
@@ -19,16 +20,6 @@ use std::alloc::{AllocError, Global};
 pub struct Change {
     pub name: String,
     pub value: Option<String>,
-}
-
-/// The text, copied.
-fn owned(alloc: Global, text: Option<&str>) -> Result<Option<String>, AllocError>
-    ensures { IfOk result (λ t. option_map string_bytes t ≡ option_map (λ x. x.now) text.entry) }
-{
-    match text {
-        None => Ok(None),
-        Some(text) => Ok(Some(String::from_str(alloc, text)?)),
-    }
 }
 
 /// Notes the change of one name, if it has one.
@@ -45,7 +36,7 @@ fn note_change(
     let after = new.get(name);
     if before != after {
         let name = String::from_str(alloc, name)?;
-        let value = owned(alloc, after)?;
+        let value = copy(alloc, after)?;
         changes.push(Change { name, value })?;
     }
     Ok(())

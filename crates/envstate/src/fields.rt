@@ -85,6 +85,16 @@ pub(crate) fn are_distinct(alloc: Global, texts: &[&str]) -> Result<bool, AllocE
     Ok(once(alloc, texts)?.len() == texts.len())
 }
 
+/// The text, copied.
+pub(crate) fn copy(alloc: Global, text: Option<&str>) -> Result<Option<String>, AllocError>
+    ensures { IfOk result (λ t. option_map string_bytes t ≡ option_map (λ x. x.now) text.entry) }
+{
+    match text {
+        None => Ok(None),
+        Some(text) => Ok(Some(String::from_str(alloc, text)?)),
+    }
+}
+
 /// The texts as slices.
 pub(crate) fn slices(alloc: Global, texts: &[String]) -> Result<Vec<&str>, AllocError>
     ensures { IfOk result (λ v. shown v.items ≡ map string_bytes texts.now) }

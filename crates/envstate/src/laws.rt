@@ -13,8 +13,8 @@ ghost use Rattle.envstate.specs.Changes as difference;
 ghost use Rattle.envstate.specs.Changes.{AreChanges, applied};
 ghost use Rattle.envstate.specs.declared.paths.End.{End};
 
-pub use crate::loaded_laws::{loaded_edits, loaded_texts};
-pub use crate::stack_laws::{stack_steps, stack_texts, stacks};
+pub use crate::loaded_laws::{loaded_edits, loaded_orders, loaded_texts};
+pub use crate::stack_laws::{stack_edits, stack_orders, stack_steps, stack_texts, stacks};
 
 /// After any adds, and drops that each undo one of them, what was there before stands as it was,
 /// and what is live is counted on top of it. Where nothing is live, it is what was there before.

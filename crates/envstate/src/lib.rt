@@ -27,8 +27,3 @@ pub use loaded_list::{conflicts_of, loaded, prereqs_of};
 pub use names::{is_plain_value, is_protected, is_variable_name, share_name};
 pub use paths::{End, add_path, drop_path};
 pub use stacks::{pop_value, push_value};
-
-#[cfg(test)]
-mod loaded_tests;
-#[cfg(test)]
-mod tests;

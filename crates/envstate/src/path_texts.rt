@@ -1,20 +1,14 @@
 //! Reading and writing a path variable: its elements, and in another variable their counters.
-ghost use Rattle.std.specs.Prelude.{◌≡◌, ◌≤◌, ℕ, List, map, IfOk, OnOk, None, Some, [], ◌∷◌, ◌++◌, decimal, flat_map, string_bytes, bytes_eq, if◌then◌else◌};
+ghost use Rattle.std.specs.Prelude.{◌≡◌, ◌≤◌, ℕ, List, IfOk, OnOk, None, Some, [], ◌∷◌, ◌++◌, decimal, flat_map, string_bytes, bytes_eq, if◌then◌else◌};
 ghost use Rattle.std.specs.Option.{option_or, option_map};
 ghost use Rattle.envstate.specs.Texts.{Text, has, shown};
 ghost use Rattle.envstate.specs.Tables.{counter_in, count_in, one_if_absent, stated, IsTable};
 ghost use Rattle.envstate.specs.PathEdits.{AreTexts};
-ghost use Rattle.envstate.specs.PathTexts.{fields, most, number_from, counter_of, counted, paired, text_of, firsts, pair_fields, pairs_text, is_lone_empty, elements_of, pairs_of, state_of};
+ghost use Rattle.envstate.specs.PathTexts.{most, number_from, counter_of, counted, paired, text_of, pair_fields, pairs_text, is_lone_empty, elements_of, pairs_of, state_of};
 
-use indexmap::{IndexMap, IndexSet};
+use crate::fields::{once, parts, text_of};
+use indexmap::IndexMap;
 use std::alloc::{AllocError, Global};
-
-/// The fields between colons.
-fn fields(alloc: Global, text: &str) -> Result<Vec<&str>, AllocError>
-    ensures { IfOk result (λ v. map (λ x. x.now) v.items ≡ fields text.now) }
-{
-    text.split(':').collect(alloc)
-}
 
 /// The largest counter.
 pub(crate) const LARGEST: u64 = 4294967295;
@@ -105,7 +99,7 @@ fn elements_of<'a>(
         None => Ok(Vec::new(alloc)),
         Some(text) => {
             if !text.is_empty() {
-                return fields(alloc, text);
+                return parts(alloc, text, ':');
             }
             let mut elements = Vec::new(alloc);
             if counters.get("").is_some() {
@@ -122,7 +116,7 @@ fn pair_fields_of(alloc: Global, counts: Option<&str>) -> Result<Vec<&str>, Allo
 {
     match counts {
         None => Ok(Vec::new(alloc)),
-        Some(counts) => fields(alloc, counts),
+        Some(counts) => parts(alloc, counts, ':'),
     }
 }
 
@@ -168,36 +162,6 @@ pub(crate) fn read_path<'a>(
     Ok(Path { elements, counters })
 }
 
-/// The fields with colons between them, or none where there is no field.
-fn joined(alloc: Global, fields: &[&str]) -> Result<Option<String>, AllocError>
-    ensures { IfOk result (λ t. option_map string_bytes t ≡ text_of (shown fields.now)) }
-{
-    let [first, behind @ ..] = fields else {
-        return Ok(None);
-    };
-    let mut text = String::from_str(alloc, first)?;
-    let mut rest = behind;
-    while let [field, after @ ..] = rest {
-        text.push(':')?;
-        text.push_str(field)?;
-        rest = after;
-    }
-    Ok(Some(text))
-}
-
-/// Each element once, by its first place.
-fn firsts<'a>(alloc: Global, elements: &[&'a str]) -> Result<IndexSet<&'a str>, AllocError>
-    ensures { IfOk result (λ s. shown s.keys ≡ firsts (shown elements.now)) }
-{
-    let mut once = IndexSet::new(alloc);
-    let mut rest = elements;
-    while let [element, after @ ..] = rest {
-        once.insert(*element)?;
-        rest = after;
-    }
-    Ok(once)
-}
-
 /// The text with a pair at its end.
 fn with_pair(
     alloc: Global,
@@ -209,7 +173,11 @@ fn with_pair(
 {
     match text {
         None => format!(in alloc; "{element}:{count}"),
-        Some(text) => format!(in alloc; "{text}:{element}:{count}"),
+        Some(mut text) => {
+            let pair = format!(in alloc; ":{element}:{count}")?;
+            text.push_str(pair.as_str())?;
+            Ok(text)
+        }
     }
 }
 
@@ -268,8 +236,8 @@ fn write_counters(
     ensures { IfOk result (λ t. option_map string_bytes t ≡ pairs_text (stated (shown elements.now) (counter_in counters.now))) }
 {
     let is_lone = is_lone_empty(elements);
-    let once = firsts(alloc, elements)?;
-    counts_text(alloc, once.as_slice(), counters, is_lone)
+    let elements = once(alloc, elements)?;
+    counts_text(alloc, elements.as_slice(), counters, is_lone)
 }
 
 /// The texts of a path variable and of its counters, or none where the variable is unset.
@@ -287,7 +255,7 @@ pub(crate) fn write_path(
 ) -> Result<PathTexts, AllocError>
     ensures { IfOk result (λ t. AreTexts t (stated (shown elements.now) (counter_in counters.now))) }
 {
-    let text = joined(alloc, elements)?;
+    let text = text_of(alloc, elements)?;
     let counts = write_counters(alloc, elements, counters)?;
     Ok(PathTexts {
         elements: text,

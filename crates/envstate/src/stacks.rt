@@ -13,6 +13,7 @@ ghost use Rattle.envstate.specs.declared.fault.EnvFault.TheVariants.{OutOfMemory
 use crate::difference::Change;
 use crate::env::Env;
 use crate::fault::EnvFault;
+use crate::fields::copy;
 use crate::names::{is_plain_value, judge_name, stack_name};
 use crate::stack_texts::{StackItem, read_stack, stack_text};
 use modulename::is_module_name;
@@ -68,15 +69,6 @@ fn is_on_top(items: &[StackItem], owner: &str) -> bool
     match items {
         [] => false,
         [top, ..] => is_owned(top, owner),
-    }
-}
-
-fn copy(alloc: Global, text: Option<&str>) -> Result<Option<String>, AllocError>
-    ensures { IfOk result (λ t. option_map string_bytes t ≡ option_map (λ x. x.now) text.entry) }
-{
-    match text {
-        None => Ok(None),
-        Some(text) => Ok(Some(String::from_str(alloc, text)?)),
     }
 }
 

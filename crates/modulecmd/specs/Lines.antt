@@ -5,8 +5,8 @@ use Rattle.envstate.specs.declared.fault.EnvFault.{EnvFault}
 use Rattle.envstate.specs.declared.fault.EnvFault.TheVariants as edits
 use Rattle.lookup.specs.declared.search.FindFault.{FindFault}
 use Rattle.lookup.specs.declared.search.FindFault.TheVariants as finds
-use Rattle.tcltext.specs.declared.TextFault.{TextFault}
-use Rattle.tcltext.specs.declared.TextFault.TheVariants as texts
+use Rattle.tclchars.specs.declared.fault.TextFault.{TextFault}
+use Rattle.tclchars.specs.declared.fault.TextFault.TheVariants as texts
 use Rattle.modules.specs.declared.refusal.Refusal.{Refusal}
 use Rattle.modules.specs.declared.refusal.Refusal.TheVariants as refusals
 use Rattle.modulecmd.specs.declared.print.PrintFault.{PrintFault}

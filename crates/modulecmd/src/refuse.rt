@@ -17,7 +17,7 @@ use lookup::FindFault;
 use modules::Refusal;
 use std::alloc::AllocError;
 use std::io::Write;
-use tcltext::TextFault;
+use tclchars::TextFault;
 use thiserror::Error;
 
 /// Why a command is refused. Its `Display` is what follows `ERROR: ` on standard error.

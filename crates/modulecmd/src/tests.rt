@@ -11,7 +11,7 @@ use std::alloc::{AllocError, Global};
 use std::io::{ErrorKind, Write};
 use std::test::Fail;
 use std::{env, io};
-use tcltext::TextFault;
+use tclchars::TextFault;
 
 /// A writer that takes at most three bytes at a time, and fails once it is full.
 #[derive(Drop)]
@@ -205,55 +205,42 @@ fn own_environment(rt: HostRuntime) -> Result<(), Fail> {
     Ok(())
 }
 
-#[test]
-fn error_lines(rt: HostRuntime) -> Result<(), Fail> {
-    let foo = || String::from_str(rt.alloc(), "foo");
-    let rows = [
-        (
-            CommandFault::Refused(Refusal::Text(TextFault::BadCharacter(18))),
+/// A fault, its number, and the text of its line.
+type ErrorLine = (CommandFault, u16, &'static str);
+
+fn refused(refusal: Refusal, number: u16, text: &'static str) -> ErrorLine {
+    (CommandFault::Refused(refusal), number, text)
+}
+
+/// A fault of each crate, and each of the command's own.
+fn lines_of_faults(alloc: Global) -> Result<[ErrorLine; 12], AllocError> {
+    let foo = || String::from_str(alloc, "foo");
+    Ok([
+        refused(
+            Refusal::Text(TextFault::BadCharacter(18)),
             7,
             "Bad character at byte 18",
         ),
-        (
-            CommandFault::Refused(Refusal::Text(TextFault::TooLong)),
-            9,
-            "Text is too long",
-        ),
-        (
-            CommandFault::Refused(Refusal::LeftOut(foo()?)),
-            19,
-            "'foo' is left out",
-        ),
-        (
-            CommandFault::Refused(Refusal::Env(EnvFault::OutOfMemory)),
-            31,
-            "Out of memory",
-        ),
-        (
-            CommandFault::Refused(Refusal::Env(EnvFault::Protected(foo()?))),
+        refused(Refusal::Text(TextFault::TooLong), 9, "Text is too long"),
+        refused(Refusal::LeftOut(foo()?), 19, "'foo' is left out"),
+        refused(Refusal::Env(EnvFault::OutOfMemory), 31, "Out of memory"),
+        refused(
+            Refusal::Env(EnvFault::Protected(foo()?)),
             33,
             "Variable 'foo' is kept by the tool",
         ),
-        (
-            CommandFault::Refused(Refusal::Env(EnvFault::Inconsistent)),
+        refused(
+            Refusal::Env(EnvFault::Inconsistent),
             35,
             "Loaded modules are inconsistent",
         ),
-        (
-            CommandFault::Refused(Refusal::Find(FindFault::Device)),
-            43,
-            "Reading failed",
-        ),
-        (
-            CommandFault::Refused(Refusal::Find(FindFault::NotUtf8(foo()?))),
+        refused(Refusal::Find(FindFault::Device), 43, "Reading failed"),
+        refused(
+            Refusal::Find(FindFault::NotUtf8(foo()?)),
             46,
             "Not UTF-8: 'foo'",
         ),
-        (
-            CommandFault::Refused(Refusal::FileGone(foo()?)),
-            54,
-            "No file at 'foo'",
-        ),
+        refused(Refusal::FileGone(foo()?), 54, "No file at 'foo'"),
         (
             CommandFault::Unprinted(PrintFault::NotSayable(foo()?)),
             62,
@@ -265,8 +252,12 @@ fn error_lines(rt: HostRuntime) -> Result<(), Fail> {
             "Unknown shell 'foo'",
         ),
         (CommandFault::WriteFailed, 64, "Writing failed"),
-    ];
-    for (fault, number, text) in &rows {
+    ])
+}
+
+#[test]
+fn error_lines(rt: HostRuntime) -> Result<(), Fail> {
+    for (fault, number, text) in &lines_of_faults(rt.alloc())? {
         let line = format!(in rt.alloc(); "ERROR: {text}\n")?;
         let shown = format!(in rt.alloc(); "ERROR: {fault}\n")?;
         let mut err = Vec::new(rt.alloc());

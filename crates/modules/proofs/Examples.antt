@@ -4,8 +4,11 @@ use Rattle.std.specs.Prelude.{codes, bytes_eq, if◌then◌else◌, is_some, unw
 use Rattle.std.specs.Cmp.Lexicographic.{nat_list_cmp_total}
 use Rattle.std.specs.FinMap.{get-insert, get-remove}
 use Rattle.std.proofs.lemmas.Map.Text.{is_eq-slice_cmp}
-use Rattle.tcltext.specs.Tree.{Script, literal, command_texts}
-use Rattle.tcltext.specs.Reading.{script_of, script_at, command_at, word_at, after_gap}
+use Rattle.tclscript.specs.Tree.{Commands, no_commands, command, no_words, word, Word, word_of, no_parts, part, literal}
+use Rattle.tclscript.specs.Text.{script_of}
+use Rattle.tclscript.specs.Passing.{pass}
+use Rattle.tclscript.specs.Reading.{script_at, script_with, inner_at, command_at, word_at, plain_word_at, parts_with, part_at, after_expansion}
+use Rattle.modules.specs.Literals.{commands_in}
 use Rattle.envstate.specs.Texts.{Text, has}
 use Rattle.envstate.specs.Environment.{Environment, lookup, with_value}
 use Rattle.envstate.specs.Refused.{Refused}
@@ -44,14 +47,16 @@ foo_path = codes "/m/foo/1.0"
 pub foo_text : Text
 foo_text = codes "#%Module" ++ 10 ∷ (codes "setenv FOO on" ++ 10 ∷ (codes "prepend-path PATH /opt/foo/bin" ++ 10 ∷ []))
 
-foo_script : Script
+plain_word : Text → Word
+plain_word t = word_of false (part (literal t) no_parts)
+
+foo_script : Commands
 foo_script =
-    ((literal (codes "setenv") ∷ []) ∷ (literal (codes "FOO") ∷ []) ∷ (literal (codes "on") ∷ []) ∷ [])
-    ∷ ((literal (codes "prepend-path") ∷ []) ∷ (literal (codes "PATH") ∷ []) ∷ (literal (codes "/opt/foo/bin") ∷ []) ∷ [])
-    ∷ []
+    command (codes "setenv") (word (plain_word (codes "setenv")) (word (plain_word (codes "FOO")) (word (plain_word (codes "on")) no_words)))
+    (command (codes "prepend-path") (word (plain_word (codes "prepend-path")) (word (plain_word (codes "PATH")) (word (plain_word (codes "/opt/foo/bin")) no_words))) no_commands)
 
 foo_read : script_of foo_text ≡ Ok foo_script
-unfolding script_of script_at command_at word_at after_gap foo_text foo_script
+unfolding script_at script_with inner_at command_at word_at plain_word_at parts_with part_at after_expansion pass foo_text foo_script plain_word
 foo_read = refl
 
 -- a tree of this file alone
@@ -105,8 +110,8 @@ prepended d path share =
     refused_as bad_edit (written_path d (codes "PATH") (add_all (state_of path share) (codes "/opt/foo/bin" ∷ []) ends.Front))
     >>= (λ t. Ok t) >>= (λ t. Ok t)
 
-foo_runs : (e : Environment) → Start e → run_limited Load foo standard e (map command_texts foo_script) ≡ Ok (edited e)
-unfolding foo_script standard edited set_foo allowed prepended
+foo_runs : (e : Environment) → Start e → run_limited Load foo standard e (commands_in foo_script) ≡ Ok (edited e)
+unfolding foo_script plain_word standard edited set_foo allowed prepended
 foo_runs e s =
     let path : lookup (set_foo e) (codes "PATH") ≡ Some (codes "/usr/bin:/bin") = lookup-with_value e (codes "FOO") (Some (codes "on")) (codes "PATH") ∙ s.path in
     let share : lookup (set_foo e) (codes "__MODULES_SHARE_PATH") ≡ None = lookup-with_value e (codes "FOO") (Some (codes "on")) (codes "__MODULES_SHARE_PATH") ∙ s.share in
@@ -197,8 +202,8 @@ dropped_again d path share =
     refused_as bad_edit (Ok (with_path d (codes "PATH") (drop_all (state_of path share) (codes "/opt/foo/bin" ∷ []))))
     >>= (λ t. Ok t) >>= (λ t. Ok t)
 
-foo_undone : (e : Environment) → Loaded e → run_limited Unload foo standard e (map command_texts foo_script) ≡ Ok (undone e)
-unfolding foo_script standard undone unset_foo allowed_again dropped_again
+foo_undone : (e : Environment) → Loaded e → run_limited Unload foo standard e (commands_in foo_script) ≡ Ok (undone e)
+unfolding foo_script plain_word standard undone unset_foo allowed_again dropped_again
 foo_undone e s =
     let path : lookup (unset_foo e) (codes "PATH") ≡ Some (codes "/opt/foo/bin:/usr/bin:/bin") = lookup-with_value e (codes "FOO") None (codes "PATH") ∙ s.path in
     let share : lookup (unset_foo e) (codes "__MODULES_SHARE_PATH") ≡ None = lookup-with_value e (codes "FOO") None (codes "__MODULES_SHARE_PATH") ∙ s.share in

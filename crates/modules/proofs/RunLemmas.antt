@@ -6,31 +6,17 @@ use Rattle.std.proofs.lemmas.Bool.Decides.{nat_tests}
 use Rattle.envstate.specs.Texts.{Text}
 use Rattle.envstate.specs.Refused.{Refused}
 use Rattle.envstate.specs.Environment.{Environment}
-use Rattle.tcltext.specs.Tree.{Script, word_text, command_texts}
-use Rattle.tcltext.specs.View.{word_view, command_view}
-use Rattle.tcltext.specs.Reading.{script_of}
-use Rattle.tcltext.specs.declared.Word as rust_word
-use Rattle.tcltext.specs.declared.Command as rust_command
+use Rattle.tclscript.specs.Tree.{Commands, Words}
+use Rattle.tclscript.specs.Text.{script_of}
 use Rattle.modules.specs.declared.evaluate.Mode.{Mode}
 use Rattle.modules.specs.declared.running.Limits.{Limits}
 use Rattle.modules.specs.Then.{◌>>=◌, refused_as}
 use Rattle.modules.specs.Reasons.{Reason, bad_edit, bad_text, value_too_long, too_deep, too_many_commands}
 use Rattle.modules.specs.Records.{Record, Set, Unset, Push, Front, Back, Remove, Conflict, Prereq, Whatis, effect, effects, conflict_names, prereq_groups}
 use Rattle.modules.specs.Commands.{Call, setenv, prepend_path, call_of, record_of, is_left_out, objection, unless}
-use Rattle.modules.specs.Evaluation.{within, answer, records_from, limited, records_of, evaluated}
+use Rattle.modules.specs.Literals.{texts_of, commands_in}
+use Rattle.modules.specs.Evaluation.{answer, records_from, limited, records_of, evaluated}
 use Rattle.modules.specs.Running.{run_command, run_commands, run_limited}
-
-both_false : (a b : Bool) → b ≡ false → (a && b) ≡ false
-both_false true b e = e
-both_false false b e = refl
-
-not_all : (test : Text → Bool) (ws : List rust_word.Word) (i : ℕ) (w : rust_word.Word) → i < length ws → w ≡ get_or ws i w → test (word_text (word_view w)) ≡ false → list_all test (map word_text (map word_view ws)) ≡ false
-not_all test [] i w below is e = absurd (omega arith)
-not_all test (x ∷ xs) zero w below is e = ap (λ (v : rust_word.Word). test (word_text (word_view v)) && list_all test (map word_text (map word_view xs))) (sym is) ∙ ap (λ t. t && list_all test (map word_text (map word_view xs))) e
-not_all test (x ∷ xs) (suc i) w below is e = both_false (test (word_text (word_view x))) (list_all test (map word_text (map word_view xs))) (not_all test xs i w (omega arith) is e)
-
-not_within : (most : ℕ) (ws : List Text) → list_all (λ word. nat_le (length word) most) ws ≡ false → within most ws ≡ Err value_too_long
-not_within most ws e = ap (λ b. cond b (Ok ws) (Err value_too_long)) e
 
 above : (m n : ℕ) → n < m → nat_le m n ≡ false
 above m n h = grind (arith, nat_tests)
@@ -42,19 +28,12 @@ same_end : (x : Result Environment Reason) → (x >>= (λ d. Ok d)) ≡ x
 same_end (Ok d) = refl
 same_end (Err r) = refl
 
--- a word that is too long
-pub within-too_long : (most : ℕ) (ws : List rust_word.Word) (i : ℕ) (w : rust_word.Word) → i < length ws → w ≡ get_or ws i w → most < length (word_text (word_view w)) → within most (map word_text (map word_view ws)) ≡ Err value_too_long
-within-too_long most ws i w below is long =
-    not_within most (map word_text (map word_view ws))
-    (not_all (λ word. nat_le (length word) most) ws i w below is (above (length (word_text (word_view w))) most long))
-
 -- from a command on
-pub run_commands-at : (mode : Mode) (owner : Text) (most : ℕ) (e : Environment) (cs : List rust_command.Command) (i : ℕ) (x : rust_command.Command) → i < length cs → x ≡ get_or cs i x
-    → run_commands mode owner most e (map command_texts (map command_view (drop i cs)))
-    ≡ (run_command mode owner most e (command_texts (command_view x)) >>= (λ d. run_commands mode owner most d (map command_texts (map command_view (drop (i + 1) cs)))))
-run_commands-at mode owner most e cs i x below is =
-    at_drop_more (λ (l : List rust_command.Command). run_commands mode owner most e (map command_texts (map command_view l))) cs i x below
-    ∙ ap (λ (y : rust_command.Command). run_command mode owner most e (command_texts (command_view y)) >>= (λ d. run_commands mode owner most d (map command_texts (map command_view (drop (i + 1) cs))))) (sym is)
+pub run_commands-at : {C : Type 0} (view : C → Text × Words) (mode : Mode) (owner : Text) (most : ℕ) (e : Environment) (cs : List C) (i : ℕ) (x : C) → i < length cs → x ≡ get_or cs i x
+    → run_commands mode owner most e (map view (drop i cs)) ≡ (run_command mode owner most e (view x) >>= (λ d. run_commands mode owner most d (map view (drop (i + 1) cs))))
+run_commands-at {C} view mode owner most e cs i x below is =
+    at_drop_more (λ (l : List C). run_commands mode owner most e (map view l)) cs i x below
+    ∙ ap (λ (y : C). run_command mode owner most e (view y) >>= (λ d. run_commands mode owner most d (map view (drop (i + 1) cs)))) (sym is)
 
 -- a record of this stage's commands
 abbrev pub IsPlain : Record → Type 0
@@ -89,8 +68,8 @@ plain_words : (mode : Mode) (e : Environment) (x : Result (List Text) Reason) (r
 plain_words mode e (Err reason) r h = absurd (cc)
 plain_words mode e (Ok words) r h = plain_call mode e (call_of words) r h
 
-plain_answer : (mode : Mode) (most : ℕ) (e : Environment) (words : List Text) (r : Record) → answer mode most e words ≡ Ok r → IsPlain r
-plain_answer mode most e words r h = plain_words mode e (within most words) r h
+plain_answer : (mode : Mode) (most : ℕ) (e : Environment) (c : Text × Words) (r : Record) → answer mode most e c ≡ Ok r → IsPlain r
+plain_answer mode most e c r h = plain_words mode e (texts_of most c.0 c.1) r h
 
 -- records, and what they make of an environment; without conflicts and prereqs
 pub record Makes (mode : Mode) (owner : Text) (e : Environment) (rs : List Record) (d : Environment) : Type 0 where
@@ -138,7 +117,7 @@ both_more mode owner e d r plain is (Ok rs) (Ok t) h =
       no_prereqs = no_more_prereqs r rs plain ∙ h.no_prereqs;
     }
 
-both_effect : (mode : Mode) (owner : Text) (most : ℕ) (e : Environment) (r : Record) (cs : List (List Text)) → IsPlain r
+both_effect : (mode : Mode) (owner : Text) (most : ℕ) (e : Environment) (r : Record) (cs : List (Text × Words)) → IsPlain r
     → ((d : Environment) → Both mode owner d (records_from mode owner most d cs) (run_commands mode owner most d cs))
     → (z : Result Environment Refused) → effect mode owner r e ≡ z
     → Both mode owner e (refused_as bad_edit z >>= (λ d. records_from mode owner most d cs >>= (λ rs. Ok (r ∷ rs)))) (refused_as bad_edit z >>= (λ d. run_commands mode owner most d cs))
@@ -146,7 +125,7 @@ both_effect mode owner most e r cs plain more (Err x) is = refl
 both_effect mode owner most e r cs plain more (Ok d) is =
     both_more mode owner e d r plain is (records_from mode owner most d cs) (run_commands mode owner most d cs) (more d)
 
-both_answer : (mode : Mode) (owner : Text) (most : ℕ) (e : Environment) (cs : List (List Text))
+both_answer : (mode : Mode) (owner : Text) (most : ℕ) (e : Environment) (cs : List (Text × Words))
     → ((d : Environment) → Both mode owner d (records_from mode owner most d cs) (run_commands mode owner most d cs))
     → (x : Result Record Reason) → ((r : Record) → x ≡ Ok r → IsPlain r)
     → Both mode owner e
@@ -155,7 +134,7 @@ both_answer : (mode : Mode) (owner : Text) (most : ℕ) (e : Environment) (cs : 
 both_answer mode owner most e cs more (Err reason) plain = refl
 both_answer mode owner most e cs more (Ok r) plain = both_effect mode owner most e r cs (plain r refl) more (effect mode owner r e) refl
 
-pub together : (mode : Mode) (owner : Text) (most : ℕ) (cs : List (List Text)) (e : Environment) → Both mode owner e (records_from mode owner most e cs) (run_commands mode owner most e cs)
+pub together : (mode : Mode) (owner : Text) (most : ℕ) (cs : List (Text × Words)) (e : Environment) → Both mode owner e (records_from mode owner most e cs) (run_commands mode owner most e cs)
 together mode owner most [] e = record { made = refl; no_conflicts = refl; no_prereqs = refl }
 together mode owner most (c ∷ cs) e = both_answer mode owner most e cs (together mode owner most cs) (answer mode most e c) (plain_answer mode most e c)
 
@@ -166,7 +145,7 @@ both_limited mode owner e b reason (Ok rs) (Err s) h = absurd h
 both_limited mode owner e true reason (Ok rs) (Ok d) h = h
 both_limited mode owner e false reason (Ok rs) (Ok d) h = refl
 
-pub limited_together : (mode : Mode) (owner : Text) (limits : Limits) (cs : List (List Text)) (e : Environment) → Both mode owner e (limited mode owner limits e cs) (run_limited mode owner limits e cs)
+pub limited_together : (mode : Mode) (owner : Text) (limits : Limits) (cs : List (Text × Words)) (e : Environment) → Both mode owner e (limited mode owner limits e cs) (run_limited mode owner limits e cs)
 limited_together mode owner limits cs e =
     both_limited mode owner e (nat_le (length cs) limits.commands) too_many_commands (records_from mode owner limits.value_bytes e (take limits.commands cs)) (run_commands mode owner limits.value_bytes e (take limits.commands cs))
     (together mode owner limits.value_bytes (take limits.commands cs) e)
@@ -178,42 +157,37 @@ both_made mode owner e (Ok rs) (Err s) h = absurd h
 both_made mode owner e (Ok rs) (Ok d) h = ap (refused_as bad_edit) h.made
 
 -- where a text has a script, its records are those of the script's commands
-pub records_of-script : (mode : Mode) (owner : Text) (limits : Limits) (e : Environment) (text : Text) (script : Script) → nat_eq limits.depth 0 ≡ false → script_of text ≡ Ok script → records_of mode owner limits e text ≡ limited mode owner limits e (map command_texts script)
+pub records_of-script : (mode : Mode) (owner : Text) (limits : Limits) (e : Environment) (text : Text) (script : Commands) → nat_eq limits.depth 0 ≡ false → script_of text ≡ Ok script → records_of mode owner limits e text ≡ limited mode owner limits e (commands_in script)
 records_of-script mode owner limits e text script depth is =
-    ap (λ b. cond b (Err too_deep) (refused_as bad_text (script_of text) >>= (λ s. limited mode owner limits e (map command_texts s)))) depth
-    ∙ ap (λ x. refused_as bad_text x >>= (λ s. limited mode owner limits e (map command_texts s))) is
+    ap (λ b. cond b (Err too_deep) (refused_as bad_text (script_of text) >>= (λ s. limited mode owner limits e (commands_in s)))) depth
+    ∙ ap (λ x. refused_as bad_text x >>= (λ s. limited mode owner limits e (commands_in s))) is
 
 -- and evaluating the text is running them
-pub evaluated-script : (mode : Mode) (owner : Text) (limits : Limits) (e : Environment) (text : Text) (script : Script) → nat_eq limits.depth 0 ≡ false → script_of text ≡ Ok script → evaluated mode owner limits e text ≡ run_limited mode owner limits e (map command_texts script)
+pub evaluated-script : (mode : Mode) (owner : Text) (limits : Limits) (e : Environment) (text : Text) (script : Commands) → nat_eq limits.depth 0 ≡ false → script_of text ≡ Ok script → evaluated mode owner limits e text ≡ run_limited mode owner limits e (commands_in script)
 evaluated-script mode owner limits e text script depth is =
     ap (λ x. x >>= (λ rs. refused_as bad_edit (effects mode owner rs e))) (records_of-script mode owner limits e text script depth is)
-    ∙ both_made mode owner e (limited mode owner limits e (map command_texts script)) (run_limited mode owner limits e (map command_texts script)) (limited_together mode owner limits (map command_texts script) e)
+    ∙ both_made mode owner e (limited mode owner limits e (commands_in script)) (run_limited mode owner limits e (commands_in script)) (limited_together mode owner limits (commands_in script) e)
 
-abbrev texts_of : List rust_command.Command → List (List Text)
-texts_of cs = map command_texts (map command_view cs)
-
-take-texts : (n : ℕ) (cs : List rust_command.Command) → take n (texts_of cs) ≡ texts_of (take n cs)
-take-texts n cs = take-map command_texts n (map command_view cs) ∙ ap (map command_texts) (take-map command_view n cs)
-
-abbrev ending : Limits → List (List Text) → Environment → Result Environment Reason
+abbrev ending : Limits → List (Text × Words) → Environment → Result Environment Reason
 ending limits cs d = cond (nat_le (length cs) limits.commands) (Ok d) (Err too_many_commands)
 
--- a refusal among the commands within the limit
-pub run_limited-refused : (mode : Mode) (owner : Text) (limits : Limits) (e : Environment) (cs : List rust_command.Command) (r : Reason) → run_commands mode owner limits.value_bytes e (texts_of (take limits.commands cs)) ≡ Err r → run_limited mode owner limits e (texts_of cs) ≡ Err r
-run_limited-refused mode owner limits e cs r h =
-    ap (λ l. run_commands mode owner limits.value_bytes e l >>= ending limits (texts_of cs)) (take-texts limits.commands cs)
-    ∙ ap (λ x. x >>= ending limits (texts_of cs)) h
+module _ {C : Type 0} (view : C → Text × Words) where
+  -- a refusal among the commands within the limit
+  pub run_limited-refused : (mode : Mode) (owner : Text) (limits : Limits) (e : Environment) (cs : List C) (r : Reason) → run_commands mode owner limits.value_bytes e (map view (take limits.commands cs)) ≡ Err r → run_limited mode owner limits e (map view cs) ≡ Err r
+  run_limited-refused mode owner limits e cs r h =
+      ap (λ l. run_commands mode owner limits.value_bytes e l >>= ending limits (map view cs)) (take-map view limits.commands cs)
+      ∙ ap (λ x. x >>= ending limits (map view cs)) h
 
--- one command more than the limit
-pub run_limited-more : (mode : Mode) (owner : Text) (limits : Limits) (e : Environment) (cs : List rust_command.Command) (d : Environment) → run_commands mode owner limits.value_bytes e (texts_of (take limits.commands cs)) ≡ Ok d → limits.commands < length cs → run_limited mode owner limits e (texts_of cs) ≡ Err too_many_commands
-run_limited-more mode owner limits e cs d h more =
-    ap (λ l. run_commands mode owner limits.value_bytes e l >>= ending limits (texts_of cs)) (take-texts limits.commands cs)
-    ∙ (ap (λ x. x >>= ending limits (texts_of cs)) h
-    ∙ ap (λ b. cond b (Ok d) (Err too_many_commands)) (above (length (texts_of cs)) limits.commands (simp length-map more)))
+  -- one command more than the limit
+  pub run_limited-more : (mode : Mode) (owner : Text) (limits : Limits) (e : Environment) (cs : List C) (d : Environment) → run_commands mode owner limits.value_bytes e (map view (take limits.commands cs)) ≡ Ok d → limits.commands < length cs → run_limited mode owner limits e (map view cs) ≡ Err too_many_commands
+  run_limited-more mode owner limits e cs d h more =
+      ap (λ l. run_commands mode owner limits.value_bytes e l >>= ending limits (map view cs)) (take-map view limits.commands cs)
+      ∙ (ap (λ x. x >>= ending limits (map view cs)) h
+      ∙ ap (λ b. cond b (Ok d) (Err too_many_commands)) (above (length (map view cs)) limits.commands (simp length-map more)))
 
--- all commands within the limit
-pub run_limited-all : (mode : Mode) (owner : Text) (limits : Limits) (e : Environment) (cs : List rust_command.Command) → length cs ≤ limits.commands → run_limited mode owner limits e (texts_of cs) ≡ run_commands mode owner limits.value_bytes e (texts_of cs)
-run_limited-all mode owner limits e cs few =
-    ap (λ l. run_commands mode owner limits.value_bytes e l >>= ending limits (texts_of cs)) (take_all limits.commands (texts_of cs) (simp length-map few))
-    ∙ (ap (λ b. run_commands mode owner limits.value_bytes e (texts_of cs) >>= (λ d. cond b (Ok d) (Err too_many_commands))) (within_is (length (texts_of cs)) limits.commands (simp length-map few))
-    ∙ same_end (run_commands mode owner limits.value_bytes e (texts_of cs)))
+  -- all commands within the limit
+  pub run_limited-all : (mode : Mode) (owner : Text) (limits : Limits) (e : Environment) (cs : List C) → length cs ≤ limits.commands → run_limited mode owner limits e (map view cs) ≡ run_commands mode owner limits.value_bytes e (map view cs)
+  run_limited-all mode owner limits e cs few =
+      ap (λ l. run_commands mode owner limits.value_bytes e l >>= ending limits (map view cs)) (take_all limits.commands (map view cs) (simp length-map few))
+      ∙ (ap (λ b. run_commands mode owner limits.value_bytes e (map view cs) >>= (λ d. cond b (Ok d) (Err too_many_commands))) (within_is (length (map view cs)) limits.commands (simp length-map few))
+      ∙ same_end (run_commands mode owner limits.value_bytes e (map view cs)))

@@ -1,9 +1,10 @@
 -- A request's step, by what its parts answered.
 use Rattle.std.proofs.Common.{◌≡◌, Bool, true, false, not, cond, nat_eq, List, [], ◌∷◌, map, find, reverse, Option, Some, None, IfSome, Result, Ok, Err, refl, ap, ◌∙◌, subst}
 use Rattle.modulename.specs.ModuleName.{is_module_name, means}
-use Rattle.tcltext.specs.Tree.{Script, command_texts}
-use Rattle.tcltext.specs.Reading.{script_of}
-use Rattle.tcltext.specs.declared.TextFault.{TextFault}
+use Rattle.tclscript.specs.Tree.{Commands}
+use Rattle.tclscript.specs.Text.{script_of}
+use Rattle.tclchars.specs.declared.fault.TextFault.{TextFault}
+use Rattle.modules.specs.Literals.{commands_in}
 use Rattle.envstate.specs.Texts.{Text, has}
 use Rattle.envstate.specs.Environment.{Environment}
 use Rattle.envstate.specs.Refused.{Refused}
@@ -42,9 +43,9 @@ recorded_both mode owner limits e d (Ok rs) (Ok t) h made =
     let same : t ≡ d = cc in
     record { records = rs; read = refl; makes = subst (λ v. Makes mode owner e rs v) same h }
 
-recorded_script : (mode : Mode) (owner : Text) (limits : Limits) (e d : Environment) (x : Result Script TextFault) → (refused_as bad_text x >>= (λ script. limited mode owner limits e (map command_texts script)) >>= (λ rs. refused_as bad_edit (effects mode owner rs e))) ≡ Ok d → Recorded mode owner limits e (refused_as bad_text x >>= (λ script. limited mode owner limits e (map command_texts script))) d
+recorded_script : (mode : Mode) (owner : Text) (limits : Limits) (e d : Environment) (x : Result Commands TextFault) → (refused_as bad_text x >>= (λ script. limited mode owner limits e (commands_in script)) >>= (λ rs. refused_as bad_edit (effects mode owner rs e))) ≡ Ok d → Recorded mode owner limits e (refused_as bad_text x >>= (λ script. limited mode owner limits e (commands_in script))) d
 recorded_script mode owner limits e d (Err fault) made = absurd (cc)
-recorded_script mode owner limits e d (Ok script) made = recorded_both mode owner limits e d (limited mode owner limits e (map command_texts script)) (run_limited mode owner limits e (map command_texts script)) (limited_together mode owner limits (map command_texts script) e) made
+recorded_script mode owner limits e d (Ok script) made = recorded_both mode owner limits e d (limited mode owner limits e (commands_in script)) (run_limited mode owner limits e (commands_in script)) (limited_together mode owner limits (commands_in script) e) made
 
 recorded_deep : (mode : Mode) (owner : Text) (limits : Limits) (e d : Environment) (b : Bool) (x : Result (List Record) Reason) → (x >>= (λ rs. refused_as bad_edit (effects mode owner rs e)) ≡ Ok d → Recorded mode owner limits e x d) → (cond b (Err too_deep) x >>= (λ rs. refused_as bad_edit (effects mode owner rs e))) ≡ Ok d → Recorded mode owner limits e (cond b (Err too_deep) x) d
 recorded_deep mode owner limits e d true x more made = absurd (cc)
@@ -52,7 +53,7 @@ recorded_deep mode owner limits e d false x more made = more made
 
 pub recorded : (mode : Mode) (owner : Text) (limits : Limits) (e d : Environment) (text : Text) → evaluated mode owner limits e text ≡ Ok d → Recorded mode owner limits e (records_of mode owner limits e text) d
 recorded mode owner limits e d text made =
-    recorded_deep mode owner limits e d (nat_eq limits.depth 0) (refused_as bad_text (script_of text) >>= (λ script. limited mode owner limits e (map command_texts script)))
+    recorded_deep mode owner limits e d (nat_eq limits.depth 0) (refused_as bad_text (script_of text) >>= (λ script. limited mode owner limits e (commands_in script)))
     (recorded_script mode owner limits e d (script_of text)) made
 
 -- a refusal of the evaluation is that of the records or of their effects, and of the move
@@ -62,9 +63,9 @@ evaluated_refused mode owner e (Ok rs) (Err s) h r made = absurd h
 evaluated_refused mode owner e (Ok rs) (Ok d) h r made =
     let edits : refused_as bad_edit (effects mode owner rs e) ≡ Ok d = ap (refused_as bad_edit) h.made in absurd (cc)
 
-script_refused : (mode : Mode) (owner : Text) (limits : Limits) (e : Environment) (x : Result Script TextFault) (r : Reason) → (refused_as bad_text x >>= (λ script. limited mode owner limits e (map command_texts script)) >>= (λ rs. refused_as bad_edit (effects mode owner rs e))) ≡ Err r → (refused_as bad_text x >>= (λ script. limited mode owner limits e (map command_texts script))) ≡ Err r
+script_refused : (mode : Mode) (owner : Text) (limits : Limits) (e : Environment) (x : Result Commands TextFault) (r : Reason) → (refused_as bad_text x >>= (λ script. limited mode owner limits e (commands_in script)) >>= (λ rs. refused_as bad_edit (effects mode owner rs e))) ≡ Err r → (refused_as bad_text x >>= (λ script. limited mode owner limits e (commands_in script))) ≡ Err r
 script_refused mode owner limits e (Err fault) r made = let same : bad_text fault ≡ r = cc in ap (λ z. Err z) same
-script_refused mode owner limits e (Ok script) r made = evaluated_refused mode owner e (limited mode owner limits e (map command_texts script)) (run_limited mode owner limits e (map command_texts script)) (limited_together mode owner limits (map command_texts script) e) r made
+script_refused mode owner limits e (Ok script) r made = evaluated_refused mode owner e (limited mode owner limits e (commands_in script)) (run_limited mode owner limits e (commands_in script)) (limited_together mode owner limits (commands_in script) e) r made
 
 deep_refused : (mode : Mode) (owner : Text) (e : Environment) (b : Bool) (x : Result (List Record) Reason) (r : Reason) → ((x >>= (λ rs. refused_as bad_edit (effects mode owner rs e))) ≡ Err r → x ≡ Err r) → (cond b (Err too_deep) x >>= (λ rs. refused_as bad_edit (effects mode owner rs e))) ≡ Err r → cond b (Err too_deep) x ≡ Err r
 deep_refused mode owner e true x r more made = let same : too_deep ≡ r = cc in ap (λ z. Err z) same
@@ -72,7 +73,7 @@ deep_refused mode owner e false x r more made = more made
 
 records_refused : (mode : Mode) (owner : Text) (limits : Limits) (e : Environment) (text : Text) (r : Reason) → evaluated mode owner limits e text ≡ Err r → records_of mode owner limits e text ≡ Err r
 records_refused mode owner limits e text r made =
-    deep_refused mode owner e (nat_eq limits.depth 0) (refused_as bad_text (script_of text) >>= (λ script. limited mode owner limits e (map command_texts script))) r
+    deep_refused mode owner e (nat_eq limits.depth 0) (refused_as bad_text (script_of text) >>= (λ script. limited mode owner limits e (commands_in script))) r
     (script_refused mode owner limits e (script_of text) r) made
 
 pub left_refused : (make : Module → Move) (mode : Mode) (limits : Limits) (e : Environment) (name path text : Text) (r : Reason) → evaluated mode name limits e text ≡ Err r → left_by make mode limits e name path text ≡ Err r

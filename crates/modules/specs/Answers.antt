@@ -14,9 +14,9 @@ use Rattle.lookup.specs.declared.search.FindFault.{FindFault}
 use Rattle.lookup.specs.declared.search.FindFault.TheVariants as finds
 use Rattle.lookup.specs.declared.tree.TreeFault.{TreeFault}
 use Rattle.lookup.specs.declared.tree.TreeFault.TheVariants as trees
-use Rattle.tcltext.specs.Faults.{fault_number}
-use Rattle.tcltext.specs.declared.TextFault.{TextFault}
-use Rattle.tcltext.specs.declared.TextFault.TheVariants as texts
+use Rattle.tclchars.specs.Faults.{fault_number}
+use Rattle.tclchars.specs.declared.fault.TextFault.{TextFault}
+use Rattle.tclchars.specs.declared.fault.TextFault.TheVariants as texts
 use Rattle.modules.specs.declared.refusal.Refusal.{Refusal}
 use Rattle.modules.specs.declared.refusal.Refusal.TheVariants as refusals
 use Rattle.modules.specs.declared.running.Reply.{Reply}

@@ -1,27 +1,23 @@
 -- The records of a modulefile of literal commands (Tcl(n), modulefile(5)).
-use Rattle.std.specs.Prelude.{ℕ, ◌==◌, List, [], ◌∷◌, length, take, map, nat_le, if◌then◌else◌, Result, Ok, Err}
-use Rattle.std.specs.List.{list_all}
+use Rattle.std.specs.Prelude.{ℕ, ◌==◌, List, [], ◌∷◌, length, take, nat_le, if◌then◌else◌, Result, Ok, Err}
 use Rattle.envstate.specs.Texts.{Text}
 use Rattle.envstate.specs.Environment.{Environment}
-use Rattle.tcltext.specs.Tree.{command_texts}
-use Rattle.tcltext.specs.Reading.{script_of}
+use Rattle.tclscript.specs.Tree.{Words}
+use Rattle.tclscript.specs.Text.{script_of}
 use Rattle.modules.specs.declared.running.Limits.{Limits}
 use Rattle.modules.specs.Then.{◌>>=◌, refused_as}
-use Rattle.modules.specs.Reasons.{Reason, bad_text, bad_edit, too_deep, too_many_commands, value_too_long}
+use Rattle.modules.specs.Reasons.{Reason, bad_text, bad_edit, too_deep, too_many_commands}
 use Rattle.modules.specs.declared.evaluate.Mode.{Mode}
 use Rattle.modules.specs.Records.{Record, effect, effects}
 use Rattle.modules.specs.Commands.{call_of, record_of}
+use Rattle.modules.specs.Literals.{texts_of, commands_in}
 
--- words that are not too long
-abbrev pub within : ℕ → List Text → Result (List Text) Reason
-within most words = if list_all (λ word. nat_le (length word) most) words then Ok words else Err value_too_long
-
--- what a command of these words records
-abbrev pub answer : Mode → ℕ → Environment → List Text → Result Record Reason
-answer mode most e words = within most words >>= call_of >>= record_of mode e
+-- what a command, with the source of its first word, records
+abbrev pub answer : Mode → ℕ → Environment → Text × Words → Result Record Reason
+answer mode most e c = texts_of most c.0 c.1 >>= call_of >>= record_of mode e
 
 -- The records of commands, each of which finds what the ones before it made of the environment.
-abbrev pub records_from : Mode → Text → ℕ → Environment → List (List Text) → Result (List Record) Reason
+abbrev pub records_from : Mode → Text → ℕ → Environment → List (Text × Words) → Result (List Record) Reason
 records_from mode owner most e [] = Ok []
 records_from mode owner most e (c ∷ cs) =
     answer mode most e c >>= (λ r.
@@ -29,7 +25,7 @@ records_from mode owner most e (c ∷ cs) =
     records_from mode owner most d cs >>= (λ rs. Ok (r ∷ rs))))
 
 -- as many commands as the limit has run, before one more is refused
-abbrev pub limited : Mode → Text → Limits → Environment → List (List Text) → Result (List Record) Reason
+abbrev pub limited : Mode → Text → Limits → Environment → List (Text × Words) → Result (List Record) Reason
 limited mode owner limits e cs =
     records_from mode owner limits.value_bytes e (take limits.commands cs) >>= (λ rs.
     if nat_le (length cs) limits.commands then Ok rs else Err too_many_commands)
@@ -38,7 +34,7 @@ limited mode owner limits e cs =
 abbrev pub records_of : Mode → Text → Limits → Environment → Text → Result (List Record) Reason
 records_of mode owner limits e text =
     if limits.depth == 0 then Err too_deep
-    else refused_as bad_text (script_of text) >>= (λ script. limited mode owner limits e (map command_texts script))
+    else refused_as bad_text (script_of text) >>= (λ script. limited mode owner limits e (commands_in script))
 
 -- what the records of a modulefile's text make of the environment
 abbrev pub evaluated : Mode → Text → Limits → Environment → Text → Result Environment Reason

@@ -3,6 +3,7 @@ pub mod Records
 pub mod Reasons
 pub mod Requests
 pub mod Commands
+pub mod Literals
 pub mod Evaluation
 pub mod Steps
 pub mod Answers

@@ -2,7 +2,7 @@
 use Rattle.envstate.specs.Texts.{Text}
 use Rattle.envstate.specs.Refused.{Refused}
 use Rattle.lookup.specs.Search.{Missed}
-use Rattle.tcltext.specs.declared.TextFault.{TextFault}
+use Rattle.tclchars.specs.declared.fault.TextFault.{TextFault}
 
 pub data Reason : Type 0 where
   -- a modulefile's text has no tree

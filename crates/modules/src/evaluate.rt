@@ -1,9 +1,9 @@
 //! Runs a modulefile of literal commands.
-ghost use Rattle.std.specs.Prelude.{◌≡◌, ℕ, List, map, Result, Ok, Err, IfOk, string_bytes};
-ghost use Rattle.tcltext.specs.Tree.{command_texts, word_text};
-ghost use Rattle.tcltext.specs.View.{command_view, word_view};
+ghost use Rattle.std.specs.Prelude.{◌≡◌, ◌++◌, ℕ, List, map, Option, Some, None, option_map, if◌then◌else◌, Result, Ok, Err, IfOk, string_bytes};
+ghost use Rattle.tclscript.specs.View.{command_view, word_view, part_view};
+ghost use Rattle.modules.specs.Literals.{part_text, word_text, within, texts_of};
 ghost use Rattle.envstate.specs.Texts.{Text};
-ghost use Rattle.modules.specs.Evaluation.{evaluated, within};
+ghost use Rattle.modules.specs.Evaluation.{evaluated};
 ghost use Rattle.modules.specs.Answers.{Gives, Leaves};
 ghost use Rattle.modules.specs.Running.{run_command, run_commands, run_limited};
 
@@ -13,7 +13,8 @@ use crate::refusal::Refusal;
 use crate::running::Limits;
 use envstate::Env;
 use std::alloc::{AllocError, Global};
-use tcltext::{Command, Part, Word, parse_script};
+use tclchars::push_braced_text;
+use tclscript::{Command, Part, Word, parse_script};
 
 /// What a modulefile is evaluated for.
 #[derive(Clone, Copy, Debug, PartialEq, Eq)]
@@ -22,30 +23,65 @@ pub enum Mode {
     Unload,
 }
 
-/// The text of a word: that of its parts, joined.
-fn word_text(alloc: Global, word: &Word<'_>) -> Result<String, AllocError>
-    ensures { IfOk result (λ text. string_bytes text ≡ word_text (word_view word.now)) }
+/// Adds the text of a part that stands for itself; tells whether it does.
+fn push_part(text: &mut String, part: &Part<&str>) -> Result<bool, AllocError>
+    ensures { IfOk result (λ stands. option_map (λ more. string_bytes text.old ++ more) (part_text (part_view (λ piece. piece.now) part.now))
+        ≡ if stands then Some (string_bytes text.new) else None) }
 {
+    match part {
+        Part::Literal(literal) => text.push_str(literal)?,
+        Part::Braced(inside) => push_braced_text(text, inside)?,
+        Part::Backslash(character) => text.push(*character)?,
+        Part::Variable(_) | Part::Indexed(_, _) | Part::Bracket(_) => return Ok(false),
+    }
+    Ok(true)
+}
+
+/// The text of a word, where it has no substitution.
+fn word_text(alloc: Global, word: &Word<&str>) -> Result<Option<String>, AllocError>
+    ensures { IfOk result (λ text. option_map string_bytes text ≡ word_text (word_view (λ piece. piece.now) word.now)) }
+{
+    if word.expands {
+        return Ok(None);
+    }
     let mut text = String::new(alloc);
     for part in &word.parts {
-        match part {
-            Part::Literal(literal) => text.push_str(literal)?,
+        if !push_part(&mut text, part)? {
+            return Ok(None);
         }
+    }
+    Ok(Some(text))
+}
+
+/// The text of a word of a command whose first word stands so in the source, which is not longer than the limit.
+fn word_within(
+    alloc: Global,
+    most: usize,
+    source: &str,
+    word: &Word<&str>,
+) -> Result<String, Refusal>
+    ensures { Gives (λ text. string_bytes text) result (within most source.now (word_text (word_view (λ piece. piece.now) word.now))) }
+{
+    let Some(text) = word_text(alloc, word)? else {
+        return Err(Refusal::LeftOut(String::from_str(alloc, source)?));
+    };
+    if text.len() > most {
+        return Err(Refusal::ValueTooLong);
     }
     Ok(text)
 }
 
 /// The texts of a command's words, none of which is longer than the limit.
-fn command_words(alloc: Global, command: &Command<'_>, most: usize) -> Result<Vec<String>, Refusal>
-    ensures { Gives (λ words. map string_bytes words.items) result (within most (command_texts (command_view command.now))) }
+fn command_words(
+    alloc: Global,
+    command: &Command<&str>,
+    most: usize,
+) -> Result<Vec<String>, Refusal>
+    ensures { Gives (λ words. map string_bytes words.items) result (texts_of most (command_view (λ piece. piece.now) command.now).0 (command_view (λ piece. piece.now) command.now).1) }
 {
     let mut words = Vec::new(alloc);
     for word in &command.words {
-        let text = word_text(alloc, word)?;
-        if text.len() > most {
-            return Err(Refusal::ValueTooLong);
-        }
-        words.push(text)?;
+        words.push(word_within(alloc, most, command.source, word)?)?;
     }
     Ok(words)
 }
@@ -60,16 +96,16 @@ pub(crate) struct Evaluation {
 
 impl Evaluation {
     /// Runs one command: 16 where a word is too long, then what the command refuses.
-    fn run_command(self, command: &Command<'_>, env: &mut Env) -> Result<(), Refusal>
-        ensures { (owner : Text) → Leaves result env.new (run_command self.mode owner self.limits.value_bytes env.old (command_texts (command_view command.now))) }
+    fn run_command(self, command: &Command<&str>, env: &mut Env) -> Result<(), Refusal>
+        ensures { (owner : Text) → Leaves result env.new (run_command self.mode owner self.limits.value_bytes env.old (command_view (λ piece. piece.now) command.now)) }
     {
         let words = command_words(self.alloc, command, self.limits.value_bytes)?;
         let call = call_of(self.alloc, words.as_slice())?;
         run_call(self.alloc, self.mode, call, env)
     }
 
-    fn run_commands(self, commands: &[Command<'_>], env: &mut Env) -> Result<(), Refusal>
-        ensures { (owner : Text) → Leaves result env.new (run_commands self.mode owner self.limits.value_bytes env.old (map command_texts (map command_view commands.now))) }
+    fn run_commands(self, commands: &[Command<&str>], env: &mut Env) -> Result<(), Refusal>
+        ensures { (owner : Text) → Leaves result env.new (run_commands self.mode owner self.limits.value_bytes env.old (map (command_view (λ piece. piece.now)) commands.now)) }
     {
         for command in commands {
             self.run_command(command, env)?;
@@ -78,8 +114,8 @@ impl Evaluation {
     }
 
     /// Runs as many commands as the limit allows: 14 where there is one more.
-    fn run_limited(self, commands: &[Command<'_>], env: &mut Env) -> Result<(), Refusal>
-        ensures { (owner : Text) → Leaves result env.new (run_limited self.mode owner self.limits env.old (map command_texts (map command_view commands.now))) }
+    fn run_limited(self, commands: &[Command<&str>], env: &mut Env) -> Result<(), Refusal>
+        ensures { (owner : Text) → Leaves result env.new (run_limited self.mode owner self.limits env.old (map (command_view (λ piece. piece.now)) commands.now)) }
     {
         let most = self.limits.commands as usize;
         if commands.len() <= most {

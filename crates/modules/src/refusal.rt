@@ -6,7 +6,7 @@ ghost use Rattle.modules.specs.Answers.{number_of, refused_read};
 use envstate::EnvFault;
 use lookup::{FindFault, TreeFault};
 use std::alloc::{AllocError, AllocFailed};
-use tcltext::TextFault;
+use tclchars::TextFault;
 use thiserror::Error;
 
 /// Why a request is refused. Its `Display` is what follows `ERROR: `.

@@ -51,6 +51,26 @@ fn load_and_unload(rt: HostRuntime) -> Result<(), Fail> {
 }
 
 #[test]
+fn words_of_literal_parts(rt: HostRuntime) -> Result<(), Fail> {
+    let alloc = rt.alloc();
+    for (word, value) in [
+        ("{b c}", "b c"),
+        ("\"b \\x41\"", "b A"),
+        ("b\\ c", "b c"),
+        ("\"a\\nb\"", "a\nb"),
+        ("{a\\n\\\n \tb}", "a\\n b"),
+    ] {
+        let mut script = String::from_str(alloc, "setenv A ")?;
+        script.push_str(word)?;
+        let mut tree = tree(alloc, script.as_str())?;
+        let load = asked(alloc, "load", "foo/1.0")?;
+        let loaded = run(alloc, &load, &start(alloc)?, &mut tree, LIMITS)?;
+        assert_eq!(rt; loaded.env.get("A"), Some(value));
+    }
+    Ok(())
+}
+
+#[test]
 fn refused_commands(rt: HostRuntime) -> Result<(), Fail> {
     let alloc = rt.alloc();
     for (script, number, line) in [
@@ -73,7 +93,15 @@ fn refused_commands(rt: HostRuntime) -> Result<(), Fail> {
         ("prepend-path 1P /a:/b", 56, "Bad arguments"),
         ("prepend-path PATH /bin", 56, "Bad arguments"),
         ("prepend-path 1P /a", 32, "Bad variable name '1P'"),
-        ("setenv A b{", 7, "Bad character at byte 19"),
+        ("setenv A {b", 2, "Missing close-brace at byte 18"),
+        (
+            "setenv A {b}c",
+            5,
+            "Extra characters after a close at byte 21",
+        ),
+        ("setenv A $b", 19, "'setenv' is left out"),
+        ("{a b} \"[c]\"", 19, "'{a b}' is left out"),
+        ("{*}setenv A b", 19, "'{*}setenv' is left out"),
     ] {
         let mut tree = tree(alloc, script)?;
         let load = asked(alloc, "add", "foo/1.0")?;

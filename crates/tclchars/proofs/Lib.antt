@@ -3,3 +3,4 @@ pub mod BraceLemmas
 pub mod BraceClose
 pub mod BackslashLemmas
 pub mod BracedTextLemmas
+mod Rows

@@ -1,28 +1,27 @@
 -- What a dollar sign begins is read exactly.
-use Rattle.std.proofs.Common.{◌≡◌, ◌≢◌, ℕ, zero, suc, ◌+◌, ◌<◌, ◌≤◌, List, [], ◌∷◌, ◌++◌, length, Bool, true, false, not, ◌||◌, ◌&&◌, ◌==◌, Option, Some, None, Result, Ok, Err, refl, sym, ap, ap₂, subst, ◌∙◌, arith, append_assoc, append-nil, length-append, ◌⊎◌, inl, inr}
+use Rattle.std.proofs.Common.{◌≡◌, ◌≢◌, ℕ, zero, suc, ◌<◌, ◌≤◌, [], ◌∷◌, ◌++◌, length, true, not, ◌||◌, ◌==◌, Result, Ok, Err, refl, sym, ap, ap₂, subst, ◌∙◌, arith, append_assoc, append-nil, inl, inr}
 use Rattle.std.proofs.lemmas.Bool.Decides.{nat_tests}
-use Rattle.tclchars.specs.Runs.{Text, front, back, begins}
-use Rattle.tclchars.specs.Bytes.{newline, hash, backslash, AllPass, MayBegin, DoesBegin}
+use Rattle.tclchars.specs.Runs.{Text, front, back}
+use Rattle.tclchars.specs.Bytes.{AllPass, MayBegin}
 use Rattle.tclchars.specs.Classes.{in_class, is_name}
-use Rattle.tclchars.specs.Backslash.{after_backslash}
 use Rattle.tclchars.specs.Reading.{◌>>=◌, Read, read_map}
 use Rattle.tclchars.specs.declared.runs.Class.TheVariants.{InName}
 use Rattle.tclchars.specs.declared.fault.Fault.{Fault}
-use Rattle.tclchars.specs.declared.fault.Fault.TheVariants.{OpenBrace, OpenBracket, TooDeep, BadCharacter}
+use Rattle.tclchars.specs.declared.fault.Fault.TheVariants.{OpenBrace, TooDeep, BadCharacter}
 use Rattle.tclscript.specs.declared.context.Context.{Context}
-use Rattle.tclscript.specs.declared.context.Context.TheVariants.{InScript, InBracket, InIndex, InQuotes}
+use Rattle.tclscript.specs.declared.context.Context.TheVariants.{InIndex}
 use Rattle.tclscript.specs.declared.runs.Passing.TheVariants.{Name}
-use Rattle.tclscript.specs.Tree.{Commands, Parts, no_parts, part, Part, literal, variable, indexed, bracket, nesting, parts_nesting, part_nesting}
-use Rattle.tclscript.specs.Ends.{script_ends, stands_before, parts_end, class_of}
-use Rattle.tclscript.specs.Passing.{colon, pass}
-use Rattle.tclscript.specs.Grammar.{IsName, IsLongestName, is_colon, IsLiteral, IsDollar, IsPlainVariable, IsBracedVariable, IsCommands, IsParts, IsPart}
+use Rattle.tclscript.specs.Tree.{Parts, no_parts, part, Part, literal, variable, indexed, nesting, parts_nesting, part_nesting}
+use Rattle.tclscript.specs.Ends.{parts_end}
+use Rattle.tclscript.specs.Passing.{pass}
+use Rattle.tclscript.specs.Grammar.{IsName, IsLongestName, IsCommands, IsParts, IsPart}
 use Rattle.tclscript.specs.Faults.{CommandsFault, PartsFault, PartFault}
 use Rattle.tclscript.specs.Faults as faults
-use Rattle.tclscript.specs.Reading.{Inner, on_mark, closed, bracket_at, index_at, braced_name_at, plain_variable, after_name, dollar_at}
+use Rattle.tclscript.specs.Reading.{Inner, closed, index_at, braced_name_at, plain_variable, after_name, dollar_at}
 use Rattle.tclscript.proofs.PassedOver.{pass_whole}
 use Rattle.tclscript.proofs.Names.{name_longest, name_again, longest_before}
-use Rattle.tclscript.proofs.Exact.{Took, Exact, bind_ok, bind_err, ok_pair, read_map_ok, read_map_err, ok_err, err_same}
-use Rattle.tclscript.proofs.Marks.{true_false, not_true, Without, mark_at, on_mark-at, on_mark-not, closed_ok, closed_err, closed-at, none_before, run_taken, front_run, back_run}
+use Rattle.tclscript.proofs.Exact.{Took, Exact, bind_ok, bind_err, ok_pair, read_map_ok, read_map_err, ok_err}
+use Rattle.tclscript.proofs.Marks.{Without, mark_at, on_mark-at, on_mark-not, closed_ok, closed_err, closed-at, none_before, run_taken, front_run, back_run}
 
 abbrev pub Anywhere : Text → Type 0
 Anywhere bs = Unit {0}
@@ -114,31 +113,31 @@ module _ (d : ℕ) (inner : Inner) (exact : IsExactInner d inner) where
   index_faulty name bs f is h =
       let fault = BadCharacter (suc (length bs)) in
       elim (bind_err (inner.index bs) (λ x. close_index fault x.0 x.1) f h) [
-        inl bad ↦ deeper d name bs f is (exact.index.faulty bs f tt bad)
+        | inl bad ↦ deeper d name bs f is (exact.index.faulty bs f tt bad)
         | inr k ↦ unclosed bs f is k.0.0 k.0.1 k.1 k.2
       ] where
-    deeper : (d : ℕ) (name bs : Text) (f : Fault) → IsName name → IndexFault d bs f → PartFault d (36 ∷ (name ++ 40 ∷ bs)) f
-    deeper zero name bs f is h = subst (PartFault zero (36 ∷ (name ++ 40 ∷ bs))) (sym h) (faults.PartFault.index_too_deep name bs is)
-    deeper (suc d) name bs f is h = faults.PartFault.in_index name bs is h
+        deeper : (d : ℕ) (name bs : Text) (f : Fault) → IsName name → IndexFault d bs f → PartFault d (36 ∷ (name ++ 40 ∷ bs)) f
+        deeper zero name bs f is h = subst (PartFault zero (36 ∷ (name ++ 40 ∷ bs))) (sym h) (faults.PartFault.index_too_deep name bs is)
+        deeper (suc d) name bs f is h = faults.PartFault.in_index name bs is h
 
-    open_at : (d : ℕ) (bs : Text) (ps : Parts) → IsName name → IsParts InIndex ps bs [] → parts_nesting ps < d → PartFault d (36 ∷ (name ++ 40 ∷ bs)) (BadCharacter (suc (length bs)))
-    open_at zero bs ps is h less = absurd (omega arith)
-    open_at (suc d) bs ps is h less = faults.PartFault.open_index name bs ps is h (omega arith)
+        open_at : (d : ℕ) (bs : Text) (ps : Parts) → IsName name → IsParts InIndex ps bs [] → parts_nesting ps < d → PartFault d (36 ∷ (name ++ 40 ∷ bs)) (BadCharacter (suc (length bs)))
+        open_at zero bs ps is h less = absurd (omega arith)
+        open_at (suc d) bs ps is h less = faults.PartFault.open_index name bs ps is h (omega arith)
 
-    unclosed : (bs : Text) (f : Fault) → IsName name → (ps : Parts) (r : Text) → inner.index bs ≡ Ok (ps, r) → close_index (BadCharacter (suc (length bs))) ps r ≡ Err f → PartFault d (36 ∷ (name ++ 40 ∷ bs)) f
-    unclosed bs f is ps r was h =
-        let mark = BadCharacter (suc (length bs)) in
-        elim (bind_err (closed 41 mark r) (λ rest. Ok (ps, rest)) f h) [
-          inl bad ↦ (
-            let e = closed_err 41 mark r f bad in
-            let k = exact.index.sound bs ps r tt was in
-            let none : r ≡ [] = none_before 41 r (parts_close InIndex ps k.taken r k.is.0) e.1 in
-            let whole : k.taken ≡ bs = sym (append-nil k.taken) ∙ ap (λ ys. k.taken ++ ys) (sym none) ∙ sym k.whole in
-            let inside : IsParts InIndex ps bs [] = subst (λ xs. IsParts InIndex ps xs []) whole (subst (λ ys. IsParts InIndex ps k.taken ys) none k.is.0) in
-            subst (PartFault d (36 ∷ (name ++ 40 ∷ bs))) e.0 (open_at d bs ps is inside k.is.1)
-          )
-          | inr k ↦ absurd (ok_err (ps, k.0) f k.2)
-        ]
+        unclosed : (bs : Text) (f : Fault) → IsName name → (ps : Parts) (r : Text) → inner.index bs ≡ Ok (ps, r) → close_index (BadCharacter (suc (length bs))) ps r ≡ Err f → PartFault d (36 ∷ (name ++ 40 ∷ bs)) f
+        unclosed bs f is ps r was h =
+            let mark = BadCharacter (suc (length bs)) in
+            elim (bind_err (closed 41 mark r) (λ rest. Ok (ps, rest)) f h) [
+              | inl bad ↦ (
+                  let e = closed_err 41 mark r f bad in
+                  let k = exact.index.sound bs ps r tt was in
+                  let none : r ≡ [] = none_before 41 r (parts_close InIndex ps k.taken r k.is.0) e.1 in
+                  let whole : k.taken ≡ bs = sym (append-nil k.taken) ∙ ap (λ ys. k.taken ++ ys) (sym none) ∙ sym k.whole in
+                  let inside : IsParts InIndex ps bs [] = subst (λ xs. IsParts InIndex ps xs []) whole (subst (λ ys. IsParts InIndex ps k.taken ys) none k.is.0) in
+                  subst (PartFault d (36 ∷ (name ++ 40 ∷ bs))) e.0 (open_at d bs ps is inside k.is.1)
+                  )
+              | inr k ↦ absurd (ok_err (ps, k.0) f k.2)
+            ]
 
   index_again : (inside r : Text) (ps : Parts) → IsParts InIndex ps inside (41 ∷ r) → parts_nesting ps < d → index_at inner (inside ++ 41 ∷ r) ≡ Ok (ps, r)
   unfolding index_at
@@ -170,16 +169,16 @@ module _ (d : ℕ) (inner : Inner) (exact : IsExactInner d inner) where
       let found = λ (bs : Text). read_map (indexed name) (index_at inner bs) in
       let other : Read Part = Ok (plain_variable name, rest) in
       elim (mark_at 40 rest) [
-        inl k ↦ (
-          let x = read_map_ok (indexed name) (index_at inner k.0) p r (sym (on_mark-at 40 rest k.0 found other k.1) ∙ h) in
-          let made = index_sound c name k.0 x.0 r is.0 x.1 in
-          subst (λ ys. Took (DollarIs d c) (36 ∷ (name ++ ys)) p r) (sym k.1) (subst (λ p. Took (DollarIs d c) (36 ∷ (name ++ 40 ∷ k.0)) p r) x.2 made)
-        )
+        | inl k ↦ (
+            let x = read_map_ok (indexed name) (index_at inner k.0) p r (sym (on_mark-at 40 rest k.0 found other k.1) ∙ h) in
+            let made = index_sound c name k.0 x.0 r is.0 x.1 in
+            subst (λ ys. Took (DollarIs d c) (36 ∷ (name ++ ys)) p r) (sym k.1) (subst (λ p. Took (DollarIs d c) (36 ∷ (name ++ 40 ∷ k.0)) p r) x.2 made)
+            )
         | inr k ↦ (
-          let two = ok_pair (plain_variable name, rest) (p, r) (sym (on_mark-not 40 rest found other k) ∙ h) in
-          let made : Took (DollarIs d c) (36 ∷ (name ++ rest)) (plain_variable name) rest = record { taken = 36 ∷ name; whole = refl; is = plain_sound c name rest k free is } in
-          subst (λ p. Took (DollarIs d c) (36 ∷ (name ++ rest)) p r) two.0 (subst (λ ys. Took (DollarIs d c) (36 ∷ (name ++ rest)) (plain_variable name) ys) two.1 made)
-        )
+            let two = ok_pair (plain_variable name, rest) (p, r) (sym (on_mark-not 40 rest found other k) ∙ h) in
+            let made : Took (DollarIs d c) (36 ∷ (name ++ rest)) (plain_variable name) rest = record { taken = 36 ∷ name; whole = refl; is = plain_sound c name rest k free is } in
+            subst (λ p. Took (DollarIs d c) (36 ∷ (name ++ rest)) p r) two.0 (subst (λ ys. Took (DollarIs d c) (36 ∷ (name ++ rest)) (plain_variable name) ys) two.1 made)
+            )
       ]
 
   name_faulty : (name rest : Text) (f : Fault) → IsName name → after_name inner (name, rest) ≡ Err f → PartFault d (36 ∷ (name ++ rest)) f
@@ -187,7 +186,7 @@ module _ (d : ℕ) (inner : Inner) (exact : IsExactInner d inner) where
       let found = λ (bs : Text). read_map (indexed name) (index_at inner bs) in
       let other : Read Part = Ok (plain_variable name, rest) in
       elim (mark_at 40 rest) [
-        inl k ↦ subst (λ ys. PartFault d (36 ∷ (name ++ ys)) f) (sym k.1) (index_faulty name k.0 f is (read_map_err (indexed name) (index_at inner k.0) f (sym (on_mark-at 40 rest k.0 found other k.1) ∙ h)))
+        | inl k ↦ subst (λ ys. PartFault d (36 ∷ (name ++ ys)) f) (sym k.1) (index_faulty name k.0 f is (read_map_err (indexed name) (index_at inner k.0) f (sym (on_mark-at 40 rest k.0 found other k.1) ∙ h)))
         | inr k ↦ absurd (ok_err (plain_variable name, rest) f (sym (on_mark-not 40 rest found other k) ∙ h))
       ]
 
@@ -216,35 +215,35 @@ module _ (d : ℕ) (inner : Inner) (exact : IsExactInner d inner) where
       let mark = OpenBrace (suc (length bs)) in
       let run = run_taken (in_class InName) bs in
       elim (bind_err (closed 125 mark after) (λ rest. Ok (variable name, rest)) f h) [
-        inl bad ↦ (
-          let e = closed_err 125 mark after f bad in
-          let none : after ≡ [] = in_name_end after run.2 e.1 in
-          let all : name ≡ bs = sym (append-nil name) ∙ ap (λ ys. name ++ ys) (sym none) ∙ sym run.0 in
-          subst (PartFault d (36 ∷ (123 ∷ bs))) e.0 (faults.PartFault.open_name (subst (AllPass (in_class InName)) all run.1))
-        )
+        | inl bad ↦ (
+            let e = closed_err 125 mark after f bad in
+            let none : after ≡ [] = in_name_end after run.2 e.1 in
+            let all : name ≡ bs = sym (append-nil name) ∙ ap (λ ys. name ++ ys) (sym none) ∙ sym run.0 in
+            subst (PartFault d (36 ∷ (123 ∷ bs))) e.0 (faults.PartFault.open_name (subst (AllPass (in_class InName)) all run.1))
+            )
         | inr k ↦ absurd (ok_err (variable name, k.0) f k.2)
       ]
 
   pub dollar_sound : (c : Context) (bs : Text) (p : Part) (r : Text) → dollar_at inner bs ≡ Ok (p, r) → Took (DollarIs d c) (36 ∷ bs) p r
   unfolding dollar_at
   dollar_sound c bs p r h = elim (mark_at 123 bs) [
-    inl k ↦ subst (λ ys. Took (DollarIs d c) (36 ∷ ys) p r) (sym k.1) (braced_sound c k.0 p r (sym (on_mark-at 123 bs k.0 braced_name_at (after_name inner (pass Name bs)) k.1) ∙ h))
+    | inl k ↦ subst (λ ys. Took (DollarIs d c) (36 ∷ ys) p r) (sym k.1) (braced_sound c k.0 p r (sym (on_mark-at 123 bs k.0 braced_name_at (after_name inner (pass Name bs)) k.1) ∙ h))
     | inr k ↦ (
-      let whole = pass_whole Name bs in
-      subst (λ ys. Took (DollarIs d c) (36 ∷ ys) p r) (sym whole)
-      (name_sound c (pass Name bs).0 (pass Name bs).1 p r (subst (Without 123) whole k) (name_longest bs) (sym (on_mark-not 123 bs braced_name_at (after_name inner (pass Name bs)) k) ∙ h))
-    )
+        let whole = pass_whole Name bs in
+        subst (λ ys. Took (DollarIs d c) (36 ∷ ys) p r) (sym whole)
+        (name_sound c (pass Name bs).0 (pass Name bs).1 p r (subst (Without 123) whole k) (name_longest bs) (sym (on_mark-not 123 bs braced_name_at (after_name inner (pass Name bs)) k) ∙ h))
+        )
   ]
 
   pub dollar_faulty : (bs : Text) (f : Fault) → dollar_at inner bs ≡ Err f → PartFault d (36 ∷ bs) f
   unfolding dollar_at
   dollar_faulty bs f h = elim (mark_at 123 bs) [
-    inl k ↦ subst (λ ys. PartFault d (36 ∷ ys) f) (sym k.1) (braced_faulty k.0 f (sym (on_mark-at 123 bs k.0 braced_name_at (after_name inner (pass Name bs)) k.1) ∙ h))
+    | inl k ↦ subst (λ ys. PartFault d (36 ∷ ys) f) (sym k.1) (braced_faulty k.0 f (sym (on_mark-at 123 bs k.0 braced_name_at (after_name inner (pass Name bs)) k.1) ∙ h))
     | inr k ↦ (
-      let whole = pass_whole Name bs in
-      subst (λ ys. PartFault d (36 ∷ ys) f) (sym whole)
-      (name_faulty (pass Name bs).0 (pass Name bs).1 f (name_longest bs).0 (sym (on_mark-not 123 bs braced_name_at (after_name inner (pass Name bs)) k) ∙ h))
-    )
+        let whole = pass_whole Name bs in
+        subst (λ ys. PartFault d (36 ∷ ys) f) (sym whole)
+        (name_faulty (pass Name bs).0 (pass Name bs).1 f (name_longest bs).0 (sym (on_mark-not 123 bs braced_name_at (after_name inner (pass Name bs)) k) ∙ h))
+        )
   ]
 
   -- what is there is read
@@ -263,8 +262,8 @@ module _ (d : ℕ) (inner : Inner) (exact : IsExactInner d inner) where
   variable_again [] r some is h = absurd (some refl)
   variable_again (b ∷ name) r some is h =
       to_name (b ∷ name) r (first_free b name r is.0) is ∙ on_mark-not 40 r (λ bs. read_map (indexed (b ∷ name)) (index_at inner bs)) (Ok (plain_variable (b ∷ name), r)) h where
-    first_free : (b : ℕ) (name r : Text) → IsName (b ∷ name) → Without 123 ((b ∷ name) ++ r)
-    first_free b name r is = subst (λ xs. Without 123 xs) (append-nil (b ∷ name)) (name_brace is [] tt)
+        first_free : (b : ℕ) (name r : Text) → IsName (b ∷ name) → Without 123 ((b ∷ name) ++ r)
+        first_free b name r is = subst (λ xs. Without 123 xs) (append-nil (b ∷ name)) (name_brace is [] tt)
 
   braced_again : (name r : Text) → AllPass (in_class InName) name → braced_name_at (name ++ 125 ∷ r) ≡ Ok (variable name, r)
   unfolding braced_name_at

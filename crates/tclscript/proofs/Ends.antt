@@ -37,7 +37,6 @@ behind_through bs xs ys b e =
 pub end_mark : (bs : Text) (mark : ℕ) (rest : Text) → bs ≡ mark ∷ rest → IsEndOf bs rest
 end_mark bs mark rest is = (mark ∷ [], is)
 
-
 pub whole_same : (bs : Text) → IsFrontOf bs bs
 whole_same bs = ([], sym (append-nil bs))
 

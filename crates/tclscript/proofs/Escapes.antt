@@ -1,9 +1,9 @@
 -- What follows a backslash and what it takes along is an end of the text.
-use Rattle.std.proofs.Common.{◌≡◌, ℕ, zero, suc, ◌+◌, ◌*◌, [], ◌∷◌, ◌++◌, Bool, true, false, ◌&&◌, ◌==◌, nat_lt, nat_le, if◌then◌else◌, Option, Some, None, refl, sym, ap, subst, ◌∙◌}
+use Rattle.std.proofs.Common.{◌≡◌, ℕ, zero, suc, ◌+◌, ◌*◌, [], ◌∷◌, ◌++◌, Bool, true, false, ◌&&◌, ◌==◌, nat_lt, nat_le, if◌then◌else◌, Option, Some, None, refl, sym, ap, ◌∙◌}
 use Rattle.std.specs.Char.{digit_value}
 use Rattle.tclchars.specs.Bytes.{newline, is_continuation}
 use Rattle.tclchars.specs.Runs.{Text, front, back}
-use Rattle.tclchars.specs.Backslash.{is_octal, is_hexadecimal, is_blank_or_tab, digit_at, octal_on, octal_at, hexadecimal_on, hexadecimal_at, character, begins_hexadecimal, code_at, wide_code_at, letter_value, after_backslash}
+use Rattle.tclchars.specs.Backslash.{is_octal, is_blank_or_tab, digit_at, octal_on, octal_at, hexadecimal_on, hexadecimal_at, character, begins_hexadecimal, code_at, wide_code_at, letter_value, after_backslash}
 use Rattle.tclscript.specs.Pieces.{IsEndOf, IsFrontOf}
 use Rattle.tclscript.proofs.Ends.{end_same, end_behind, end_through}
 
@@ -67,12 +67,12 @@ pub backslash_end : (bs : Text) → LeavesSome (IsEndOf bs) (after_backslash bs)
 backslash_end [] = tt
 backslash_end (b ∷ bs) = go (b == newline) (is_octal b) (b == 120) (b == 117) (b == 85) (nat_le 128 b) where
   go : (t u v w x y : Bool) → LeavesSome (IsEndOf (b ∷ bs)) (if t then Some (32 ∷ [], back is_blank_or_tab bs)
-    else if u then character (octal_at 3 0 (b ∷ bs))
-    else if v then code_at 2 b bs
-    else if w then code_at 4 b bs
-    else if x then wide_code_at bs
-    else if y then Some (b ∷ front is_continuation bs, back is_continuation bs)
-    else Some (letter_value b ∷ [], bs))
+      else if u then character (octal_at 3 0 (b ∷ bs))
+      else if v then code_at 2 b bs
+      else if w then code_at 4 b bs
+      else if x then wide_code_at bs
+      else if y then Some (b ∷ front is_continuation bs, back is_continuation bs)
+      else Some (letter_value b ∷ [], bs))
   go true u v w x y = end_behind b bs _ (back_end is_blank_or_tab bs)
   go false true v w x y = character_leaves (IsEndOf (b ∷ bs)) (octal_at 3 0 (b ∷ bs)) (octal_end 3 0 (b ∷ bs))
   go false false true w x y = behind_byte b bs (code_at 2 b bs) (code_leaves 2 b bs)

@@ -1,5 +1,5 @@
 -- Readers that read exactly the texts of a set, and fail exactly at its faults.
-use Rattle.std.proofs.Common.{◌≡◌, ℕ, zero, suc, ◌+◌, ◌<◌, ◌≤◌, List, [], ◌∷◌, ◌++◌, length, Bool, true, false, Result, Ok, Err, refl, sym, ap, ap₂, subst, ◌∙◌, arith, append_assoc, append-nil, length-append, ◌⊎◌, inl, inr}
+use Rattle.std.proofs.Common.{◌≡◌, ℕ, zero, suc, ◌<◌, ◌≤◌, List, [], ◌∷◌, ◌++◌, length, Bool, true, false, Result, Ok, Err, refl, sym, ap, subst, ◌∙◌, arith, append_assoc, length-append, ◌⊎◌, inl, inr}
 use Rattle.tclchars.specs.Runs.{Text}
 use Rattle.tclchars.specs.Reading.{◌>>=◌, Read, read_map, items_step, items_at}
 use Rattle.tclchars.specs.declared.fault.Fault.{Fault}
@@ -128,12 +128,12 @@ module _ {X : Type 0} (skip : Text → Text) (ends : Text → Bool) (one : Text 
     fault_turn n all gap start h less b f false t e =
         let more = items_at skip ends one n in
         elim (bind_err (one start) (λ x. read_map (λ xs. x.0 ∷ xs) (more x.1)) f e) [
-          inl bad ↦ here gap start f h (items.exact.faulty start f (b t) bad)
+          | inl bad ↦ here gap start f h (items.exact.faulty start f (b t) bad)
           | inr k ↦ (
-            let w = items.exact.sound start k.0.0 k.0.1 (b t) k.1 in
-            let next = all k.0.1 f (omega (arith, ap length w.whole, some_less w.taken k.0.1 (items.some k.0.0 w.taken k.0.1 w.is))) (read_map_err (λ xs. k.0.0 ∷ xs) (more k.0.1) f k.2) in
-            subst (λ ys. Bad (gap ++ ys) f) (sym w.whole) (later gap w.taken k.0.1 k.0.0 f (subst (Gap gap) w.whole h) w.is next)
-          )
+              let w = items.exact.sound start k.0.0 k.0.1 (b t) k.1 in
+              let next = all k.0.1 f (omega (arith, ap length w.whole, some_less w.taken k.0.1 (items.some k.0.0 w.taken k.0.1 w.is))) (read_map_err (λ xs. k.0.0 ∷ xs) (more k.0.1) f k.2) in
+              subst (λ ys. Bad (gap ++ ys) f) (sym w.whole) (later gap w.taken k.0.1 k.0.0 f (subst (Gap gap) w.whole h) w.is next)
+              )
         ]
 
     pub items_faulty : (n : ℕ) (bs : Text) (f : Fault) → length bs < n → items_at skip ends one n bs ≡ Err f → Bad bs f

@@ -1,8 +1,6 @@
 -- Rows of scripts with their trees and faults, by computation.
-use Rattle.std.proofs.Common.{◌≡◌, ℕ, List, [], ◌∷◌, true, false, Ok, Err, refl}
-use Rattle.tclchars.specs.declared.fault.Fault.TheVariants.{OpenBrace, OpenQuote, OpenBracket, JoinedToClose, TooDeep, BadCharacter}
-use Rattle.tclscript.specs.Tree as tree
-use Rattle.tclscript.specs.Tree.{no_commands, command, no_words, word, word_of, no_parts, part, literal, braced, variable, indexed, bracket}
+use Rattle.std.proofs.Common.{◌≡◌, [], ◌∷◌, Err, refl}
+use Rattle.tclchars.specs.declared.fault.Fault.TheVariants.{JoinedToClose}
 use Rattle.tclchars.specs.Braces.{braced_at}
 use Rattle.tclscript.specs.Passing.{pass}
 use Rattle.tclscript.specs.Reading.{script_at, script_with, command_at, word_at, plain_word_at, braced_word_at, quoted_word_at, parts_with, part_at, dollar_at, backslash_at, bracket_at, index_at, braced_name_at, after_expansion, inner_at}

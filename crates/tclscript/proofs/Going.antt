@@ -1,10 +1,9 @@
 -- Where a command or a script goes on, a word is there.
-use Rattle.std.proofs.Common.{◌≡◌, ℕ, [], ◌∷◌, Bool, true, false, ◌||◌, ◌&&◌, ◌==◌, Option, Some, None, refl, sym, ap, ◌∙◌}
-use Rattle.tclchars.specs.Bytes.{newline, hash, backslash, is_gap, is_blank, is_end}
+use Rattle.std.proofs.Common.{◌≡◌, ℕ, [], ◌∷◌, Bool, true, false, ◌||◌, ◌&&◌, ◌==◌, Some, None, refl}
+use Rattle.tclchars.specs.Bytes.{newline, backslash, is_gap, is_blank, is_end}
 use Rattle.tclchars.specs.Runs.{Text, begins}
 use Rattle.tclscript.specs.Ends.{script_ends, command_ends, word_ends}
 use Rattle.tclscript.specs.Passing.{step_blanks, step_gap, skip_blanks, skip_gap}
-use Rattle.tclscript.specs.declared.runs.Passing.{Passing}
 use Rattle.tclscript.specs.declared.runs.Passing.TheVariants.{Blanks, Joined, Gap}
 use Rattle.tclscript.proofs.Passes.{StopsBlanks, StopsGap, blanks_stop, gap_stop}
 

@@ -6,6 +6,9 @@ pub mod Readers
 pub mod Scans
 pub mod Going
 pub mod Loops
+pub mod Turns
+pub mod Views
+pub mod Nested
 pub mod PassedOver
 pub mod Names
 pub mod Exact
@@ -16,8 +19,5 @@ pub mod PartFaults
 pub mod WordsExact
 pub mod ScriptExact
 pub mod Whole
+pub mod Clauses
 pub mod Examples
-pub mod Turns
-pub mod Views
-pub mod Nested
-pub mod Within

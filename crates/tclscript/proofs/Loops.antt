@@ -1,10 +1,8 @@
 -- Loops that read one item after another.
-use Rattle.std.proofs.Common.{◌≡◌, ℕ, zero, suc, ◌+◌, ◌-◌, ◌<◌, ◌≤◌, List, [], ◌∷◌, ◌++◌, length, Bool, true, false, Result, Ok, Err, refl, sym, ap, ap₂, subst, ◌∙◌, arith, append_assoc, append-nil}
+use Rattle.std.proofs.Common.{◌≡◌, ℕ, zero, suc, ◌<◌, List, [], ◌∷◌, ◌++◌, length, Bool, true, false, Ok, Err, refl, sym, ap, ap₂, subst, ◌∙◌, arith, append_assoc, append-nil}
 use Rattle.tclchars.specs.Runs.{Text}
 use Rattle.tclchars.specs.declared.fault.Fault.{Fault}
-use Rattle.tclchars.specs.declared.fault.ReadError.{ReadError}
-use Rattle.tclchars.specs.declared.fault.ReadError.TheVariants as errors
-use Rattle.tclchars.specs.Reading.{Read, Fails, read_map, ◌>>=◌, items_at, items_step}
+use Rattle.tclchars.specs.Reading.{Read, read_map, ◌>>=◌, items_at, items_step}
 
 module _ {X : Type 0} (skip : Text → Text) (ends : Text → Bool) (one : Text → Read X) where
   items-end : (n : ℕ) (bs : Text) → 0 < n → ends (skip bs) ≡ true → items_at skip ends one n bs ≡ Ok ([], skip bs)
@@ -48,8 +46,8 @@ module _ {X : Type 0} (skip : Text → Text) (ends : Text → Bool) (one : Text 
       turns = n;
       enough = omega arith;
       whole =
-        w ∙ ap (read_map (λ xs. found ++ xs)) (items-more skip ends one n rest x after (subst (λ ys. ends ys ≡ false) begins e) (subst (λ ys. one ys ≡ Ok (x, after)) begins was)) ∙ read_map-push found x _
-        ∙ ap (λ (ys : List X). read_map (λ xs. ys ++ xs) (items_at skip ends one n after)) (sym made);
+          w ∙ ap (read_map (λ xs. found ++ xs)) (items-more skip ends one n rest x after (subst (λ ys. ends ys ≡ false) begins e) (subst (λ ys. one ys ≡ Ok (x, after)) begins was)) ∙ read_map-push found x _
+          ∙ ap (λ (ys : List X). read_map (λ xs. ys ++ xs) (items_at skip ends one n after)) (sym made);
     }
 
   pub so_far-end : (bs : Text) (found : List X) (rest start : Text) → start ≡ skip rest → ends start ≡ true → SoFar skip ends one bs found rest → items_at skip ends one (suc (length bs)) bs ≡ Ok (found, start)

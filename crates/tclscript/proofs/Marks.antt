@@ -1,13 +1,11 @@
 -- Marks, runs of bytes, and the ends of what the grammar has.
-use Rattle.std.proofs.Common.{◌≡◌, ◌≢◌, ℕ, zero, suc, ◌+◌, ◌<◌, ◌≤◌, List, [], ◌∷◌, ◌++◌, length, Bool, true, false, not, ◌||◌, ◌&&◌, ◌==◌, Result, Ok, Err, refl, sym, ap, ap₂, subst, ◌∙◌, arith, append_assoc, append-nil, length-append, ◌⊎◌, inl, inr}
+use Rattle.std.proofs.Common.{◌≡◌, ℕ, [], ◌∷◌, ◌++◌, length, Bool, true, false, not, ◌==◌, Result, Ok, Err, refl, sym, ap, ◌∙◌, arith, ◌⊎◌, inl, inr}
 use Rattle.std.proofs.lemmas.Bool.Decides.{nat_tests}
-use Rattle.tclchars.specs.Runs.{Text, front, back, begins}
-use Rattle.tclchars.specs.Bytes.{newline, hash, backslash, is_blank, is_gap, AllPass, MayBegin, DoesBegin}
+use Rattle.tclchars.specs.Runs.{Text, front, back}
+use Rattle.tclchars.specs.Bytes.{AllPass, MayBegin}
 use Rattle.tclchars.specs.declared.fault.Fault.{Fault}
-use Rattle.tclscript.specs.declared.context.Context.{Context}
-use Rattle.tclscript.specs.declared.context.Context.TheVariants.{InScript, InBracket, InIndex, InQuotes}
 use Rattle.tclscript.specs.Reading.{on_mark, closed, ended}
-use Rattle.tclscript.specs.Ends.{stands_before, word_ends, parts_end}
+use Rattle.tclscript.specs.Ends.{stands_before, word_ends}
 use Rattle.tclchars.specs.declared.fault.Fault.TheVariants.{JoinedToClose}
 
 pub true_false : false ≡ true → ⊥
@@ -43,26 +41,26 @@ on_mark-not mark (b ∷ bs) f other h = rw (not_true (b == mark) h) refl
 
 pub closed_ok : (mark : ℕ) (fault : Fault) (bs rest : Text) → closed mark fault bs ≡ Ok rest → bs ≡ mark ∷ rest
 closed_ok mark fault bs rest h = elim (mark_at mark bs) [
-  inl k ↦ (
-    let e : (let ok : Result Text Fault = Ok k.0 in ok) ≡ Ok rest = sym (on_mark-at mark bs k.0 (λ rest. Ok rest) (Err fault) k.1) ∙ h in
-    let same : k.0 ≡ rest = cc in
-    k.1 ∙ ap (λ xs. mark ∷ xs) same
-  )
+  | inl k ↦ (
+      let e : (let ok : Result Text Fault = Ok k.0 in ok) ≡ Ok rest = sym (on_mark-at mark bs k.0 (λ rest. Ok rest) (Err fault) k.1) ∙ h in
+      let same : k.0 ≡ rest = cc in
+      k.1 ∙ ap (λ xs. mark ∷ xs) same
+      )
   | inr k ↦ (
-    let e : (let err : Result Text Fault = Err fault in err) ≡ Ok rest = sym (on_mark-not mark bs (λ rest. Ok rest) (Err fault) k) ∙ h in
-    absurd (apart e)
-  )
+      let e : (let err : Result Text Fault = Err fault in err) ≡ Ok rest = sym (on_mark-not mark bs (λ rest. Ok rest) (Err fault) k) ∙ h in
+      absurd (apart e)
+      )
 ] where
   apart : (let err : Result Text Fault = Err fault in err) ≡ Ok rest → ⊥
   apart e = cc
 
 pub closed_err : (mark : ℕ) (fault : Fault) (bs : Text) (f : Fault) → closed mark fault bs ≡ Err f → (fault ≡ f) × Without mark bs
 closed_err mark fault bs f h = elim (mark_at mark bs) [
-  inl k ↦ absurd (apart k.0 (sym (on_mark-at mark bs k.0 (λ rest. Ok rest) (Err fault) k.1) ∙ h))
+  | inl k ↦ absurd (apart k.0 (sym (on_mark-at mark bs k.0 (λ rest. Ok rest) (Err fault) k.1) ∙ h))
   | inr k ↦ (
-    let e : (let err : Result Text Fault = Err fault in err) ≡ Err f = sym (on_mark-not mark bs (λ rest. Ok rest) (Err fault) k) ∙ h in
-    (same e, k)
-  )
+      let e : (let err : Result Text Fault = Err fault in err) ≡ Err f = sym (on_mark-not mark bs (λ rest. Ok rest) (Err fault) k) ∙ h in
+      (same e, k)
+      )
 ] where
   apart : (rest : Text) → (let ok : Result Text Fault = Ok rest in ok) ≡ Err f → ⊥
   apart rest e = cc
@@ -88,7 +86,7 @@ ended_cases nested bs false h = inr (refl, rw h refl)
 
 pub ended_ok : (nested : Bool) (bs rest : Text) → ended nested bs ≡ Ok rest → (bs ≡ rest) × (word_ends nested bs ≡ true)
 ended_ok nested bs rest h = elim (ended_cases nested bs (word_ends nested bs) refl) [
-  inl k ↦ (same (sym k.1 ∙ h), k.0)
+  | inl k ↦ (same (sym k.1 ∙ h), k.0)
   | inr k ↦ absurd (apart (sym k.1 ∙ h))
 ] where
   same : (let ok : Result Text Fault = Ok bs in ok) ≡ Ok rest → bs ≡ rest
@@ -99,7 +97,7 @@ ended_ok nested bs rest h = elim (ended_cases nested bs (word_ends nested bs) re
 
 pub ended_err : (nested : Bool) (bs : Text) (f : Fault) → ended nested bs ≡ Err f → (JoinedToClose (length bs) ≡ f) × (word_ends nested bs ≡ false)
 ended_err nested bs f h = elim (ended_cases nested bs (word_ends nested bs) refl) [
-  inl k ↦ absurd (apart (sym k.1 ∙ h))
+  | inl k ↦ absurd (apart (sym k.1 ∙ h))
   | inr k ↦ (same (sym k.1 ∙ h), k.0)
 ] where
   same : (let err : Result Text Fault = Err (JoinedToClose (length bs)) in err) ≡ Err f → JoinedToClose (length bs) ≡ f

@@ -1,12 +1,12 @@
 -- The longest name at the front of a text is what is passed over as one.
-use Rattle.std.proofs.Common.{◌≡◌, ◌≢◌, ℕ, zero, suc, ◌+◌, ◌<◌, ◌≤◌, List, [], ◌∷◌, ◌++◌, length, Bool, true, false, not, ◌||◌, ◌&&◌, ◌==◌, Option, Some, None, refl, sym, ap, ap₂, subst, ◌∙◌, arith, append_assoc, append-nil, length-append, ◌⊎◌, inl, inr}
+use Rattle.std.proofs.Common.{◌≡◌, ℕ, zero, suc, ◌<◌, [], ◌∷◌, ◌++◌, length, Bool, true, false, ◌||◌, ◌&&◌, ◌==◌, Some, None, refl, sym, ap, ap₂, subst, ◌∙◌, arith, append_assoc, append-nil, length-append}
 use Rattle.std.proofs.lemmas.Bool.Decides.{nat_tests}
 use Rattle.tclchars.specs.Runs.{Text, begins}
 use Rattle.tclchars.specs.Bytes.{AllPass}
 use Rattle.tclchars.specs.Classes.{is_name}
 use Rattle.tclscript.specs.declared.runs.Passing.{Passing}
 use Rattle.tclscript.specs.declared.runs.Passing.TheVariants.{Name, Colons}
-use Rattle.tclscript.specs.Passing.{colon, step, step_name, put_before, pass_on, pass}
+use Rattle.tclscript.specs.Passing.{colon, step, put_before, pass}
 use Rattle.tclscript.specs.Grammar as grammar
 use Rattle.tclscript.specs.Grammar.{IsName, IsLongestName, is_colon}
 use Rattle.tclscript.proofs.PassedOver.{pass_whole, pass-nil, pass-on, pass-stop, is_byte}
@@ -119,14 +119,13 @@ name_over (grammar.IsName.letter {b} {bs} h k) colons r =
     let m = name_over k false r in
     (m.0, pass-on (naming colons) Name b (bs ++ r) (name_step colons b (bs ++ r) h) ∙ ap (put_before b) m.1)
 name_over (grammar.IsName.colons run {bs} h k) colons r =
-    let m = name_over k true r in
-    (
+    let m = name_over k true r in (
       m.0,
       pass-on (naming colons) Colons 58 (58 ∷ ((run ++ bs) ++ r)) (first_colon colons ((run ++ bs) ++ r))
-      ∙ ap (put_before 58) (
-        pass-on Colons Colons 58 ((run ++ bs) ++ r) refl
-        ∙ ap (put_before 58) (ap (pass Colons) (append_assoc run bs r) ∙ run_over run (bs ++ r) h ∙ ap (before run) m.1 ∙ ap (λ xs. (xs, (pass m.0 r).1)) (sym (append_assoc run bs (pass m.0 r).0)))
-      ),
+          ∙ ap (put_before 58) (
+          pass-on Colons Colons 58 ((run ++ bs) ++ r) refl
+          ∙ ap (put_before 58) (ap (pass Colons) (append_assoc run bs r) ∙ run_over run (bs ++ r) h ∙ ap (before run) m.1 ∙ ap (λ xs. (xs, (pass m.0 r).1)) (sym (append_assoc run bs (pass m.0 r).0)))
+          ),
     )
 
 none_more : (xs ys : Text) → xs ≡ xs ++ ys → ys ≡ []
@@ -139,13 +138,16 @@ append_left (x ∷ a) b c h = append_left a b c (let e : a ++ b ≡ a ++ c = cc 
 
 -- what is passed over is the longest name
 pub name_longest : (bs : Text) → IsLongestName (pass Name bs).0 (pass Name bs).1
-name_longest bs = (passed_name bs, λ more rest e is.
-    let name = (pass Name bs).0 in
-    let whole : bs ≡ (name ++ more) ++ rest = pass_whole Name bs ∙ ap (λ xs. name ++ xs) e ∙ sym (append_assoc name more rest) in
-    let m = name_over is false rest in
-    let same : name ≡ (name ++ more) ++ (pass m.0 rest).0 = ap (λ xs. (pass Name xs).0) whole ∙ ap (λ p. p.0) m.1 in
-    let none : more ++ (pass m.0 rest).0 ≡ [] = none_more name (more ++ (pass m.0 rest).0) (same ∙ append_assoc name more (pass m.0 rest).0) in
-    front_none more (pass m.0 rest).0 none) where
+name_longest bs = (
+  passed_name bs,
+  λ more rest e is.
+      let name = (pass Name bs).0 in
+      let whole : bs ≡ (name ++ more) ++ rest = pass_whole Name bs ∙ ap (λ xs. name ++ xs) e ∙ sym (append_assoc name more rest) in
+      let m = name_over is false rest in
+      let same : name ≡ (name ++ more) ++ (pass m.0 rest).0 = ap (λ xs. (pass Name xs).0) whole ∙ ap (λ p. p.0) m.1 in
+      let none : more ++ (pass m.0 rest).0 ≡ [] = none_more name (more ++ (pass m.0 rest).0) (same ∙ append_assoc name more (pass m.0 rest).0) in
+      front_none more (pass m.0 rest).0 none,
+) where
   front_none : (xs ys : Text) → xs ++ ys ≡ [] → xs ≡ []
   front_none [] ys h = refl
   front_none (x ∷ xs) ys h = cc

@@ -1,14 +1,13 @@
 -- Brackets and indexes, a level down.
-use Rattle.std.proofs.Common.{◌≡◌, ℕ, zero, suc, ◌+◌, ◌-◌, ◌<◌, length, Bool, true, false, Result, Ok, Err, refl, sym, ap, ap₂, subst, ◌∙◌, arith}
+use Rattle.std.proofs.Common.{◌≡◌, ℕ, zero, suc, ◌-◌, ◌<◌, length, true, Ok, sym, ap, ◌∙◌, arith}
 use Rattle.tclchars.specs.Runs.{Text}
-use Rattle.tclchars.specs.declared.fault.Fault.{Fault}
 use Rattle.tclchars.specs.declared.fault.Fault.TheVariants.{OpenBracket, BadCharacter}
 use Rattle.tclchars.specs.declared.fault.ReadError.{ReadError}
 use Rattle.tclchars.specs.declared.fault.ReadError.TheVariants as errors
-use Rattle.tclchars.specs.Reading.{Read, Fails, read_map, ◌>>=◌}
+use Rattle.tclchars.specs.Reading.{Fails, ◌>>=◌}
 use Rattle.tclscript.specs.declared.context.Context.TheVariants.{InIndex}
-use Rattle.tclscript.specs.Tree.{Commands, Parts, Part, bracket}
-use Rattle.tclscript.specs.Reading.{closed, Inner, bracket_at, index_at, parts_with, script_with, inner_at}
+use Rattle.tclscript.specs.Tree.{Commands, Parts, bracket}
+use Rattle.tclscript.specs.Reading.{closed, bracket_at, index_at, parts_with, script_with, inner_at}
 
 pub inner-script : (d : ℕ) (bs : Text) → 0 < d → (inner_at d).script bs ≡ script_with true (inner_at (d - 1)) bs
 unfolding inner_at

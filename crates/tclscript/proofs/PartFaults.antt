@@ -1,18 +1,17 @@
 -- Parts are read exactly, and a fault of one is met.
-use Rattle.std.proofs.Common.{◌≡◌, ◌≢◌, ℕ, zero, suc, ◌+◌, ◌<◌, ◌≤◌, max, List, [], ◌∷◌, ◌++◌, length, Bool, true, false, not, Option, Some, None, Result, Ok, Err, refl, sym, ap, ap₂, subst, ◌∙◌, arith, append_assoc, append-nil, length-append, ◌⊎◌, inl, inr}
+use Rattle.std.proofs.Common.{◌≡◌, ℕ, zero, suc, ◌<◌, ◌≤◌, List, [], ◌∷◌, ◌++◌, length, true, Ok, Err, refl, sym, ap, subst, ◌∙◌, arith, append_assoc, length-append}
 use Rattle.tclchars.specs.Runs.{Text}
-use Rattle.tclchars.specs.Reading.{◌>>=◌, Read, read_map, items_at}
+use Rattle.tclchars.specs.Reading.{Read, read_map, items_at}
 use Rattle.tclchars.specs.declared.fault.Fault.{Fault}
 use Rattle.tclscript.specs.declared.context.Context.{Context}
-use Rattle.tclscript.specs.Tree.{Parts, no_parts, part, Part, parts_of, parts_nesting, part_nesting}
+use Rattle.tclscript.specs.Tree.{Parts, no_parts, part, Part, parts_of, parts_nesting}
 use Rattle.tclscript.specs.Ends.{parts_end}
-use Rattle.tclscript.specs.Grammar.{IsParts, IsPart}
+use Rattle.tclscript.specs.Grammar.{IsParts}
 use Rattle.tclscript.specs.Faults as faults
 use Rattle.tclscript.specs.Faults.{PartsFault, PartFault}
 use Rattle.tclscript.specs.Reading.{Inner, part_at, parts_with}
 use Rattle.tclscript.proofs.Exact.{Took, Exact, read_map_ok, read_map_err, Items, items-end, items-more, items-fail, items_sound, items_faulty}
-use Rattle.tclscript.proofs.Dollars.{Anywhere, IsExactInner, DollarIs, parts_close, braced_met, indexed_met, indexed_open}
-use Rattle.tclscript.proofs.PartsExact as exact_parts
+use Rattle.tclscript.proofs.Dollars.{Anywhere, IsExactInner, braced_met, indexed_met, indexed_open}
 use Rattle.tclscript.proofs.PartsExact.{faulty_goes_on, part_some, PartIs, GoesOn, part_sound, part_faulty, part_again, at_dollar, at_bracket, at_backslash, bracket_met, bracket_open, backslash_met}
 
 -- a fault of a part is met
@@ -91,8 +90,7 @@ module _ (d : ℕ) (inner : Inner) (exact : IsExactInner d inner) (c : Context) 
       let is : PartIs d inner exact c p body (rest ++ r) = (h.is_first.0, (h.is_first.1, omega (arith, deep))) in
       let whole : t ++ r ≡ body ++ (rest ++ r) = ap (λ xs. xs ++ r) h.whole ∙ append_assoc body rest r in
       let some = part_some c p body (rest ++ r) h.is_first.1 in
-      let k = list_again ps rest r n h.is_second (omega (arith, deep)) (omega (arith, ap length whole, length-append body (rest ++ r))) in
-      (
+      let k = list_again ps rest r n h.is_second (omega (arith, deep)) (omega (arith, ap length whole, length-append body (rest ++ r))) in (
         p ∷ k.0,
         ap (read (suc n)) whole ∙ items-more (λ bs. bs) (parts_end c) (part_at c inner) NoGapAtAll (GoesOn d inner exact c) (PartIs d inner exact c) (PartFault d) part_items n [] body (rest ++ r) p refl is ∙ ap (read_map (λ xs. p ∷ xs)) k.1,
         ap (part p) k.2,

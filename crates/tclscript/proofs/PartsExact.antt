@@ -1,27 +1,27 @@
 -- Parts are read exactly.
-use Rattle.std.proofs.Common.{◌≡◌, ◌≢◌, ℕ, zero, suc, ◌+◌, ◌<◌, ◌≤◌, max, List, [], ◌∷◌, ◌++◌, length, Bool, true, false, not, ◌||◌, ◌&&◌, ◌==◌, Option, Some, None, Result, Ok, Err, refl, sym, ap, ap₂, subst, ◌∙◌, arith, append_assoc, append-nil, length-append, ◌⊎◌, inl, inr}
+use Rattle.std.proofs.Common.{◌≡◌, ◌≢◌, ℕ, zero, suc, ◌<◌, [], ◌∷◌, ◌++◌, length, Bool, true, false, not, ◌==◌, Option, Some, None, Result, Ok, Err, refl, sym, ap, ap₂, subst, ◌∙◌, arith, append_assoc, append-nil, ◌⊎◌, inl, inr}
 use Rattle.std.proofs.lemmas.Bool.Decides.{nat_tests}
 use Rattle.tclchars.specs.Runs.{Text, front, back, begins}
-use Rattle.tclchars.specs.Bytes.{newline, hash, backslash, AllPass, MayBegin, DoesBegin}
-use Rattle.tclchars.specs.Classes.{in_class, is_name}
-use Rattle.tclchars.specs.Backslash.{after_backslash, is_blank_or_tab}
-use Rattle.tclchars.specs.Reading.{◌>>=◌, Read, read_map, items_at}
+use Rattle.tclchars.specs.Bytes.{newline, DoesBegin}
+use Rattle.tclchars.specs.Classes.{in_class}
+use Rattle.tclchars.specs.Backslash.{after_backslash}
+use Rattle.tclchars.specs.Reading.{◌>>=◌, Read}
 use Rattle.tclchars.specs.declared.fault.Fault.{Fault}
-use Rattle.tclchars.specs.declared.fault.Fault.TheVariants.{OpenBrace, OpenBracket, TooDeep, BadCharacter}
+use Rattle.tclchars.specs.declared.fault.Fault.TheVariants.{OpenBracket, BadCharacter}
 use Rattle.tclscript.specs.declared.context.Context.{Context}
 use Rattle.tclscript.specs.declared.context.Context.TheVariants.{InScript, InBracket, InIndex, InQuotes}
 use Rattle.tclscript.specs.Tree as tree
 use Rattle.tclscript.specs.Tree.{Commands, no_commands, command, Parts, no_parts, part, Part, literal, variable, indexed, bracket, parts_of, nesting, parts_nesting, part_nesting}
-use Rattle.tclscript.specs.Ends.{script_ends, stands_before, word_ends, parts_end, class_of}
-use Rattle.tclscript.specs.Grammar.{Split, IsName, IsLongestName, IsRun, IsLiteral, IsDollar, IsLastBackslash, IsPlainVariable, IsBracedVariable, IsCommands, IsParts, IsPart}
+use Rattle.tclscript.specs.Ends.{script_ends, stands_before, parts_end, class_of}
+use Rattle.tclscript.specs.Grammar.{IsRun, IsLiteral, IsCommands, IsPart}
 use Rattle.tclscript.specs.Faults as faults
 use Rattle.tclscript.specs.Faults.{CommandsFault, PartsFault, PartFault}
-use Rattle.tclscript.specs.Reading.{Inner, on_mark, closed, bracket_at, dollar_at, escaped, backslash_at, literal_at, part_at, parts_with}
+use Rattle.tclscript.specs.Reading.{Inner, on_mark, closed, bracket_at, dollar_at, escaped, backslash_at, literal_at, part_at}
 use Rattle.tclscript.specs.Pieces.{IsEndOf}
 use Rattle.tclscript.proofs.Escapes.{LeavesSome, backslash_end}
-use Rattle.tclscript.proofs.Exact.{Took, Exact, bind_ok, bind_err, ok_pair, read_map_ok, read_map_err, ok_err, err_same, Items, items-end, items-more, items-fail, items_sound, items_faulty}
-use Rattle.tclscript.proofs.Marks.{true_false, not_true, Without, mark_at, on_mark-at, on_mark-not, closed_ok, closed_err, closed-at, none_before, run_taken, front_run, back_run}
-use Rattle.tclscript.proofs.Dollars.{Anywhere, ScriptFault, IndexFault, IsExactInner, DollarIs, parts_close, dollar_sound, dollar_faulty, dollar_alone, variable_again, braced_variable_again, indexed_again, indexed_met, indexed_open, braced_met}
+use Rattle.tclscript.proofs.Exact.{Took, bind_ok, bind_err, ok_pair, ok_err, err_same}
+use Rattle.tclscript.proofs.Marks.{true_false, Without, mark_at, on_mark-not, closed_ok, closed_err, closed-at, none_before, run_taken, front_run, back_run}
+use Rattle.tclscript.proofs.Dollars.{ScriptFault, IsExactInner, DollarIs, dollar_sound, dollar_faulty, dollar_alone, variable_again, braced_variable_again, indexed_again}
 
 -- commands go on up to their end
 pub commands_close : (nested : Bool) (s : Commands) (t r : Text) → IsCommands nested s t r → script_ends nested r ≡ true
@@ -59,7 +59,6 @@ literal_byte InScript b h = (grind (arith, nat_tests), grind (arith, nat_tests),
 literal_byte InBracket b h = (grind (arith, nat_tests), grind (arith, nat_tests), grind (arith, nat_tests))
 literal_byte InIndex b h = (grind (arith, nat_tests), grind (arith, nat_tests), grind (arith, nat_tests))
 literal_byte InQuotes b h = (grind (arith, nat_tests), grind (arith, nat_tests), grind (arith, nat_tests))
-
 
 other_byte : (c : Context) (b : ℕ) (bs : Text) → parts_end c (b ∷ bs) ≡ false → not (b == 36) ≡ true → not (b == 91) ≡ true → not (b == 92) ≡ true → in_class (class_of c) b ≡ true
 other_byte InScript b bs h x y z = grind (arith, nat_tests)
@@ -150,31 +149,31 @@ module _ (d : ℕ) (inner : Inner) (exact : IsExactInner d inner) where
   bracket_faulty bs f h =
       let mark = OpenBracket (suc (length bs)) in
       elim (bind_err (inner.script bs) (λ x. close_bracket mark x.0 x.1) f h) [
-        inl bad ↦ deeper d (exact.script.faulty bs f tt bad)
+        | inl bad ↦ deeper d (exact.script.faulty bs f tt bad)
         | inr k ↦ unclosed k.0.0 k.0.1 k.1 k.2
       ] where
-    deeper : (d : ℕ) → ScriptFault d bs f → PartFault d (91 ∷ bs) f
-    deeper zero h = subst (PartFault zero (91 ∷ bs)) (sym h) faults.PartFault.bracket_too_deep
-    deeper (suc d) h = faults.PartFault.in_bracket h
+        deeper : (d : ℕ) → ScriptFault d bs f → PartFault d (91 ∷ bs) f
+        deeper zero h = subst (PartFault zero (91 ∷ bs)) (sym h) faults.PartFault.bracket_too_deep
+        deeper (suc d) h = faults.PartFault.in_bracket h
 
-    open_at : (d : ℕ) (s : Commands) → IsCommands true s bs [] → nesting s < d → PartFault d (91 ∷ bs) (OpenBracket (suc (length bs)))
-    open_at zero s h less = absurd (omega arith)
-    open_at (suc d) s h less = faults.PartFault.open_bracket s h (omega arith)
+        open_at : (d : ℕ) (s : Commands) → IsCommands true s bs [] → nesting s < d → PartFault d (91 ∷ bs) (OpenBracket (suc (length bs)))
+        open_at zero s h less = absurd (omega arith)
+        open_at (suc d) s h less = faults.PartFault.open_bracket s h (omega arith)
 
-    unclosed : (s : Commands) (r : Text) → inner.script bs ≡ Ok (s, r) → close_bracket (OpenBracket (suc (length bs))) s r ≡ Err f → PartFault d (91 ∷ bs) f
-    unclosed s r was h =
-        let mark = OpenBracket (suc (length bs)) in
-        elim (bind_err (closed 93 mark r) (λ rest. let found : Read Part = Ok (bracket s, rest) in found) f h) [
-          inl bad ↦ (
-            let e = closed_err 93 mark r f bad in
-            let k = exact.script.sound bs s r tt was in
-            let none : r ≡ [] = none_before 93 r (bracket_or_end r (commands_close true s k.taken r k.is.0)) e.1 in
-            let whole : k.taken ≡ bs = sym (append-nil k.taken) ∙ ap (λ ys. k.taken ++ ys) (sym none) ∙ sym k.whole in
-            let inside : IsCommands true s bs [] = subst (λ xs. IsCommands true s xs []) whole (subst (λ ys. IsCommands true s k.taken ys) none k.is.0) in
-            subst (PartFault d (91 ∷ bs)) e.0 (open_at d s inside k.is.1)
-          )
-          | inr k ↦ absurd (ok_err (bracket s, k.0) f k.2)
-        ]
+        unclosed : (s : Commands) (r : Text) → inner.script bs ≡ Ok (s, r) → close_bracket (OpenBracket (suc (length bs))) s r ≡ Err f → PartFault d (91 ∷ bs) f
+        unclosed s r was h =
+            let mark = OpenBracket (suc (length bs)) in
+            elim (bind_err (closed 93 mark r) (λ rest. let found : Read Part = Ok (bracket s, rest) in found) f h) [
+              | inl bad ↦ (
+                  let e = closed_err 93 mark r f bad in
+                  let k = exact.script.sound bs s r tt was in
+                  let none : r ≡ [] = none_before 93 r (bracket_or_end r (commands_close true s k.taken r k.is.0)) e.1 in
+                  let whole : k.taken ≡ bs = sym (append-nil k.taken) ∙ ap (λ ys. k.taken ++ ys) (sym none) ∙ sym k.whole in
+                  let inside : IsCommands true s bs [] = subst (λ xs. IsCommands true s xs []) whole (subst (λ ys. IsCommands true s k.taken ys) none k.is.0) in
+                  subst (PartFault d (91 ∷ bs)) e.0 (open_at d s inside k.is.1)
+                  )
+              | inr k ↦ absurd (ok_err (bracket s, k.0) f k.2)
+            ]
 
   bracket_again : (inside r : Text) (s : Commands) → IsCommands true s inside (93 ∷ r) → nesting s < d → bracket_at inner (inside ++ 93 ∷ r) ≡ Ok (bracket s, r)
   unfolding bracket_at
@@ -200,23 +199,23 @@ module _ (d : ℕ) (inner : Inner) (exact : IsExactInner d inner) where
   backslash_sound : (c : Context) (bs : Text) (p : Part) (r : Text) → backslash_at bs ≡ Ok (p, r) → Took (DollarIs d c) (92 ∷ bs) p r
   unfolding backslash_at
   backslash_sound c bs p r h = elim (escaped_sound bs (after_backslash bs) p r h) [
-    inl k ↦ (
-      let end = escape_end bs k.0 r k.1 in
-      let made : Took (DollarIs d c) (92 ∷ bs) (tree.backslash k.0) r = record {
-        taken = 92 ∷ end.0;
-        whole = ap (λ xs. 92 ∷ xs) end.1;
-        is = ((end.0, refl, ap after_backslash (sym end.1) ∙ k.1), omega arith);
-      } in
-      subst (λ p. Took (DollarIs d c) (92 ∷ bs) p r) (sym k.2) made
-    )
+    | inl k ↦ (
+        let end = escape_end bs k.0 r k.1 in
+        let made : Took (DollarIs d c) (92 ∷ bs) (tree.backslash k.0) r = record {
+          taken = 92 ∷ end.0;
+          whole = ap (λ xs. 92 ∷ xs) end.1;
+          is = ((end.0, refl, ap after_backslash (sym end.1) ∙ k.1), omega arith);
+        } in
+        subst (λ p. Took (DollarIs d c) (92 ∷ bs) p r) (sym k.2) made
+        )
     | inr k ↦ (
-      let made : Took (DollarIs d c) (92 ∷ bs) (literal (92 ∷ [])) r = record {
-        taken = 92 ∷ [];
-        whole = ap (λ xs. 92 ∷ xs) (k.0 ∙ sym k.1);
-        is = ((refl, inr (inr (refl, k.1))), omega arith);
-      } in
-      subst (λ p. Took (DollarIs d c) (92 ∷ bs) p r) (sym k.2) made
-    )
+        let made : Took (DollarIs d c) (92 ∷ bs) (literal (92 ∷ [])) r = record {
+          taken = 92 ∷ [];
+          whole = ap (λ xs. 92 ∷ xs) (k.0 ∙ sym k.1);
+          is = ((refl, inr (inr (refl, k.1))), omega arith);
+        } in
+        subst (λ p. Took (DollarIs d c) (92 ∷ bs) p r) (sym k.2) made
+        )
   ]
 
   backslash_faulty : (bs : Text) (f : Fault) → backslash_at bs ≡ Err f → PartFault d (92 ∷ bs) f
@@ -291,11 +290,11 @@ module _ (d : ℕ) (inner : Inner) (exact : IsExactInner d inner) where
 
   pub part_sound : (c : Context) (bs : Text) (p : Part) (r : Text) → GoesOn c bs → part_at c inner bs ≡ Ok (p, r) → Took (PartIs c) bs p r
   part_sound c bs p r b h = elim (mark_at 36 bs) [
-    inl k ↦ there c bs (36 ∷ k.0) p r k.1 b (dollar_sound d inner exact c k.0 p r (sym (ap (part_at c inner) k.1 ∙ at_dollar c k.0) ∙ h))
+    | inl k ↦ there c bs (36 ∷ k.0) p r k.1 b (dollar_sound d inner exact c k.0 p r (sym (ap (part_at c inner) k.1 ∙ at_dollar c k.0) ∙ h))
     | inr x ↦ elim (mark_at 91 bs) [
-      inl k ↦ there c bs (91 ∷ k.0) p r k.1 b (bracket_sound c k.0 p r (sym (ap (part_at c inner) k.1 ∙ at_bracket c k.0) ∙ h))
+      | inl k ↦ there c bs (91 ∷ k.0) p r k.1 b (bracket_sound c k.0 p r (sym (ap (part_at c inner) k.1 ∙ at_bracket c k.0) ∙ h))
       | inr y ↦ elim (mark_at 92 bs) [
-        inl k ↦ there c bs (92 ∷ k.0) p r k.1 b (backslash_sound c k.0 p r (sym (ap (part_at c inner) k.1 ∙ at_backslash c k.0) ∙ h))
+        | inl k ↦ there c bs (92 ∷ k.0) p r k.1 b (backslash_sound c k.0 p r (sym (ap (part_at c inner) k.1 ∙ at_backslash c k.0) ∙ h))
         | inr z ↦ there c bs bs p r refl b (literal_sound c bs p r b x y z (sym (at_literal c bs x y z) ∙ h))
       ]
     ]
@@ -303,11 +302,11 @@ module _ (d : ℕ) (inner : Inner) (exact : IsExactInner d inner) where
 
   pub part_faulty : (c : Context) (bs : Text) (f : Fault) → GoesOn c bs → part_at c inner bs ≡ Err f → PartFault d bs f
   part_faulty c bs f b h = elim (mark_at 36 bs) [
-    inl k ↦ subst (λ xs. PartFault d xs f) (sym k.1) (dollar_faulty d inner exact k.0 f (sym (ap (part_at c inner) k.1 ∙ at_dollar c k.0) ∙ h))
+    | inl k ↦ subst (λ xs. PartFault d xs f) (sym k.1) (dollar_faulty d inner exact k.0 f (sym (ap (part_at c inner) k.1 ∙ at_dollar c k.0) ∙ h))
     | inr x ↦ elim (mark_at 91 bs) [
-      inl k ↦ subst (λ xs. PartFault d xs f) (sym k.1) (bracket_faulty k.0 f (sym (ap (part_at c inner) k.1 ∙ at_bracket c k.0) ∙ h))
+      | inl k ↦ subst (λ xs. PartFault d xs f) (sym k.1) (bracket_faulty k.0 f (sym (ap (part_at c inner) k.1 ∙ at_bracket c k.0) ∙ h))
       | inr y ↦ elim (mark_at 92 bs) [
-        inl k ↦ subst (λ xs. PartFault d xs f) (sym k.1) (backslash_faulty k.0 f (sym (ap (part_at c inner) k.1 ∙ at_backslash c k.0) ∙ h))
+        | inl k ↦ subst (λ xs. PartFault d xs f) (sym k.1) (backslash_faulty k.0 f (sym (ap (part_at c inner) k.1 ∙ at_backslash c k.0) ∙ h))
         | inr z ↦ absurd (ok_err (literal (front (in_class (class_of c)) bs), back (in_class (class_of c)) bs) f (sym (at_literal c bs x y z) ∙ h))
       ]
     ]
@@ -346,4 +345,3 @@ module _ (d : ℕ) (inner : Inner) (exact : IsExactInner d inner) where
   part_again c (bracket s) t r h =
       let inside = h.0.0 in
       ap (λ xs. part_at c inner (xs ++ r)) h.0.1 ∙ at_bracket c ((inside ++ 93 ∷ []) ++ r) ∙ ap (bracket_at inner) (append_assoc inside (93 ∷ []) r) ∙ bracket_again inside r s h.0.2 (omega (arith, h.1))
-

@@ -1,13 +1,11 @@
 -- What is passed over: blanks, gaps and names, as the grammar has them.
-use Rattle.std.proofs.Common.{◌≡◌, ◌≢◌, ℕ, zero, suc, ◌+◌, ◌<◌, ◌≤◌, List, [], ◌∷◌, ◌++◌, length, Bool, true, false, not, ◌||◌, ◌&&◌, ◌==◌, Option, Some, None, refl, sym, ap, ap₂, subst, ◌∙◌, arith, append_assoc, append-nil, length-append, ◌⊎◌, inl, inr}
+use Rattle.std.proofs.Common.{◌≡◌, ◌≢◌, ℕ, zero, suc, ◌<◌, [], ◌∷◌, ◌++◌, length, Bool, true, false, ◌||◌, ◌&&◌, ◌==◌, Option, Some, None, refl, sym, ap, subst, ◌∙◌, arith, append_assoc, ◌⊎◌, inl, inr}
 use Rattle.std.proofs.lemmas.Bool.Decides.{nat_tests}
 use Rattle.tclchars.specs.Runs.{Text, begins}
-use Rattle.tclchars.specs.Bytes.{newline, hash, backslash, is_blank, is_gap, AllPass, MayBegin, DoesBegin}
-use Rattle.tclchars.specs.Classes.{is_name}
+use Rattle.tclchars.specs.Bytes.{newline, hash, backslash, is_blank, is_gap}
 use Rattle.tclscript.specs.declared.runs.Passing.{Passing}
-use Rattle.tclscript.specs.declared.runs.Passing.TheVariants.{Blanks, Joined, Gap, Comment, Escaped, Name, Colons}
-use Rattle.tclscript.specs.Passing.{colon, step, step_blanks, step_joined, step_gap, step_comment, step_name, put_before, pass_on, pass, skip_blanks, skip_gap}
-use Rattle.tclscript.specs.Ends.{script_ends, command_ends, word_ends}
+use Rattle.tclscript.specs.declared.runs.Passing.TheVariants.{Blanks, Joined, Gap, Comment, Escaped}
+use Rattle.tclscript.specs.Passing.{step, put_before, pass_on, pass, skip_blanks, skip_gap}
 use Rattle.tclscript.specs.Grammar as grammar
 use Rattle.tclscript.specs.Grammar.{IsBlanks, IsComment, IsGap, IsName, IsLongestName, is_colon}
 
@@ -184,7 +182,7 @@ gap_cases : (b : ℕ) (bs : Text) (t u : Bool) → (is_gap b || begins_line b bs
 gap_cases b bs true u h k all =
     subst GapTaken (sym (pass-on Gap Gap b bs (gap_step b bs h)))
     (elim (space_or_line b bs h (is_gap b) refl) [
-      inl space ↦ (let m = (all bs (omega arith)).0 in (grammar.IsGap.space space m.0, m.1))
+      | inl space ↦ (let m = (all bs (omega arith)).0 in (grammar.IsGap.space space m.0, m.1))
       | inr line ↦ line_taken b bs line all
     ])
 gap_cases b bs false true h k all =

@@ -1,11 +1,10 @@
 -- What is passed over, and what follows it.
-use Rattle.std.proofs.Common.{◌≡◌, ℕ, [], ◌∷◌, ◌++◌, Bool, true, false, not, ◌||◌, ◌&&◌, ◌==◌, Option, Some, None, refl, sym, ap, ◌∙◌, arith}
-use Rattle.std.proofs.lemmas.Bool.Decides.{nat_tests}
-use Rattle.tclchars.specs.Bytes.{newline, hash, backslash, is_gap, is_blank, is_end}
-use Rattle.tclchars.specs.Runs.{Text, front, back, begins}
+use Rattle.std.proofs.Common.{◌≡◌, ℕ, [], ◌∷◌, ◌++◌, Bool, true, false, ◌||◌, ◌&&◌, ◌==◌, Option, Some, None, refl, ap}
+use Rattle.tclchars.specs.Bytes.{newline, hash, backslash, is_gap, is_blank}
+use Rattle.tclchars.specs.Runs.{Text, begins}
 use Rattle.tclscript.specs.declared.runs.Passing.{Passing}
 use Rattle.tclscript.specs.declared.runs.Passing.TheVariants.{Blanks, Joined, Gap, Comment, Escaped, Name, Colons}
-use Rattle.tclscript.specs.Passing.{step, step_blanks, step_joined, step_gap, step_comment, step_name, pass, pass_on, put_before, skip_blanks, skip_gap}
+use Rattle.tclscript.specs.Passing.{step, step_blanks, step_joined, step_gap, step_comment, pass, pass_on, skip_blanks, skip_gap}
 use Rattle.tclscript.specs.Pieces.{IsEndOf, IsFrontOf}
 
 pub pass-nil : (passing : Passing) → pass passing [] ≡ ([], [])
@@ -48,6 +47,7 @@ both_stop (b ∷ bs) = (go (both_stop bs) (is_blank b) (b == backslash) (begins 
   go more false true true h k l = rw (h, k, l) (more.1 l)
   go more false true false h k l = rw (h, k, l) (rw (h, k, l) refl)
   go more false false v h k l = rw (h, k) (rw (h, k) refl)
+
   joined : BothStop bs → (b == newline) ≡ true → StopsBlanks (pass_on b bs (λ next. pass next bs) (step_joined b)).1
   joined more h = rw h more.0
 

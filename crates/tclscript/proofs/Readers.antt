@@ -1,14 +1,12 @@
 -- What each reader leaves is an end of its text, and shorter where something was read.
-use Rattle.std.proofs.Common.{◌≡◌, ℕ, zero, suc, ◌+◌, ◌<◌, ◌≤◌, List, [], ◌∷◌, ◌++◌, length, Bool, true, false, not, ◌||◌, ◌&&◌, ◌==◌, Option, Some, None, Result, Ok, Err, refl, sym, ap, subst, ◌∙◌, arith, append_assoc}
+use Rattle.std.proofs.Common.{◌≡◌, ℕ, zero, suc, ◌<◌, ◌≤◌, [], ◌∷◌, ◌++◌, length, Bool, true, false, ◌==◌, Option, Some, None, Ok, Err, refl, sym, subst, ◌∙◌, arith, append_assoc}
 use Rattle.std.proofs.lemmas.Bool.Decides.{nat_tests}
-use Rattle.tclchars.specs.Bytes.{newline, backslash, is_gap, is_blank, is_end}
-use Rattle.tclchars.specs.Runs.{Text, front, back, begins}
+use Rattle.tclchars.specs.Runs.{Text, back, begins}
 use Rattle.tclchars.specs.Classes.{in_class}
 use Rattle.tclchars.specs.Backslash.{after_backslash}
-use Rattle.tclchars.specs.Braces.{Balanced, braced_at}
+use Rattle.tclchars.specs.Braces.{braced_at}
 use Rattle.tclchars.specs.Reading.{◌>>=◌, Read, read_map, items_at, items_step}
 use Rattle.tclchars.specs.declared.fault.Fault.{Fault}
-use Rattle.tclchars.specs.declared.fault.Fault.TheVariants.{OpenBrace, OpenQuote, OpenBracket, JoinedToClose, TooDeep, BadCharacter}
 use Rattle.tclchars.specs.declared.runs.Class.TheVariants.{InName}
 use Rattle.tclchars.proofs.BraceClose.{close_sound}
 use Rattle.tclchars.proofs.RunLemmas.{back-cons_true}
@@ -16,14 +14,14 @@ use Rattle.tclscript.specs.declared.context.Context.{Context}
 use Rattle.tclscript.specs.declared.context.Context.TheVariants.{InScript, InBracket, InIndex, InQuotes}
 use Rattle.tclscript.specs.declared.runs.Passing.TheVariants.{Blanks, Gap, Name}
 use Rattle.tclscript.specs.Pieces.{IsEndOf}
-use Rattle.tclscript.specs.Tree.{Commands, Words, word, Word, word_of, Parts, Part, parts_of, words_of, commands_of, indexed}
-use Rattle.tclscript.specs.Ends.{script_ends, command_ends, word_ends, stands_before, parts_end, class_of, bare}
-use Rattle.tclscript.specs.Passing.{pass, step_blanks, step_gap, skip_blanks, skip_gap}
-use Rattle.tclscript.specs.Reading.{on_mark, closed, ended, Inner, bracket_at, index_at, braced_name_at, plain_variable, after_name, dollar_at, escaped, backslash_at, literal_at, part_at, parts_with, in_braces, braced_word_at, quoted_word_at, plain_word_at, unless_word_ends, after_expansion, word_from, word_at, taken, words_at, command_at, script_with, inner_at}
-use Rattle.tclscript.proofs.Ends.{end_same, end_behind, end_through, end_no_longer, IsBehind, behind_mark, behind_through, end_mark}
+use Rattle.tclscript.specs.Tree.{word_of, parts_of, commands_of, indexed}
+use Rattle.tclscript.specs.Ends.{script_ends, command_ends, word_ends, parts_end, class_of, bare}
+use Rattle.tclscript.specs.Passing.{pass, skip_blanks, skip_gap}
+use Rattle.tclscript.specs.Reading.{on_mark, closed, ended, Inner, bracket_at, index_at, braced_name_at, plain_variable, after_name, dollar_at, escaped, backslash_at, part_at, parts_with, in_braces, braced_word_at, quoted_word_at, plain_word_at, unless_word_ends, after_expansion, word_from, word_at, words_at, command_at, script_with, inner_at}
+use Rattle.tclscript.proofs.Ends.{end_same, end_through, end_no_longer, IsBehind, behind_mark, behind_through, end_mark}
 use Rattle.tclscript.proofs.Escapes.{either, back_end, LeavesSome, backslash_end}
-use Rattle.tclscript.proofs.Passes.{pass_end, StopsBlanks, StopsGap, blanks_stop, gap_stop}
-use Rattle.tclscript.proofs.Rests.{Leaves, LeavesText, leaves_map, leaves_then, text_then, at_mark, closed_leaves, ended_leaves}
+use Rattle.tclscript.proofs.Passes.{pass_end}
+use Rattle.tclscript.proofs.Rests.{Leaves, leaves_map, leaves_then, text_then, at_mark, closed_leaves, ended_leaves}
 
 -- a weaker or stronger rest
 pub leaves_also : {A : Type 0} (P Q : Text → Type 0) (r : Read A) → ((rest : Text) → P rest → Q rest) → Leaves P r → Leaves Q r
@@ -55,13 +53,13 @@ module _ {X : Type 0} (skip : Text → Text) (ends : Text → Bool) (one : Text 
   pub items_behind : (n : ℕ) (bs : Text) → ends (skip bs) ≡ false → Leaves (IsBehind (skip bs)) (one (skip bs)) → Leaves (IsBehind bs) (items_at skip ends one (suc n) bs)
   items_behind n bs e some = rw e (leaves_then (IsBehind (skip bs)) (IsBehind bs) (one (skip bs)) _ some
       (λ x rest b. leaves_map (IsBehind bs) (λ xs. x ∷ xs) _ (leaves_also (IsEndOf rest) (IsBehind bs) _
-        (λ last f. behind_first rest last b f) (items_leave n rest)))) where
-    behind_first : (rest last : Text) → IsBehind (skip bs) rest → IsEndOf rest last → IsBehind bs last
-    behind_first rest last b f =
-        let less : length last ≤ length rest = end_no_longer rest last f in
-        let here : length (skip bs) ≤ length bs = end_no_longer bs (skip bs) (skips bs) in
-        let more : length rest < length (skip bs) = b.1 in
-        (end_through bs (skip bs) last (skips bs) (end_through (skip bs) rest last b.0 f), omega arith)
+      (λ last f. behind_first rest last b f) (items_leave n rest)))) where
+        behind_first : (rest last : Text) → IsBehind (skip bs) rest → IsEndOf rest last → IsBehind bs last
+        behind_first rest last b f =
+            let less : length last ≤ length rest = end_no_longer rest last f in
+            let here : length (skip bs) ≤ length bs = end_no_longer bs (skip bs) (skips bs) in
+            let more : length rest < length (skip bs) = b.1 in
+            (end_through bs (skip bs) last (skips bs) (end_through (skip bs) rest last b.0 f), omega arith)
 
 -- the readers of what brackets and indexes hold leave ends
 pub record InnerLeaves (inner : Inner) : Type 0 where
@@ -73,7 +71,7 @@ closed_behind : {A B : Type 0} (bs : Text) (r : Read A) (mark : ℕ) (fault : Fa
     → Leaves (IsEndOf bs) (r >>= (λ x. closed mark fault x.1 >>= (λ rest. f x.0 rest)))
 closed_behind bs r mark fault f l more = leaves_then (IsEndOf bs) (IsEndOf bs) r _ l
     (λ x close e. text_then (IsEndOf close) (IsEndOf bs) (closed mark fault close) _ (closed_leaves mark fault close)
-      (λ rest g. leaves_also (IsEndOf rest) (IsEndOf bs) (f x rest) (λ last h. end_through bs rest last (end_through bs close rest e g) h) (more x rest)))
+    (λ rest g. leaves_also (IsEndOf rest) (IsEndOf bs) (f x rest) (λ last h. end_through bs rest last (end_through bs close rest e g) h) (more x rest)))
 
 module _ (inner : Inner) (inside : InnerLeaves inner) where
   bracket_leaves : (bs : Text) → Leaves (IsEndOf bs) (bracket_at inner bs)
@@ -135,20 +133,20 @@ module _ (inner : Inner) (inside : InnerLeaves inner) where
   part_behind context bs e = at_mark (Leaves (IsBehind bs)) 36 bs (dollar_at inner) _
       (λ xs is. leaves_behind bs 36 xs (dollar_at inner xs) is (dollar_leaves xs))
       (λ h. at_mark (Leaves (IsBehind bs)) 91 bs (bracket_at inner) _
-        (λ xs is. leaves_behind bs 91 xs (bracket_at inner xs) is (bracket_leaves inner inside xs))
-        (λ k. at_mark (Leaves (IsBehind bs)) 92 bs backslash_at _
-          (λ xs is. leaves_behind bs 92 xs (backslash_at xs) is (escape_leaves xs))
-          (λ l. literal_behind context bs e h k l)))
+      (λ xs is. leaves_behind bs 91 xs (bracket_at inner xs) is (bracket_leaves inner inside xs))
+      (λ k. at_mark (Leaves (IsBehind bs)) 92 bs backslash_at _
+      (λ xs is. leaves_behind bs 92 xs (backslash_at xs) is (escape_leaves xs))
+      (λ l. literal_behind context bs e h k l)))
 
   pub part_leaves : (context : Context) (bs : Text) → Leaves (IsEndOf bs) (part_at context inner bs)
   unfolding part_at
   part_leaves context bs = at_mark (Leaves (IsEndOf bs)) 36 bs (dollar_at inner) _
       (λ xs is. leaves_end bs _ (leaves_behind bs 36 xs (dollar_at inner xs) is (dollar_leaves xs)))
       (λ h. at_mark (Leaves (IsEndOf bs)) 91 bs (bracket_at inner) _
-        (λ xs is. leaves_end bs _ (leaves_behind bs 91 xs (bracket_at inner xs) is (bracket_leaves inner inside xs)))
-        (λ k. at_mark (Leaves (IsEndOf bs)) 92 bs backslash_at _
-          (λ xs is. leaves_end bs _ (leaves_behind bs 92 xs (backslash_at xs) is (escape_leaves xs)))
-          (λ l. back_end (in_class (class_of context)) bs)))
+      (λ xs is. leaves_end bs _ (leaves_behind bs 91 xs (bracket_at inner xs) is (bracket_leaves inner inside xs)))
+      (λ k. at_mark (Leaves (IsEndOf bs)) 92 bs backslash_at _
+      (λ xs is. leaves_end bs _ (leaves_behind bs 92 xs (backslash_at xs) is (escape_leaves xs)))
+      (λ l. back_end (in_class (class_of context)) bs)))
 
   pub parts_leave : (context : Context) (bs : Text) → Leaves (IsEndOf bs) (parts_with context inner bs)
   unfolding parts_with
@@ -189,16 +187,16 @@ module _ (inner : Inner) (inside : InnerLeaves inner) (nested : Bool) where
   plain_word_behind bs e = at_mark (Leaves (IsBehind bs)) 123 bs (braced_word_at nested) _
       (λ xs is. leaves_behind bs 123 xs (braced_word_at nested xs) is (braced_word_leaves nested xs))
       (λ h. at_mark (Leaves (IsBehind bs)) 34 bs (quoted_word_at nested inner) _
-        (λ xs is. leaves_behind bs 34 xs (quoted_word_at nested inner xs) is (quoted_word_leaves xs))
-        (λ k. parts_behind inner inside (bare nested) bs (bare_going bs e)))
+      (λ xs is. leaves_behind bs 34 xs (quoted_word_at nested inner xs) is (quoted_word_leaves xs))
+      (λ k. parts_behind inner inside (bare nested) bs (bare_going bs e)))
 
   plain_word_leaves : (bs : Text) → Leaves (IsEndOf bs) (plain_word_at nested inner bs)
   unfolding plain_word_at
   plain_word_leaves bs = at_mark (Leaves (IsEndOf bs)) 123 bs (braced_word_at nested) _
       (λ xs is. leaves_end bs _ (leaves_behind bs 123 xs (braced_word_at nested xs) is (braced_word_leaves nested xs)))
       (λ h. at_mark (Leaves (IsEndOf bs)) 34 bs (quoted_word_at nested inner) _
-        (λ xs is. leaves_end bs _ (leaves_behind bs 34 xs (quoted_word_at nested inner xs) is (quoted_word_leaves xs)))
-        (λ k. parts_leave inner inside (bare nested) bs))
+      (λ xs is. leaves_end bs _ (leaves_behind bs 34 xs (quoted_word_at nested inner xs) is (quoted_word_leaves xs)))
+      (λ k. parts_leave inner inside (bare nested) bs))
 
   -- what follows {*} is behind it
   abbrev pub IsBehindSome : Text → Option Text → Type 0
@@ -212,10 +210,10 @@ module _ (inner : Inner) (inside : InnerLeaves inner) (nested : Bool) where
   unfolding after_expansion
   expansion_behind bs = at_mark (IsBehindSome bs) 123 bs (λ xs. on_mark 42 xs (λ ys. on_mark 125 ys (unless_word_ends nested) None) None) None
       (λ xs is. at_mark (IsBehindSome bs) 42 xs (λ ys. on_mark 125 ys (unless_word_ends nested) None) None
-        (λ ys so. at_mark (IsBehindSome bs) 125 ys (unless_word_ends nested) None
-          (λ zs thus. unless_behind bs zs (behind_mark bs 123 xs zs is (end_through xs ys zs (end_mark xs 42 ys so) (end_mark ys 125 zs thus))))
-          (λ h. tt))
-        (λ h. tt))
+      (λ ys so. at_mark (IsBehindSome bs) 125 ys (unless_word_ends nested) None
+      (λ zs thus. unless_behind bs zs (behind_mark bs 123 xs zs is (end_through xs ys zs (end_mark xs 42 ys so) (end_mark ys 125 zs thus))))
+      (λ h. tt))
+      (λ h. tt))
       (λ h. tt)
 
   pub expanded_end : (bs rest : Text) → Some rest ≡ after_expansion nested bs → IsEndOf bs rest

@@ -1,18 +1,13 @@
 -- What a reader leaves is an end of its text, and shorter where something was read.
-use Rattle.std.proofs.Common.{◌≡◌, ℕ, zero, suc, ◌+◌, ◌<◌, ◌≤◌, List, [], ◌∷◌, ◌++◌, length, Bool, true, false, not, ◌||◌, ◌&&◌, ◌==◌, Option, Some, None, Result, Ok, Err, refl, sym, ap, subst, ◌∙◌, arith, append_assoc, length-append}
+use Rattle.std.proofs.Common.{◌≡◌, ℕ, [], ◌∷◌, Bool, true, false, ◌==◌, Result, Ok, Err, refl, ap, arith}
 use Rattle.std.proofs.lemmas.Bool.Decides.{nat_tests}
-use Rattle.tclchars.specs.Bytes.{newline, backslash, is_gap, is_blank, is_end}
-use Rattle.tclchars.specs.Runs.{Text, front, back, begins}
-use Rattle.tclchars.specs.Classes.{in_class}
-use Rattle.tclchars.specs.Braces.{braced_at}
-use Rattle.tclchars.specs.Reading.{◌>>=◌, Read, read_map, items_at, items_step}
+use Rattle.tclchars.specs.Runs.{Text, begins}
+use Rattle.tclchars.specs.Reading.{◌>>=◌, Read, read_map}
 use Rattle.tclchars.specs.declared.fault.Fault.{Fault}
 use Rattle.tclscript.specs.Pieces.{IsEndOf}
 use Rattle.tclscript.specs.Ends.{word_ends}
 use Rattle.tclscript.specs.Reading.{on_mark, closed, ended}
-use Rattle.tclscript.proofs.Ends.{end_same, end_behind, end_through, end_no_longer, IsBehind, behind_mark, behind_through, end_mark}
-use Rattle.tclscript.proofs.Escapes.{either, back_end, LeavesSome, backslash_end}
-use Rattle.tclscript.proofs.Passes.{pass_end}
+use Rattle.tclscript.proofs.Ends.{end_same, end_mark}
 
 -- Readers
 

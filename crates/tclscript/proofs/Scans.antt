@@ -1,5 +1,5 @@
 -- The loop that passes over bytes.
-use Rattle.std.proofs.Common.{◌≡◌, ℕ, zero, suc, ◌+◌, ◌-◌, ◌<◌, ◌≤◌, List, [], ◌∷◌, ◌++◌, length, get_or, take, drop, Bool, true, false, ◌||◌, ◌&&◌, ◌==◌, nat_le, Option, Some, None, refl, sym, ap, ap₂, subst, ◌∙◌, arith, append_assoc, append-nil}
+use Rattle.std.proofs.Common.{◌≡◌, ℕ, ◌+◌, ◌-◌, ◌<◌, ◌≤◌, [], ◌∷◌, ◌++◌, length, get_or, take, drop, Bool, true, false, ◌||◌, ◌&&◌, ◌==◌, Some, None, refl, sym, ap, subst, ◌∙◌, arith, append_assoc, append-nil}
 use Rattle.std.proofs.lemmas.List.{drop_more, take_more, length-drop}
 use Rattle.std.proofs.Math.Seq.{take-length}
 use Rattle.std.proofs.lemmas.Bool.Decides.{nat_tests}
@@ -117,8 +117,8 @@ scanned-more start passing next bs n u h is s =
     let on : pass passing (drop n bs) ≡ put_before x (pass next more) = ap (pass passing) here ∙ pass-cons passing x more ∙ ap (pass_on x more (λ next. pass next more)) is in
     record {
       run =
-        s.run ∙ ap (λ (p : Text × Text). (take n bs ++ p.0, p.1)) on
-        ∙ ap (λ (xs : Text). (xs, (pass next more).1)) (sym (append_assoc (take n bs) (x ∷ []) (pass next more).0) ∙ ap (λ (ys : Text). ys ++ (pass next more).0) (sym (take_more bs n 0 h)));
+          s.run ∙ ap (λ (p : Text × Text). (take n bs ++ p.0, p.1)) on
+          ∙ ap (λ (xs : Text). (xs, (pass next more).1)) (sym (append_assoc (take n bs) (x ∷ []) (pass next more).0) ∙ ap (λ (ys : Text). ys ++ (pass next more).0) (sym (take_more bs n 0 h)));
       cut = λ e. IsCharBoundary-after_ascii bs n u h (ends_small passing x more next is e);
     }
 
@@ -128,9 +128,10 @@ scanned-stop start passing bs n h is s =
     let x = get_or bs n 0 in
     let more = drop (n + 1) bs in
     let here : drop n bs ≡ x ∷ more = drop_more bs n 0 h in
-    let on : pass passing (drop n bs) ≡ ([], drop n bs) = ap (pass passing) here ∙ pass-cons passing x more ∙ ap (pass_on x more (λ next. pass next more)) is ∙ ap (λ (ys : Text). ([], ys)) (sym here) in
-    (s.run ∙ ap (λ (p : Text × Text). (take n bs ++ p.0, p.1)) on ∙ ap (λ (xs : Text). (xs, drop n bs)) (append-nil (take n bs)),
-     s.cut (stops_out passing x more is))
+    let on : pass passing (drop n bs) ≡ ([], drop n bs) = ap (pass passing) here ∙ pass-cons passing x more ∙ ap (pass_on x more (λ next. pass next more)) is ∙ ap (λ (ys : Text). ([], ys)) (sym here) in (
+      s.run ∙ ap (λ (p : Text × Text). (take n bs ++ p.0, p.1)) on ∙ ap (λ (xs : Text). (xs, drop n bs)) (append-nil (take n bs)),
+      s.cut (stops_out passing x more is),
+    )
 
 pub scanned-all : (start passing : Passing) (bs : Text) (n : ℕ) → length bs ≤ n → Scanned start bs passing n → pass start bs ≡ (take n bs, drop n bs)
 scanned-all start passing bs n h s =

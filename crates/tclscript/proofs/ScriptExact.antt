@@ -1,13 +1,13 @@
 -- Commands and scripts are read exactly.
-use Rattle.std.proofs.Common.{◌≡◌, ◌≢◌, ℕ, zero, suc, ◌+◌, ◌-◌, ◌<◌, ◌≤◌, max, List, [], ◌∷◌, ◌++◌, length, take, Bool, true, false, not, ◌||◌, ◌&&◌, ◌==◌, Option, Some, None, Result, Ok, Err, refl, sym, ap, ap₂, subst, ◌∙◌, arith, append_assoc, append-nil, length-append, ◌⊎◌, inl, inr}
+use Rattle.std.proofs.Common.{◌≡◌, ℕ, zero, suc, ◌-◌, ◌<◌, ◌≤◌, List, [], ◌∷◌, ◌++◌, length, take, Bool, true, false, not, ◌||◌, ◌&&◌, ◌==◌, Ok, Err, refl, sym, ap, ap₂, subst, ◌∙◌, arith, append_assoc, length-append, inl, inr}
 use Rattle.std.proofs.lemmas.Bool.Decides.{nat_tests}
 use Rattle.std.proofs.Math.Seq.{take-append_seam}
-use Rattle.tclchars.specs.Runs.{Text, begins}
-use Rattle.tclchars.specs.Bytes.{newline, hash, backslash, is_blank, is_end, is_gap, MayBegin, DoesBegin}
+use Rattle.tclchars.specs.Runs.{Text}
+use Rattle.tclchars.specs.Bytes.{hash, is_blank, is_end, is_gap, DoesBegin}
 use Rattle.tclchars.specs.Reading.{◌>>=◌, Read, read_map, items_at}
 use Rattle.tclchars.specs.declared.fault.Fault.{Fault}
 use Rattle.tclscript.specs.declared.runs.Passing.TheVariants.{Blanks, Gap}
-use Rattle.tclscript.specs.Tree.{Commands, no_commands, command, Words, no_words, word, Word, words_of, commands_of, nesting, words_nesting, word_nesting}
+use Rattle.tclscript.specs.Tree.{Commands, no_commands, command, Words, no_words, word, Word, words_of, commands_of, nesting, words_nesting}
 use Rattle.tclscript.specs.Ends.{script_ends, command_ends, word_ends}
 use Rattle.tclscript.specs.Passing.{pass, skip_blanks, skip_gap}
 use Rattle.tclscript.specs.Grammar.{IsBlanks, IsGap, IsCommands, IsCommand, IsWords, IsWord}
@@ -15,10 +15,9 @@ use Rattle.tclscript.specs.Faults as faults
 use Rattle.tclscript.specs.Faults.{CommandsFault, CommandFault, WordsFault, WordFault}
 use Rattle.tclscript.specs.Reading.{Inner, word_at, taken, words_at, command_at, script_with}
 use Rattle.tclscript.proofs.PassedOver.{pass_whole, begins_line, NoBlank, blanks_taken, blanks_over, blanks_stay, NoGap, gap_taken, gap_over, gap_stay}
-use Rattle.tclscript.proofs.Exact.{Took, Exact, bind_ok, bind_err, ok_pair, read_map_ok, read_map_err, ok_err, some_less, Items, items-end, items-more, items-fail, items_sound, items_faulty}
+use Rattle.tclscript.proofs.Exact.{Took, Exact, bind_ok, bind_err, read_map_ok, read_map_err, Items, items-end, items-more, items-fail, items_sound, items_faulty}
 use Rattle.tclscript.proofs.Marks.{true_false, not_true}
 use Rattle.tclscript.proofs.Dollars.{Anywhere, IsExactInner}
-use Rattle.tclscript.proofs.PartsExact.{commands_close}
 use Rattle.tclscript.proofs.WordsExact.{WordGoesOn, WordIs, word_exact, word_goes_on, word_fault_goes_on, word_some}
 
 -- What follows blanks and gaps
@@ -152,8 +151,7 @@ module _ (d : ℕ) (inner : Inner) (exact : IsExactInner d inner) (nested : Bool
       let is : TheWord w body (rest ++ r) = (h.is_second.is_first, omega (arith, deep)) in
       let whole : t ++ r ≡ gap ++ (body ++ (rest ++ r)) = ap (λ xs. xs ++ r) (h.whole ∙ ap (λ xs. gap ++ xs) h.is_second.whole) ∙ append_assoc gap (body ++ rest) r ∙ ap (λ xs. gap ++ xs) (append_assoc body rest r) in
       let some = word_some nested w body (rest ++ r) h.is_second.is_first in
-      let k = words_list ws rest r n h.is_second.is_second (omega (arith, deep)) (omega (arith, ap length whole, length-append gap (body ++ (rest ++ r)), length-append body (rest ++ r))) in
-      (
+      let k = words_list ws rest r n h.is_second.is_second (omega (arith, deep)) (omega (arith, ap length whole, length-append gap (body ++ (rest ++ r)), length-append body (rest ++ r))) in (
         w ∷ k.0,
         ap (read (suc n)) whole ∙ items-more skip_blanks (command_ends nested) (word_at nested inner) IsBlanksBefore Goes TheWord (WordFault d nested) word_items n gap body (rest ++ r) w h.is_first is ∙ ap (read_map (λ xs. w ∷ xs)) k.1,
         ap (word w) k.2,
@@ -205,12 +203,12 @@ module _ (d : ℕ) (inner : Inner) (exact : IsExactInner d inner) (nested : Bool
   command_faulty : (bs : Text) (f : Fault) → CommandGoesOn bs → command_at nested inner bs ≡ Err f → CommandBad bs f
   unfolding command_at
   command_faulty bs f b h = elim (bind_err (word_at nested inner bs) (more_words bs) f h) [
-    inl bad ↦ (faults.CommandFault.first_word ((word_exact d inner exact nested).faulty bs f b.0 bad), b.1)
+    | inl bad ↦ (faults.CommandFault.first_word ((word_exact d inner exact nested).faulty bs f b.0 bad), b.1)
     | inr k ↦ (
-      let w = (word_exact d inner exact nested).sound bs k.0.0 k.0.1 b.0 k.1 in
-      let bad = words_faulty k.0.1 f (read_map_err (λ ws. (taken bs k.0.1, word k.0.0 (words_of ws))) (words_at nested inner k.0.1) f k.2) in
-      (subst (λ xs. CommandFault d nested xs f) (sym w.whole) (faults.CommandFault.later_word w.taken k.0.0 w.is.0 w.is.1 bad), b.1)
-    )
+        let w = (word_exact d inner exact nested).sound bs k.0.0 k.0.1 b.0 k.1 in
+        let bad = words_faulty k.0.1 f (read_map_err (λ ws. (taken bs k.0.1, word k.0.0 (words_of ws))) (words_at nested inner k.0.1) f k.2) in
+        (subst (λ xs. CommandFault d nested xs f) (sym w.whole) (faults.CommandFault.later_word w.taken k.0.0 w.is.0 w.is.1 bad), b.1)
+        )
   ]
 
   command_again : (c : Text × Words) (t r : Text) → CommandIs c t r → command_at nested inner (t ++ r) ≡ Ok (c, r)
@@ -309,8 +307,7 @@ module _ (d : ℕ) (inner : Inner) (exact : IsExactInner d inner) (nested : Bool
       let whole : t ++ r ≡ gap ++ (body ++ (rest ++ r)) = ap (λ xs. xs ++ r) (h.whole ∙ ap (λ xs. gap ++ xs) h.is_second.whole) ∙ append_assoc gap (body ++ rest) r ∙ ap (λ xs. gap ++ xs) back in
       let some = front_some body rest h.is_second.is_first.0 in
       let passed : IsGap gap (body ++ (rest ++ r)) = subst (IsGap gap) (ap (λ xs. xs ++ r) h.is_second.whole ∙ back) h.is_first in
-      let k = commands_list cs rest r n h.is_second.is_second (omega (arith, deep)) (omega (arith, ap length whole, length-append gap (body ++ (rest ++ r)), length-append body (rest ++ r))) in
-      (
+      let k = commands_list cs rest r n h.is_second.is_second (omega (arith, deep)) (omega (arith, ap length whole, length-append gap (body ++ (rest ++ r)), length-append body (rest ++ r))) in (
         (source, ws) ∷ k.0,
         ap (read_commands (suc n)) whole ∙ items-more skip_gap (script_ends nested) (command_at nested inner) IsGap CommandGoesOn CommandIs CommandBad command_items n gap body (rest ++ r) (source, ws) passed is ∙ ap (read_map (λ xs. (source, ws) ∷ xs)) k.1,
         ap (command source ws) k.2,

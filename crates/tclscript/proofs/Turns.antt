@@ -1,17 +1,16 @@
 -- The turns of the loops that read scripts, commands and parts.
-use Rattle.std.proofs.Common.{◌≡◌, ℕ, zero, suc, ◌+◌, ◌<◌, ◌≤◌, List, [], ◌∷◌, ◌++◌, length, Bool, true, false, Result, Ok, Err, refl, sym, ap, ap₂, subst, ◌∙◌, arith}
+use Rattle.std.proofs.Common.{◌≡◌, ℕ, ◌<◌, ◌≤◌, List, [], ◌∷◌, ◌++◌, length, Bool, true, false, Ok, refl, sym, ap, ap₂, subst, ◌∙◌, arith}
 use Rattle.tclchars.specs.Runs.{Text}
-use Rattle.tclchars.specs.declared.fault.Fault.{Fault}
 use Rattle.tclchars.specs.declared.fault.ReadError.{ReadError}
 use Rattle.tclchars.specs.declared.fault.ReadError.TheVariants as errors
-use Rattle.tclchars.specs.Reading.{Read, Fails, read_map, ◌>>=◌, items_at}
+use Rattle.tclchars.specs.Reading.{Fails, read_map, ◌>>=◌}
 use Rattle.tclscript.specs.declared.context.Context.{Context}
 use Rattle.tclscript.specs.Pieces.{IsEndOf}
-use Rattle.tclscript.specs.Tree.{Commands, Words, word, Word, Parts, Part, parts_of, words_of, commands_of}
+use Rattle.tclscript.specs.Tree.{Words, word, Word, Part, parts_of, words_of, commands_of}
 use Rattle.tclscript.specs.Ends.{script_ends, command_ends, word_ends, parts_end}
 use Rattle.tclscript.specs.Passing.{skip_blanks, skip_gap}
 use Rattle.tclscript.specs.Reading.{part_at, parts_with, word_at, taken, words_at, command_at, script_with, inner_at}
-use Rattle.tclscript.proofs.Ends.{end_same, end_through, end_no_longer, IsBehind}
+use Rattle.tclscript.proofs.Ends.{end_through, end_no_longer, IsBehind}
 use Rattle.tclscript.proofs.Readers.{leaves_read, part_behind, word_behind, word_leaves, command_behind, blanks_end, gap_end, inner_leaves}
 use Rattle.tclscript.proofs.Going.{word_follows, command_follows}
 use Rattle.tclscript.proofs.Loops.{SoFar, so_far-none, so_far-more, so_far-end, so_far-fail}
@@ -44,7 +43,7 @@ module _ (nested : Bool) (d : ℕ) where
   script-behind rest start c after is e was =
       behind_later rest start after (subst (IsEndOf rest) (sym is) (gap_end (inner_at d) (inner_leaves d) nested rest))
       (leaves_read (IsBehind start) (command_at nested (inner_at d) start) c after
-        (command_behind (inner_at d) (inner_leaves d) nested start (subst (λ ys. word_ends nested ys ≡ false) (sym is) (command_follows nested rest (subst (λ ys. script_ends nested ys ≡ false) is e)))) was)
+      (command_behind (inner_at d) (inner_leaves d) nested start (subst (λ ys. word_ends nested ys ≡ false) (sym is) (command_follows nested rest (subst (λ ys. script_ends nested ys ≡ false) is e)))) was)
 
   pub script-more : (bs : Text) (found found' : List (Text × Words)) (rest start : Text) (c : Text × Words) (after : Text) → start ≡ skip_gap rest → script_ends nested start ≡ false → command_at nested (inner_at d) start ≡ Ok (c, after)
       → found' ≡ found ++ c ∷ [] → CommandsSoFar bs found rest → CommandsSoFar bs found' after
@@ -105,7 +104,7 @@ module _ (nested : Bool) (d : ℕ) where
   command-behind rest start w after is e was =
       behind_later rest start after (subst (IsEndOf rest) (sym is) (blanks_end (inner_at d) (inner_leaves d) nested rest))
       (leaves_read (IsBehind start) (word_at nested (inner_at d) start) w after
-        (word_behind (inner_at d) (inner_leaves d) nested start (subst (λ ys. word_ends nested ys ≡ false) (sym is) (word_follows nested rest (subst (λ ys. command_ends nested ys ≡ false) is e)))) was)
+      (word_behind (inner_at d) (inner_leaves d) nested start (subst (λ ys. word_ends nested ys ≡ false) (sym is) (word_follows nested rest (subst (λ ys. command_ends nested ys ≡ false) is e)))) was)
 
   pub command-more : (bs source : Text) (words words' : List Word) (rest start : Text) (w : Word) (after : Text) → start ≡ skip_blanks rest → command_ends nested start ≡ false → word_at nested (inner_at d) start ≡ Ok (w, after)
       → words' ≡ words ++ w ∷ [] → WordsSoFar bs source words rest → WordsSoFar bs source words' after

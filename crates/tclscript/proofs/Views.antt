@@ -1,8 +1,8 @@
 -- Trees, level by level.
-use Rattle.std.proofs.Common.{◌≡◌, List, Bool, map, rules, Vec, refl}
+use Rattle.std.proofs.Common.{◌≡◌, Bool, map, rules, Vec}
 use Rattle.std.specs.declared.alloc.Global.{Global}
 use Rattle.tclchars.specs.Runs.{Text}
-use Rattle.tclscript.specs.Tree.{bracket, indexed, word_of, words_of, commands_of, parts_of}
+use Rattle.tclscript.specs.Tree.{bracket, word_of, words_of, commands_of}
 use Rattle.tclscript.specs.View.{script_view, command_view, word_view, part_view, parts_view}
 use Rattle.tclscript.specs.declared.tree.Script.{Script, roll-Script}
 use Rattle.tclscript.specs.declared.tree.Command.{Command, roll-Command}

@@ -1,6 +1,6 @@
 -- The tree and the fault of a whole text.
-use Rattle.std.proofs.Common.{◌≡◌, ◌≢◌, ℕ, zero, suc, ◌+◌, ◌-◌, ◌<◌, ◌≤◌, List, [], ◌∷◌, ◌++◌, length, Bool, true, false, Result, Ok, Err, refl, sym, ap, ap₂, subst, ◌∙◌, arith, append_assoc, append-nil, length-append, ◌⊎◌, inl, inr}
-use Rattle.std.specs.Prelude.{nat_lt, MatchResult, IfOk, IfErr}
+use Rattle.std.proofs.Common.{◌≡◌, ◌≢◌, ℕ, zero, suc, ◌+◌, ◌-◌, ◌<◌, ◌≤◌, [], ◌∷◌, ◌++◌, length, Bool, true, false, Result, Ok, Err, refl, sym, ap, subst, ◌∙◌, arith, append-nil, length-append, ◌⊎◌, inl, inr}
+use Rattle.std.specs.Prelude.{nat_lt}
 use Rattle.std.proofs.lemmas.Bool.Decides.{nat_tests}
 use Rattle.tclchars.specs.Runs.{Text}
 use Rattle.tclchars.specs.Faults.{max_bytes, max_nesting}
@@ -11,15 +11,15 @@ use Rattle.tclchars.specs.declared.fault.TextFault.{TextFault}
 use Rattle.tclchars.specs.declared.fault.TextFault.TheVariants.{OutOfMemory, OpenBrace, OpenQuote, OpenBracket, JoinedToClose, TooDeep, BadCharacter, BadExpression, TooLong}
 use Rattle.tclscript.specs.declared.context.Context.{Context}
 use Rattle.tclscript.specs.declared.context.Context.TheVariants.{InIndex}
-use Rattle.tclscript.specs.Tree.{Commands, Parts, nesting, parts_nesting}
+use Rattle.tclscript.specs.Tree.{Commands, nesting, parts_nesting}
 use Rattle.tclscript.specs.Ends.{script_ends}
 use Rattle.tclscript.specs.Grammar.{IsCommands, IsParts, IsScript}
 use Rattle.tclscript.specs.Faults as faults
 use Rattle.tclscript.specs.Faults.{CommandsFault, CommandFault, WordsFault, WordFault, PlainFault, PartsFault, PartFault, IsFault, IsFaultAt, IsTextFault}
-use Rattle.tclscript.specs.Reading.{Inner, inner_at, script_with, parts_with, script_at}
+use Rattle.tclscript.specs.Reading.{inner_at, script_with, parts_with, script_at}
 use Rattle.tclscript.specs.Text.{at_place, script_of}
-use Rattle.tclscript.proofs.Exact.{Took, Exact, bind_ok, bind_err, ok_err, err_ok, err_same}
-use Rattle.tclscript.proofs.Dollars.{Anywhere, ScriptFault, IndexFault, IsExactInner}
+use Rattle.tclscript.proofs.Exact.{Exact, bind_ok, bind_err, ok_err, err_ok, err_same}
+use Rattle.tclscript.proofs.Dollars.{Anywhere, IsExactInner}
 use Rattle.tclscript.proofs.PartsExact.{commands_close}
 use Rattle.tclscript.proofs.PartFaults.{parts_exact}
 use Rattle.tclscript.proofs.ScriptExact.{script_exact}
@@ -82,7 +82,7 @@ complete d bs s h deep =
 pub faulty : (d : ℕ) (bs : Text) (f : Fault) → script_at d bs ≡ Err f → IsFault d bs f
 unfolding script_at
 faulty d bs f h = elim (bind_err (script_with false (inner_at d) bs) (λ x. Ok x.0) f h) [
-  inl bad ↦ (script_exact d (inner_at d) (inner_exact d) false).faulty bs f tt bad
+  | inl bad ↦ (script_exact d (inner_at d) (inner_exact d) false).faulty bs f tt bad
   | inr k ↦ absurd (ok_err k.0.0 f k.2)
 ]
 
@@ -237,16 +237,16 @@ no_memory_placed len marks.TooDeep = λ h. cc
 no_memory_placed len (marks.BadCharacter left) = λ h. cc
 no_memory_placed len (marks.BadExpression left) = λ h. cc
 
-abbrev Whole : Type 0
+abbrev pub Whole : Type 0
 Whole = Result Commands TextFault
 
 fault_same : (f g : TextFault) → (let err : Whole = Err f in err) ≡ Err g → f ≡ g
 fault_same f g h = cc
 
-tree_same : (s t : Commands) → (let ok : Whole = Ok s in ok) ≡ Ok t → s ≡ t
+pub tree_same : (s t : Commands) → (let ok : Whole = Ok s in ok) ≡ Ok t → s ≡ t
 tree_same s t h = cc
 
-fault_tree : (f : TextFault) (s : Commands) → (let err : Whole = Err f in err) ≡ Ok s → ⊥
+pub fault_tree : (f : TextFault) (s : Commands) → (let err : Whole = Err f in err) ≡ Ok s → ⊥
 fault_tree f s h = cc
 
 found_tree : (bs : Text) (r : Result Commands Fault) (s : Commands) → at_place bs r ≡ Ok s → r ≡ Ok s
@@ -260,7 +260,7 @@ found_fault bs (Err g) f h = (g, refl, fault_same (placed (length bs) g) f h)
 -- The tree that is computed is the text's, within the limits
 pub tree_is : (bs : Text) (s : Commands) → script_of bs ≡ Ok s → IsScript bs s × (nesting s ≤ max_nesting) × (length bs ≤ max_bytes)
 tree_is bs s h = elim (long_or_not bs) [
-  inl long ↦ absurd (fault_tree TooLong s (sym (too_long bs long) ∙ h))
+  | inl long ↦ absurd (fault_tree TooLong s (sym (too_long bs long) ∙ h))
   | inr short ↦ (let k = sound max_nesting bs s (found_tree bs (script_at max_nesting bs) s (sym (not_long bs short) ∙ h)) in (k.0, k.1, short))
 ]
 
@@ -270,11 +270,11 @@ tree_met bs s h deep short = not_long bs short ∙ ap (at_place bs) (complete ma
 -- the fault that is computed is the text's
 pub fault_is : (bs : Text) (f : TextFault) → script_of bs ≡ Err f → IsTextFault bs f × (f ≢ OutOfMemory)
 fault_is bs f h = elim (long_or_not bs) [
-  inl long ↦ (let same = fault_same TooLong f (sym (too_long bs long) ∙ h) in subst (λ f. IsTextFault bs f × (f ≢ OutOfMemory)) same (long, long_memory))
+  | inl long ↦ (let same = fault_same TooLong f (sym (too_long bs long) ∙ h) in subst (λ f. IsTextFault bs f × (f ≢ OutOfMemory)) same (long, long_memory))
   | inr short ↦ (
-    let k = found_fault bs (script_at max_nesting bs) f (sym (not_long bs short) ∙ h) in
-    subst (λ f. IsTextFault bs f × (f ≢ OutOfMemory)) k.2 (placed_is bs k.0 short (faulty max_nesting bs k.0 k.1), no_memory_placed (length bs) k.0)
-  )
+      let k = found_fault bs (script_at max_nesting bs) f (sym (not_long bs short) ∙ h) in
+      subst (λ f. IsTextFault bs f × (f ≢ OutOfMemory)) k.2 (placed_is bs k.0 short (faulty max_nesting bs k.0 k.1), no_memory_placed (length bs) k.0)
+      )
 ] where
   long_memory : TooLong ≢ OutOfMemory
   long_memory = λ h. cc

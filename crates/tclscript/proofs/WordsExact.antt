@@ -1,8 +1,8 @@
 -- Words are read exactly.
-use Rattle.std.proofs.Common.{◌≡◌, ◌≢◌, ℕ, zero, suc, ◌+◌, ◌<◌, ◌≤◌, max, List, [], ◌∷◌, ◌++◌, length, Bool, true, false, not, ◌||◌, ◌&&◌, ◌==◌, Option, Some, None, Result, Ok, Err, refl, sym, ap, ap₂, subst, ◌∙◌, arith, append_assoc, append-nil, length-append, ◌⊎◌, inl, inr}
+use Rattle.std.proofs.Common.{◌≡◌, ℕ, zero, suc, ◌<◌, ◌≤◌, [], ◌∷◌, ◌++◌, length, Bool, true, false, not, ◌||◌, ◌==◌, Option, Some, None, Result, Ok, Err, refl, sym, ap, subst, ◌∙◌, arith, append_assoc, append-nil, ◌⊎◌, inl, inr}
 use Rattle.std.proofs.lemmas.Bool.Decides.{nat_tests}
-use Rattle.tclchars.specs.Runs.{Text, begins}
-use Rattle.tclchars.specs.Bytes.{newline, hash, backslash, is_gap, AllPass, MayBegin, DoesBegin}
+use Rattle.tclchars.specs.Runs.{Text}
+use Rattle.tclchars.specs.Bytes.{DoesBegin}
 use Rattle.tclchars.specs.Braces as braces
 use Rattle.tclchars.specs.Braces.{Balanced, braced_at}
 use Rattle.tclchars.proofs.BraceClose.{close_sound, found_close}
@@ -11,17 +11,17 @@ use Rattle.tclchars.specs.declared.fault.Fault.{Fault}
 use Rattle.tclchars.specs.declared.fault.Fault.TheVariants.{OpenBrace, OpenQuote, JoinedToClose}
 use Rattle.tclscript.specs.declared.context.Context.{Context}
 use Rattle.tclscript.specs.declared.context.Context.TheVariants.{InQuotes}
-use Rattle.tclscript.specs.Tree.{Word, word_of, Parts, no_parts, part, Part, braced, parts_nesting, word_nesting}
-use Rattle.tclscript.specs.Ends.{word_ends, stands_before, parts_end, bare}
-use Rattle.tclscript.specs.Grammar.{IsBracedWord, IsQuotedWord, IsBareWord, IsPlainWord, IsExpanding, IsParts, IsWord}
+use Rattle.tclscript.specs.Tree.{Word, word_of, Parts, no_parts, part, braced, parts_nesting, word_nesting}
+use Rattle.tclscript.specs.Ends.{word_ends, parts_end, bare}
+use Rattle.tclscript.specs.Grammar.{IsPlainWord, IsParts, IsWord}
 use Rattle.tclscript.specs.Faults as faults
 use Rattle.tclscript.specs.Faults.{NeverCloses, Expands, PartsFault, PlainFault, WordFault}
 use Rattle.tclscript.specs.Reading.{Inner, on_mark, closed, ended, parts_with, in_braces, braced_word_at, quoted_word_at, plain_word_at, unless_word_ends, after_expansion, word_from, word_at}
 use Rattle.tclscript.proofs.Exact.{Took, Exact, bind_ok, bind_err, ok_pair, read_map_ok, read_map_err, ok_err, err_ok}
-use Rattle.tclscript.proofs.Marks.{true_false, not_true, Without, mark_at, on_mark-at, on_mark-not, closed_ok, closed_err, closed-at, none_before, ended_ok, ended_err, ended-at, ended-not}
-use Rattle.tclscript.proofs.Dollars.{Anywhere, IsExactInner, parts_close}
+use Rattle.tclscript.proofs.Marks.{true_false, Without, mark_at, on_mark-not, closed_ok, closed_err, closed-at, none_before, ended_ok, ended_err, ended-at, ended-not}
+use Rattle.tclscript.proofs.Dollars.{IsExactInner, parts_close}
 use Rattle.tclscript.proofs.PartsExact.{faulty_goes_on}
-use Rattle.tclscript.proofs.PartFaults.{PartsIs, parts_sound, parts_faulty, parts_again, parts_met}
+use Rattle.tclscript.proofs.PartFaults.{parts_sound, parts_faulty, parts_again, parts_met}
 
 -- a bare word ends where its parts do
 pub bare_end : (nested : Bool) (bs : Text) → parts_end (bare nested) bs ≡ word_ends nested bs
@@ -57,7 +57,7 @@ braced_lost : (nested : Bool) (left : ℕ) (found : Option (Text × Text)) (f : 
     → ((found ≡ None) × (OpenBrace left ≡ f)) ⊎ ((p : Text × Text) × (found ≡ Some p) × (JoinedToClose (length p.1) ≡ f) × (word_ends nested p.1 ≡ false))
 braced_lost nested left None f h = let same : OpenBrace left ≡ f = cc in inl (refl, same)
 braced_lost nested left (Some p) f h = elim (bind_err (ended nested p.1) (λ rest. let found : Read Parts = Ok (part (braced p.0) no_parts, rest) in found) f h) [
-  inl bad ↦ (let e = ended_err nested p.1 f bad in inr (p, refl, e.0, e.1))
+  | inl bad ↦ (let e = ended_err nested p.1 f bad in inr (p, refl, e.0, e.1))
   | inr k ↦ absurd (ok_err (part (braced p.0) no_parts, k.0) f k.2)
 ]
 
@@ -100,19 +100,19 @@ no_third nested bs h = on_mark-not 125 bs (unless_word_ends nested) None h
 -- whether a text begins with the mark, where the word goes on
 pub expansion : (nested : Bool) (bs : Text) → ((k : Expands nested bs) × (after_expansion nested bs ≡ Some k.0)) ⊎ ((Expands nested bs → ⊥) × (after_expansion nested bs ≡ None))
 expansion nested bs = elim (mark_at 123 bs) [
-  inr none ↦ inr (no_mark (no_first nested bs none))
+  | inr none ↦ inr (no_mark (no_first nested bs none))
   | inl a ↦ elim (mark_at 42 a.0) [
-    inr none ↦ inr (no_mark (ap (after_expansion nested) a.1 ∙ no_second nested a.0 none))
+    | inr none ↦ inr (no_mark (ap (after_expansion nested) a.1 ∙ no_second nested a.0 none))
     | inl b ↦ (
-      let two : bs ≡ 123 ∷ (42 ∷ b.0) = a.1 ∙ ap (λ xs. 123 ∷ xs) b.1 in
-      elim (mark_at 125 b.0) [
-        inr none ↦ inr (no_mark (ap (after_expansion nested) two ∙ no_third nested b.0 none))
-        | inl c ↦ (
-          let three : bs ≡ 123 ∷ (42 ∷ (125 ∷ c.0)) = two ∙ ap (λ xs. 123 ∷ (42 ∷ xs)) c.1 in
-          behind c.0 three (word_ends nested c.0) refl
+        let two : bs ≡ 123 ∷ (42 ∷ b.0) = a.1 ∙ ap (λ xs. 123 ∷ xs) b.1 in
+        elim (mark_at 125 b.0) [
+          | inr none ↦ inr (no_mark (ap (after_expansion nested) two ∙ no_third nested b.0 none))
+          | inl c ↦ (
+              let three : bs ≡ 123 ∷ (42 ∷ (125 ∷ c.0)) = two ∙ ap (λ xs. 123 ∷ (42 ∷ xs)) c.1 in
+              behind c.0 three (word_ends nested c.0) refl
+              )
+        ]
         )
-      ]
-    )
   ]
 ] where
   no_mark : after_expansion nested bs ≡ None → (Expands nested bs → ⊥) × (after_expansion nested bs ≡ None)
@@ -211,11 +211,11 @@ module _ (d : ℕ) (inner : Inner) (exact : IsExactInner d inner) (nested : Bool
   braced_faulty : (bs : Text) (f : Fault) → braced_word_at nested bs ≡ Err f → PlainFault d nested (123 ∷ bs) f
   unfolding braced_word_at
   braced_faulty bs f h = elim (braced_lost nested (suc (length bs)) (braced_at false 0 bs) f h) [
-    inl k ↦ subst (PlainFault d nested (123 ∷ bs)) k.1 (faults.PlainFault.open_brace (λ inside rest e balanced. none_some (inside, rest) (sym (found_close inside rest balanced) ∙ ap (braced_at false 0) (sym e) ∙ k.0)))
+    | inl k ↦ subst (PlainFault d nested (123 ∷ bs)) k.1 (faults.PlainFault.open_brace (λ inside rest e balanced. none_some (inside, rest) (sym (found_close inside rest balanced) ∙ ap (braced_at false 0) (sym e) ∙ k.0)))
     | inr k ↦ (
-      let so = close_sound bs false zero k.0.0 k.0.1 k.1 in
-      subst (PlainFault d nested (123 ∷ bs)) k.2 (subst (λ xs. PlainFault d nested (123 ∷ xs) (JoinedToClose (length k.0.1))) (sym so.0) (faults.PlainFault.joined_brace k.0.0 k.0.1 so.1 k.3))
-    )
+        let so = close_sound bs false zero k.0.0 k.0.1 k.1 in
+        subst (PlainFault d nested (123 ∷ bs)) k.2 (subst (λ xs. PlainFault d nested (123 ∷ xs) (JoinedToClose (length k.0.1))) (sym so.0) (faults.PlainFault.joined_brace k.0.0 k.0.1 so.1 k.3))
+        )
   ]
 
   braced_again : (inside r : Text) → Balanced inside → word_ends nested r ≡ true → braced_word_at nested (inside ++ 125 ∷ r) ≡ Ok (part (braced inside) no_parts, r)
@@ -258,32 +258,32 @@ module _ (d : ℕ) (inner : Inner) (exact : IsExactInner d inner) (nested : Bool
   quoted_faulty bs f h =
       let mark = OpenQuote (suc (length bs)) in
       elim (bind_err (parts_with InQuotes inner bs) (λ x. close_quoted nested mark x.0 x.1) f h) [
-        inl bad ↦ faults.PlainFault.in_quotes (parts_faulty d inner exact InQuotes bs f tt bad)
+        | inl bad ↦ faults.PlainFault.in_quotes (parts_faulty d inner exact InQuotes bs f tt bad)
         | inr k ↦ unclosed k.0.0 k.0.1 k.1 k.2
       ] where
-    unclosed : (ps : Parts) (r : Text) → parts_with InQuotes inner bs ≡ Ok (ps, r) → close_quoted nested (OpenQuote (suc (length bs))) ps r ≡ Err f → PlainFault d nested (34 ∷ bs) f
-    unclosed ps r was h =
-        let mark = OpenQuote (suc (length bs)) in
-        let k = parts_sound d inner exact InQuotes bs ps r tt was in
-        elim (bind_err (closed 34 mark r) (λ after. end_quoted nested ps after) f h) [
-          inl bad ↦ (
-            let e = closed_err 34 mark r f bad in
-            let none : r ≡ [] = none_before 34 r (parts_close InQuotes ps k.taken r k.is.0) e.1 in
-            let whole : k.taken ≡ bs = sym (append-nil k.taken) ∙ ap (λ ys. k.taken ++ ys) (sym none) ∙ sym k.whole in
-            let inside : IsParts InQuotes ps bs [] = subst (λ xs. IsParts InQuotes ps xs []) whole (subst (λ ys. IsParts InQuotes ps k.taken ys) none k.is.0) in
-            subst (PlainFault d nested (34 ∷ bs)) e.0 (faults.PlainFault.open_quote ps inside k.is.1)
-          )
-          | inr y ↦ elim (bind_err (ended nested y.0) (λ rest. let found : Read Parts = Ok (ps, rest) in found) f y.2) [
-            inl bad ↦ (
-              let e = ended_err nested y.0 f bad in
-              let after : r ≡ 34 ∷ y.0 = closed_ok 34 mark r y.0 y.1 in
-              let inside : IsParts InQuotes ps k.taken (34 ∷ y.0) = subst (λ ys. IsParts InQuotes ps k.taken ys) after k.is.0 in
-              let whole : k.taken ++ 34 ∷ y.0 ≡ bs = ap (λ ys. k.taken ++ ys) (sym after) ∙ sym k.whole in
-              subst (PlainFault d nested (34 ∷ bs)) e.0 (subst (λ xs. PlainFault d nested (34 ∷ xs) (JoinedToClose (length y.0))) whole (faults.PlainFault.joined_quote k.taken y.0 ps inside k.is.1 e.1))
-            )
-            | inr z ↦ absurd (ok_err (ps, z.0) f z.2)
-          ]
-        ]
+        unclosed : (ps : Parts) (r : Text) → parts_with InQuotes inner bs ≡ Ok (ps, r) → close_quoted nested (OpenQuote (suc (length bs))) ps r ≡ Err f → PlainFault d nested (34 ∷ bs) f
+        unclosed ps r was h =
+            let mark = OpenQuote (suc (length bs)) in
+            let k = parts_sound d inner exact InQuotes bs ps r tt was in
+            elim (bind_err (closed 34 mark r) (λ after. end_quoted nested ps after) f h) [
+              | inl bad ↦ (
+                  let e = closed_err 34 mark r f bad in
+                  let none : r ≡ [] = none_before 34 r (parts_close InQuotes ps k.taken r k.is.0) e.1 in
+                  let whole : k.taken ≡ bs = sym (append-nil k.taken) ∙ ap (λ ys. k.taken ++ ys) (sym none) ∙ sym k.whole in
+                  let inside : IsParts InQuotes ps bs [] = subst (λ xs. IsParts InQuotes ps xs []) whole (subst (λ ys. IsParts InQuotes ps k.taken ys) none k.is.0) in
+                  subst (PlainFault d nested (34 ∷ bs)) e.0 (faults.PlainFault.open_quote ps inside k.is.1)
+                  )
+              | inr y ↦ elim (bind_err (ended nested y.0) (λ rest. let found : Read Parts = Ok (ps, rest) in found) f y.2) [
+                | inl bad ↦ (
+                    let e = ended_err nested y.0 f bad in
+                    let after : r ≡ 34 ∷ y.0 = closed_ok 34 mark r y.0 y.1 in
+                    let inside : IsParts InQuotes ps k.taken (34 ∷ y.0) = subst (λ ys. IsParts InQuotes ps k.taken ys) after k.is.0 in
+                    let whole : k.taken ++ 34 ∷ y.0 ≡ bs = ap (λ ys. k.taken ++ ys) (sym after) ∙ sym k.whole in
+                    subst (PlainFault d nested (34 ∷ bs)) e.0 (subst (λ xs. PlainFault d nested (34 ∷ xs) (JoinedToClose (length y.0))) whole (faults.PlainFault.joined_quote k.taken y.0 ps inside k.is.1 e.1))
+                    )
+                | inr z ↦ absurd (ok_err (ps, z.0) f z.2)
+              ]
+            ]
 
   to_quote : (inside after : Text) (ps : Parts) → IsParts InQuotes ps inside (34 ∷ after) → parts_nesting ps ≤ d → quoted_word_at nested inner (inside ++ 34 ∷ after) ≡ end_quoted nested ps after
   unfolding quoted_word_at
@@ -333,9 +333,9 @@ module _ (d : ℕ) (inner : Inner) (exact : IsExactInner d inner) (nested : Bool
 
   pub plain_sound : (bs : Text) (ps : Parts) (r : Text) → WordGoesOn bs → plain_word_at nested inner bs ≡ Ok (ps, r) → Took PlainIs bs ps r
   plain_sound bs ps r b h = elim (mark_at 123 bs) [
-    inl k ↦ subst (λ xs. Took PlainIs xs ps r) (sym k.1) (braced_sound k.0 ps r (sym (ap (plain_word_at nested inner) k.1 ∙ at_brace k.0) ∙ h))
+    | inl k ↦ subst (λ xs. Took PlainIs xs ps r) (sym k.1) (braced_sound k.0 ps r (sym (ap (plain_word_at nested inner) k.1 ∙ at_brace k.0) ∙ h))
     | inr x ↦ elim (mark_at 34 bs) [
-      inl k ↦ subst (λ xs. Took PlainIs xs ps r) (sym k.1) (quoted_sound k.0 ps r (sym (ap (plain_word_at nested inner) k.1 ∙ at_quote k.0) ∙ h))
+      | inl k ↦ subst (λ xs. Took PlainIs xs ps r) (sym k.1) (quoted_sound k.0 ps r (sym (ap (plain_word_at nested inner) k.1 ∙ at_quote k.0) ∙ h))
       | inr y ↦ bare_sound bs ps r b x y (sym (at_bare bs x y) ∙ h)
     ]
   ]
@@ -346,9 +346,9 @@ module _ (d : ℕ) (inner : Inner) (exact : IsExactInner d inner) (nested : Bool
 
   pub plain_faulty : (bs : Text) (f : Fault) → WordGoesOn bs → plain_word_at nested inner bs ≡ Err f → PlainFault d nested bs f
   plain_faulty bs f b h = elim (mark_at 123 bs) [
-    inl k ↦ subst (λ xs. PlainFault d nested xs f) (sym k.1) (braced_faulty k.0 f (sym (ap (plain_word_at nested inner) k.1 ∙ at_brace k.0) ∙ h))
+    | inl k ↦ subst (λ xs. PlainFault d nested xs f) (sym k.1) (braced_faulty k.0 f (sym (ap (plain_word_at nested inner) k.1 ∙ at_brace k.0) ∙ h))
     | inr x ↦ elim (mark_at 34 bs) [
-      inl k ↦ subst (λ xs. PlainFault d nested xs f) (sym k.1) (quoted_faulty k.0 f (sym (ap (plain_word_at nested inner) k.1 ∙ at_quote k.0) ∙ h))
+      | inl k ↦ subst (λ xs. PlainFault d nested xs f) (sym k.1) (quoted_faulty k.0 f (sym (ap (plain_word_at nested inner) k.1 ∙ at_quote k.0) ∙ h))
       | inr y ↦ faults.PlainFault.in_bare (bare_start bs b x y) (parts_faulty d inner exact (bare nested) bs f tt (sym (at_bare bs x y) ∙ h))
     ]
   ]
@@ -386,39 +386,39 @@ module _ (d : ℕ) (inner : Inner) (exact : IsExactInner d inner) (nested : Bool
 
   word_sound : (bs : Text) (w : Word) (r : Text) → WordGoesOn bs → word_at nested inner bs ≡ Ok (w, r) → Took WordIs bs w r
   word_sound bs w r b h = elim (expansion nested bs) [
-    inl k ↦ (
-      let x = read_map_ok (word_of true) (plain_word_at nested inner k.0.0) w r (sym (from bs (Some k.0.0) k.1) ∙ h) in
-      let t = plain_sound k.0.0 x.0 r k.0.2 x.1 in
-      let made : Took WordIs bs (word_of true x.0) r = record {
-        taken = 123 ∷ (42 ∷ (125 ∷ t.taken));
-        whole = k.0.1 ∙ ap (λ xs. 123 ∷ (42 ∷ (125 ∷ xs))) t.whole;
-        is = ((t.taken, refl, ap (word_ends nested) (sym t.whole) ∙ k.0.2, t.is.0), t.is.1);
-      } in
-      subst (λ w. Took WordIs bs w r) x.2 made
-    )
+    | inl k ↦ (
+        let x = read_map_ok (word_of true) (plain_word_at nested inner k.0.0) w r (sym (from bs (Some k.0.0) k.1) ∙ h) in
+        let t = plain_sound k.0.0 x.0 r k.0.2 x.1 in
+        let made : Took WordIs bs (word_of true x.0) r = record {
+          taken = 123 ∷ (42 ∷ (125 ∷ t.taken));
+          whole = k.0.1 ∙ ap (λ xs. 123 ∷ (42 ∷ (125 ∷ xs))) t.whole;
+          is = ((t.taken, refl, ap (word_ends nested) (sym t.whole) ∙ k.0.2, t.is.0), t.is.1);
+        } in
+        subst (λ w. Took WordIs bs w r) x.2 made
+        )
     | inr k ↦ (
-      let x = read_map_ok (word_of false) (plain_word_at nested inner bs) w r (sym (from bs None k.1) ∙ h) in
-      let t = plain_sound bs x.0 r b x.1 in
-      let made : Took WordIs bs (word_of false x.0) r = record { taken = t.taken; whole = t.whole; is = (t.is.0, t.is.1) } in
-      subst (λ w. Took WordIs bs w r) x.2 made
-    )
+        let x = read_map_ok (word_of false) (plain_word_at nested inner bs) w r (sym (from bs None k.1) ∙ h) in
+        let t = plain_sound bs x.0 r b x.1 in
+        let made : Took WordIs bs (word_of false x.0) r = record { taken = t.taken; whole = t.whole; is = (t.is.0, t.is.1) } in
+        subst (λ w. Took WordIs bs w r) x.2 made
+        )
   ]
 
   word_faulty : (bs : Text) (f : Fault) → WordGoesOn bs → word_at nested inner bs ≡ Err f → WordFault d nested bs f
   word_faulty bs f b h = elim (expansion nested bs) [
-    inl k ↦ subst (λ xs. WordFault d nested xs f) (sym k.0.1) (faults.WordFault.expanding k.0.2 (plain_faulty k.0.0 f k.0.2 (read_map_err (word_of true) (plain_word_at nested inner k.0.0) f (sym (from bs (Some k.0.0) k.1) ∙ h))))
+    | inl k ↦ subst (λ xs. WordFault d nested xs f) (sym k.0.1) (faults.WordFault.expanding k.0.2 (plain_faulty k.0.0 f k.0.2 (read_map_err (word_of true) (plain_word_at nested inner k.0.0) f (sym (from bs (Some k.0.0) k.1) ∙ h))))
     | inr k ↦ faults.WordFault.plain k.0 (plain_faulty bs f b (read_map_err (word_of false) (plain_word_at nested inner bs) f (sym (from bs None k.1) ∙ h)))
   ]
 
   -- a word that doesn't expand doesn't begin as one that does
   no_expansion : (ps : Parts) (t r : Text) → PlainIs ps t r → after_expansion nested (t ++ r) ≡ None
   no_expansion ps t r h = elim (expansion nested (t ++ r)) [
-    inr k ↦ k.1
+    | inr k ↦ k.1
     | inl k ↦ (
-      let joined : plain_word_at nested inner (t ++ r) ≡ Err (JoinedToClose (length k.0.0)) =
-          ap (plain_word_at nested inner) k.0.1 ∙ at_brace (42 ∷ (125 ∷ k.0.0)) ∙ braced_joined (42 ∷ []) k.0.0 one_star k.0.2 in
-      absurd (err_ok (ps, r) _ (sym joined ∙ plain_again ps t r h))
-    )
+        let joined : plain_word_at nested inner (t ++ r) ≡ Err (JoinedToClose (length k.0.0)) =
+        ap (plain_word_at nested inner) k.0.1 ∙ at_brace (42 ∷ (125 ∷ k.0.0)) ∙ braced_joined (42 ∷ []) k.0.0 one_star k.0.2 in
+        absurd (err_ok (ps, r) _ (sym joined ∙ plain_again ps t r h))
+        )
   ]
 
   word_again : (w : Word) (t r : Text) → WordIs w t r → word_at nested inner (t ++ r) ≡ Ok (w, r)

@@ -1,7 +1,7 @@
 -- The grammar: which texts are scripts, with their trees (Tcl(n)), by cases on the tree over whole texts. A text stands before
 -- what follows it in the source, since what follows says where it ends.
 use Rattle.std.specs.Prelude.{◌≡◌, ◌≢◌, ◌⊎◌, ℕ, [], ◌∷◌, ◌++◌, Bool, true, false, not, ◌||◌, ◌==◌, Some}
-use Rattle.tclchars.specs.Runs.{Text, begins}
+use Rattle.tclchars.specs.Runs.{Text}
 use Rattle.tclchars.specs.Bytes.{newline, hash, backslash, is_blank, is_gap, AllPass, MayBegin, DoesBegin}
 use Rattle.tclchars.specs.Classes.{in_class, is_name}
 use Rattle.tclchars.specs.Backslash.{after_backslash}

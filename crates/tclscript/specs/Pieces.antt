@@ -1,5 +1,5 @@
 -- Pieces of a source text.
-use Rattle.std.specs.Prelude.{◌≡◌, ◌++◌, ◌-◌, length, take}
+use Rattle.std.specs.Prelude.{◌≡◌, ◌++◌}
 use Rattle.tclchars.specs.Runs.{Text}
 
 abbrev pub IsEndOf : Text → Text → Type 0
@@ -7,5 +7,3 @@ IsEndOf whole rest = (before : Text) × (whole ≡ before ++ rest)
 
 abbrev pub IsFrontOf : Text → Text → Type 0
 IsFrontOf whole piece = (after : Text) × (whole ≡ piece ++ after)
-
-

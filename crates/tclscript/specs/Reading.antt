@@ -1,5 +1,5 @@
 -- Reading a script from left to right, with the first fault that is met. A fault has the number of bytes from its mark on.
-use Rattle.std.specs.Prelude.{◌≡◌, ℕ, zero, suc, ◌-◌, List, [], ◌∷◌, length, take, Bool, true, false, ◌==◌, if◌then◌else◌, Option, Some, None, Result, Ok, Err}
+use Rattle.std.specs.Prelude.{ℕ, zero, suc, ◌-◌, List, [], ◌∷◌, length, take, Bool, true, false, ◌==◌, if◌then◌else◌, Option, Some, None, Result, Ok, Err}
 use Rattle.tclchars.specs.Runs.{Text, front, back}
 use Rattle.tclchars.specs.Classes.{in_class}
 use Rattle.tclchars.specs.Backslash.{after_backslash}
@@ -100,6 +100,13 @@ in_braces nested left (Some p) = ended nested p.1 >>= (λ rest. Ok (part (braced
 -- a word in braces, behind its first brace
 unfoldable pub braced_word_at : Bool → Text → Read Parts
 braced_word_at nested bs = in_braces nested (suc (length bs)) (braced_at false 0 bs)
+
+-- what stands in quotes, behind the first
+unfoldable pub quotes_at : Inner → Text → Read Parts
+quotes_at inner bs = do
+  x ← parts_with InQuotes inner bs
+  rest ← closed 34 (OpenQuote (suc (length bs))) x.1
+  Ok (x.0, rest)
 
 -- a word in quotes, behind its first quote
 unfoldable pub quoted_word_at : Bool → Inner → Text → Read Parts

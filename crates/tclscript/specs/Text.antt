@@ -1,5 +1,5 @@
 -- The tree or the fault of a whole text, as a function that computes.
-use Rattle.std.specs.Prelude.{◌≡◌, List, length, Bool, true, false, if◌then◌else◌, nat_lt, Result, Ok, Err}
+use Rattle.std.specs.Prelude.{◌≡◌, length, if◌then◌else◌, nat_lt, Result, Ok, Err}
 use Rattle.tclchars.specs.Runs.{Text}
 use Rattle.tclchars.specs.Reading.{placed}
 use Rattle.tclchars.specs.Faults.{max_bytes, max_nesting}

@@ -1,5 +1,5 @@
 -- The tree that a value of the program stands for, where a piece shows its text.
-use Rattle.std.specs.Prelude.{ℕ, List, map, encode_utf8}
+use Rattle.std.specs.Prelude.{List, map, encode_utf8}
 use Rattle.tclchars.specs.Runs.{Text}
 use Rattle.tclscript.specs.Tree.{Commands, Words, Word, word_of, Part, literal, braced, backslash, variable, indexed, bracket, Parts, commands_of, words_of, parts_of}
 use Rattle.tclscript.specs.declared.tree.Script.{Script, Script-F, fold-Script}

@@ -32,7 +32,11 @@ pub(crate) fn class_of(context: Context) -> Class
 pub(crate) fn bare(nested: bool) -> Context
     ensures { result ≡ bare nested }
 {
-    if nested { Context::InBracket } else { Context::InScript }
+    if nested {
+        Context::InBracket
+    } else {
+        Context::InScript
+    }
 }
 
 /// Whether a word ends before the text: nothing follows it, or white space, an end of the command, or the bracket that closes.

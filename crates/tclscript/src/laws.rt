@@ -11,14 +11,12 @@ ghost use Rattle.tclscript.specs.Text.{script_of};
 /// A text is a script with one tree at most.
 pub fn one_script()
     ensures { (bs : Text) (s t : Commands) → IsScript bs s → IsScript bs t → s ≡ t }
-{
-}
+{}
 
 /// A text has one fault at most.
 pub fn one_fault()
     ensures { (bs : Text) (f g : TextFault) → f ≢ OutOfMemory → g ≢ OutOfMemory → IsTextFault bs f → IsTextFault bs g → f ≡ g }
-{
-}
+{}
 
 /// `script_of` gives a tree exactly where the grammar has it within the limits, and a fault exactly where that is the text's,
 /// want of memory never; and a text with a fault has no tree within the limits.
@@ -27,5 +25,4 @@ pub fn script_of_grammar()
     ensures fault { (bs : Text) (f : TextFault) → f ≢ OutOfMemory → (script_of bs ≡ Err f) ↔ IsTextFault bs f }
     ensures no_memory { (bs : Text) → script_of bs ≢ Err OutOfMemory }
     ensures no_tree { (bs : Text) (f : TextFault) (s : Commands) → f ≢ OutOfMemory → IsTextFault bs f → IsScript bs s → nesting s ≤ max_nesting → length bs ≤ max_bytes → ⊥ }
-{
-}
+{}

@@ -6,12 +6,13 @@ mod laws;
 mod piece;
 mod reading;
 mod runs;
-mod text;
-mod tree;
 #[cfg(test)]
 mod tests;
+mod text;
+mod tree;
 
 pub use laws::{one_fault, one_script, script_of_grammar};
 pub use piece::{ByteRange, Source};
+pub use reading::{read_bracket, read_dollar, read_quotes};
 pub use text::{MAX_BYTES, MAX_NESTING, parse_pieces, parse_script};
 pub use tree::{Command, Part, Script, Word};

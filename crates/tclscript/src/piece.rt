@@ -5,7 +5,12 @@ ghost use Rattle.tclscript.specs.Pieces.{IsEndOf, IsFrontOf};
 /// A source text, with what stands for a piece of it.
 pub trait Source<P> {
     ghost text: { Self → Text };
+
     ghost shown: { Self → P → Text };
+
+    /// The whole text.
+    fn as_str(&self) -> &str
+        ensures { result.now ≡ text self.now };
 
     /// The piece at the front of `rest`, which is an end of the source.
     fn cut(&self, rest: &str, piece: &str) -> P
@@ -18,6 +23,10 @@ impl<'a> Source<&'a str> for &'a str {
     ghost text = { λ source. source.now };
 
     ghost shown = { λ source piece. piece.now };
+
+    fn as_str(&self) -> &str {
+        self
+    }
 
     fn cut(&self, rest: &str, piece: &str) -> &'a str {
         let from_rest = self.split_at(self.len() - rest.len()).1;
@@ -37,8 +46,15 @@ impl<'a> Source<ByteRange> for &'a str {
 
     ghost shown = { λ source range. take (range.end - range.start) (drop range.start source.now) };
 
+    fn as_str(&self) -> &str {
+        self
+    }
+
     fn cut(&self, rest: &str, piece: &str) -> ByteRange {
         let start = self.len() - rest.len();
-        ByteRange { start, end: start + piece.len() }
+        ByteRange {
+            start,
+            end: start + piece.len(),
+        }
     }
 }

@@ -2,7 +2,7 @@ ghost use Rattle.std.specs.Prelude.{◌≡◌, ◌∷◌, ◌<◌, length, suc, 
 ghost use Rattle.tclchars.specs.Reading.{Gives};
 ghost use Rattle.tclscript.specs.Pieces.{IsEndOf, IsFrontOf};
 ghost use Rattle.tclscript.specs.Tree as tree;
-ghost use Rattle.tclscript.specs.Reading.{closed, ended, after_expansion, inner_at, script_with, command_at, word_at, plain_word_at, braced_word_at, quoted_word_at, parts_with, part_at, literal_at, dollar_at, braced_name_at, index_at, bracket_at, backslash_at, plain_variable, taken, script_at};
+ghost use Rattle.tclscript.specs.Reading.{closed, ended, after_expansion, inner_at, script_with, command_at, word_at, plain_word_at, braced_word_at, quoted_word_at, quotes_at, parts_with, part_at, literal_at, dollar_at, braced_name_at, index_at, bracket_at, backslash_at, plain_variable, taken, script_at};
 ghost use Rattle.tclscript.specs.View.{script_view, command_view, word_view, part_view, parts_view};
 
 use crate::context::{Context, bare, class_of, command_ends, parts_end, script_ends, word_ends};
@@ -47,7 +47,11 @@ fn after_expansion(text: &str, nested: bool) -> Option<&str>
     ensures { option_map (λ rest. rest.now) result ≡ after_expansion nested text.now }
 {
     let rest = after_mark(after_mark(after_mark(text, b'{')?, b'*')?, b'}')?;
-    if word_ends(rest, nested) { None } else { Some(rest) }
+    if word_ends(rest, nested) {
+        None
+    } else {
+        Some(rest)
+    }
 }
 
 // What was read of the text before that rest.
@@ -59,7 +63,11 @@ fn taken<'a, S: Source<P>, P: Drop>(source: &S, text: &'a str, rest: &'a str) ->
     source.cut(text, text.split_at(text.len() - rest.len()).0)
 }
 
-fn read_literal<'a, S: Source<P>, P: Drop>(source: &S, text: &'a str, context: Context) -> (Part<P>, &'a str)
+fn read_literal<'a, S: Source<P>, P: Drop>(
+    source: &S,
+    text: &'a str,
+    context: Context,
+) -> (Part<P>, &'a str)
     requires { IsEndOf (S.text source.now) text.now }
     ensures { literal_at context text.now ≡ Ok (part_view (S.shown source.now) result.0, result.1.now) }
 {
@@ -68,7 +76,12 @@ fn read_literal<'a, S: Source<P>, P: Drop>(source: &S, text: &'a str, context: C
 }
 
 // A name without a parenthesis, behind a dollar; without a name the dollar is itself.
-fn plain_variable<'a, S: Source<P>, P: Drop>(source: &S, text: &'a str, behind: &'a str, name: &'a str) -> Part<P>
+fn plain_variable<'a, S: Source<P>, P: Drop>(
+    source: &S,
+    text: &'a str,
+    behind: &'a str,
+    name: &'a str,
+) -> Part<P>
     requires text { IsEndOf (S.text source.now) text.now }
     requires dollar { text.now ≡ 36 ∷ behind.now }
     requires name { IsFrontOf behind.now name.now }
@@ -83,7 +96,11 @@ fn plain_variable<'a, S: Source<P>, P: Drop>(source: &S, text: &'a str, behind: 
 
 // Behind a backslash, which stands in front of the text; at the text's end it is itself.
 #[tactic(auto, unfolding(crate::specs::Reading::backslash_at))]
-fn read_escape<'a, S: Source<P>, P: Drop>(source: &S, text: &'a str, behind: &'a str) -> Result<(Part<P>, &'a str), ReadError>
+fn read_escape<'a, S: Source<P>, P: Drop>(
+    source: &S,
+    text: &'a str,
+    behind: &'a str,
+) -> Result<(Part<P>, &'a str), ReadError>
     requires text { IsEndOf (S.text source.now) text.now }
     requires mark { text.now ≡ 92 ∷ behind.now }
     ensures { Gives (λ x. (part_view (S.shown source.now) x.0, x.1.now)) result (backslash_at behind.now) }
@@ -102,7 +119,10 @@ fn read_escape<'a, S: Source<P>, P: Drop>(source: &S, text: &'a str, behind: &'a
 
 // Behind the brace of a name.
 #[tactic(auto, unfolding(crate::specs::Reading::braced_name_at))]
-fn read_braced_name<'a, S: Source<P>, P: Drop>(source: &S, text: &'a str) -> Result<(Part<P>, &'a str), ReadError>
+fn read_braced_name<'a, S: Source<P>, P: Drop>(
+    source: &S,
+    text: &'a str,
+) -> Result<(Part<P>, &'a str), ReadError>
     requires { IsEndOf (S.text source.now) text.now }
     ensures { Gives (λ x. (part_view (S.shown source.now) x.0, x.1.now)) result (braced_name_at text.now) }
 {
@@ -131,13 +151,16 @@ fn read_braced<'a, S: Source<P>, P: Drop>(
     Ok((parts, rest))
 }
 
-/// The tree of a text, where so many brackets and indexes nest at most.
+// The tree of a source, where so many brackets and indexes nest at most.
 #[tactic(auto, unfolding(crate::specs::Reading::script_at))]
-pub(crate) fn read_source<S: Source<P>, P: Drop>(alloc: Global, source: &S, text: &str, depth: usize) -> Result<Script<P>, ReadError>
-    requires { S.text source.now ≡ text.now }
-    ensures { Gives (script_view (S.shown source.now)) result (script_at depth text.now) }
+pub(crate) fn read_source<S: Source<P>, P: Drop>(
+    alloc: Global,
+    source: &S,
+    depth: usize,
+) -> Result<Script<P>, ReadError>
+    ensures { Gives (script_view (S.shown source.now)) result (script_at depth (S.text source.now)) }
 {
-    let (script, _) = read_script(alloc, source, text, depth, false)?;
+    let (script, _) = read_script(alloc, source, source.as_str(), depth, false)?;
     Ok(script)
 }
 
@@ -184,7 +207,13 @@ fn read_command<'a, S: Source<P>, P: Drop>(
     loop {
         let start = skip_blanks(rest);
         if command_ends(start, nested) {
-            return Ok((Command { source: first_text, words }, start));
+            return Ok((
+                Command {
+                    source: first_text,
+                    words,
+                },
+                start,
+            ));
         }
         let (word, after) = read_word(alloc, source, start, depth, nested)?;
         words.push(word)?;
@@ -207,11 +236,23 @@ fn read_word<'a, S: Source<P>, P: Drop>(
     match after_expansion(text, nested) {
         Some(behind) => {
             let (parts, rest) = read_plain_word(alloc, source, behind, depth, nested)?;
-            Ok((Word { expands: true, parts }, rest))
+            Ok((
+                Word {
+                    expands: true,
+                    parts,
+                },
+                rest,
+            ))
         }
         None => {
             let (parts, rest) = read_plain_word(alloc, source, text, depth, nested)?;
-            Ok((Word { expands: false, parts }, rest))
+            Ok((
+                Word {
+                    expands: false,
+                    parts,
+                },
+                rest,
+            ))
         }
     }
 }
@@ -238,9 +279,29 @@ fn read_plain_word<'a, S: Source<P>, P: Drop>(
     }
 }
 
+/// The parts of a text in quotes, behind the first quote, and what follows the last (Tcl(n), rule 4), where so many brackets and
+/// indexes nest at most.
+///
+/// The fault is `OpenQuote` at the first quote, or the first that is met inside.
+#[cycle(read)]
+#[tactic(auto, unfolding(crate::specs::Reading::quotes_at))]
+pub fn read_quotes<'a, S: Source<P>, P: Drop>(
+    alloc: Global,
+    source: &S,
+    text: &'a str,
+    depth: usize,
+) -> Result<(Vec<Part<P>>, &'a str), ReadError>
+    requires { IsEndOf (S.text source.now) text.now }
+    ensures { Gives (λ x. (parts_view (S.shown source.now) x.0.items, x.1.now)) result (quotes_at (inner_at depth) text.now) }
+{
+    let (parts, close) = read_parts(alloc, source, text, depth, Context::InQuotes)?;
+    let rest = closed(close, b'"', Fault::OpenQuote(left_with_mark(text)))?;
+    Ok((parts, rest))
+}
+
 // A word in quotes, behind its first quote.
 #[cycle(read)]
-#[tactic(auto, unfolding(crate::specs::Reading::quoted_word_at))]
+#[tactic(auto, unfolding(crate::specs::Reading::quoted_word_at, crate::specs::Reading::quotes_at))]
 fn read_quoted<'a, S: Source<P>, P: Drop>(
     alloc: Global,
     source: &S,
@@ -251,8 +312,7 @@ fn read_quoted<'a, S: Source<P>, P: Drop>(
     requires { IsEndOf (S.text source.now) text.now }
     ensures { Gives (λ x. (parts_view (S.shown source.now) x.0.items, x.1.now)) result (quoted_word_at nested (inner_at depth) text.now) }
 {
-    let (parts, close) = read_parts(alloc, source, text, depth, Context::InQuotes)?;
-    let after = closed(close, b'"', Fault::OpenQuote(left_with_mark(text)))?;
+    let (parts, after) = read_quotes(alloc, source, text, depth)?;
     let rest = ended(after, nested)?;
     Ok((parts, rest))
 }
@@ -304,10 +364,15 @@ fn read_part<'a, S: Source<P>, P: Drop>(
     }
 }
 
-// Behind a dollar, which stands in front of the text.
+/// The variable at the front of the text, and what follows it (Tcl(n), rule 8): `$name`, `$name(index)` or `${name}`, of which
+/// `behind` is what stands behind the dollar. Before anything else the dollar is itself. So many brackets and indexes nest at
+/// most.
+///
+/// The fault is `OpenBrace` at the brace of a name, `BadCharacter` at the parenthesis of an index, or the first that is met
+/// inside.
 #[cycle(read)]
 #[tactic(auto, unfolding(crate::specs::Reading::dollar_at))]
-fn read_dollar<'a, S: Source<P>, P: Drop>(
+pub fn read_dollar<'a, S: Source<P>, P: Drop>(
     alloc: Global,
     source: &S,
     text: &'a str,
@@ -332,7 +397,12 @@ fn read_dollar<'a, S: Source<P>, P: Drop>(
 }
 
 // An element of an array, whose name stands in front of the text.
-fn indexed<'a, S: Source<P>, P: Drop>(source: &S, text: &'a str, name: &'a str, parts: Vec<Part<P>>) -> Part<P>
+fn indexed<'a, S: Source<P>, P: Drop>(
+    source: &S,
+    text: &'a str,
+    name: &'a str,
+    parts: Vec<Part<P>>,
+) -> Part<P>
     requires text { IsEndOf (S.text source.now) text.now }
     requires name { IsFrontOf text.now name.now }
     ensures { part_view (S.shown source.now) result ≡ tree.indexed name.now (parts_view (S.shown source.now) parts.items) }
@@ -360,10 +430,13 @@ fn read_index<'a, S: Source<P>, P: Drop>(
     Ok((parts, rest))
 }
 
-// Behind a bracket.
+/// The script in brackets, behind the first bracket, and what follows the last (Tcl(n), rule 7), where so many brackets and
+/// indexes nest at most, this one among them.
+///
+/// The fault is `TooDeep` where none may nest, `OpenBracket` at the first bracket, or the first that is met inside.
 #[cycle(read)]
 #[tactic(auto, unfolding(crate::specs::Reading::bracket_at, crate::specs::Reading::inner_at))]
-fn read_bracket<'a, S: Source<P>, P: Drop>(
+pub fn read_bracket<'a, S: Source<P>, P: Drop>(
     alloc: Global,
     source: &S,
     text: &'a str,

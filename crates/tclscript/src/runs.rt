@@ -65,7 +65,11 @@ fn step_blanks(b: u8, after: &[u8]) -> Option<Passing>
 fn step_joined(b: u8) -> Option<Passing>
     ensures { result ≡ step_joined b }
 {
-    if b == b'\n' { Some(Passing::Blanks) } else { None }
+    if b == b'\n' {
+        Some(Passing::Blanks)
+    } else {
+        None
+    }
 }
 
 fn step_gap(b: u8, after: &[u8]) -> Option<Passing>

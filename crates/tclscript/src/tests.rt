@@ -15,12 +15,52 @@ fn words(rt: HostRuntime) -> Result<(), Fail> {
 
 #[test]
 fn faults(rt: HostRuntime) {
-    assert!(rt; matches!(parse_script(rt.alloc(), "set a {b}c"), Err(TextFault::JoinedToClose(9))));
-    assert!(rt; matches!(parse_script(rt.alloc(), "set a \"x [y"), Err(TextFault::OpenBracket(9))));
-    assert!(rt; matches!(parse_script(rt.alloc(), "set a \"x"), Err(TextFault::OpenQuote(6))));
-    assert!(rt; matches!(parse_script(rt.alloc(), "set a \\uD800"), Err(TextFault::BadCharacter(6))));
-    assert!(rt; matches!(parse_script(rt.alloc(), "\"x \\uD800"), Err(TextFault::BadCharacter(3))));
-    assert!(rt; matches!(parse_script(rt.alloc(), "[foo {b}c"), Err(TextFault::JoinedToClose(8))));
-    assert!(rt; matches!(parse_script(rt.alloc(), "$x(a"), Err(TextFault::BadCharacter(2))));
-    assert!(rt; matches!(parse_script(rt.alloc(), "${a"), Err(TextFault::OpenBrace(1))));
+    assert!(rt;
+        matches!(
+            parse_script(rt.alloc(), "set a {b}c"),
+            Err(TextFault::JoinedToClose(9))
+        )
+    );
+    assert!(rt;
+        matches!(
+            parse_script(rt.alloc(), "set a \"x [y"),
+            Err(TextFault::OpenBracket(9))
+        )
+    );
+    assert!(rt;
+        matches!(
+            parse_script(rt.alloc(), "set a \"x"),
+            Err(TextFault::OpenQuote(6))
+        )
+    );
+    assert!(rt;
+        matches!(
+            parse_script(rt.alloc(), "set a \\uD800"),
+            Err(TextFault::BadCharacter(6))
+        )
+    );
+    assert!(rt;
+        matches!(
+            parse_script(rt.alloc(), "\"x \\uD800"),
+            Err(TextFault::BadCharacter(3))
+        )
+    );
+    assert!(rt;
+        matches!(
+            parse_script(rt.alloc(), "[foo {b}c"),
+            Err(TextFault::JoinedToClose(8))
+        )
+    );
+    assert!(rt;
+        matches!(
+            parse_script(rt.alloc(), "$x(a"),
+            Err(TextFault::BadCharacter(2))
+        )
+    );
+    assert!(rt;
+        matches!(
+            parse_script(rt.alloc(), "${a"),
+            Err(TextFault::OpenBrace(1))
+        )
+    );
 }

@@ -1,5 +1,9 @@
-ghost use Rattle.std.specs.Prelude.{◌≡◌, ◌≤◌};
+ghost use Rattle.std.specs.Prelude.{◌≡◌, ◌≤◌, length, IfOk, IfErr, MatchResult};
 ghost use Rattle.tclchars.specs.Faults.{max_bytes, max_nesting};
+ghost use Rattle.tclchars.specs.declared.fault.TextFault.TheVariants.{OutOfMemory};
+ghost use Rattle.tclscript.specs.Tree.{Commands, nesting};
+ghost use Rattle.tclscript.specs.Grammar.{IsScript};
+ghost use Rattle.tclscript.specs.Faults.{IsTextFault};
 ghost use Rattle.tclscript.specs.Text.{Reads, script_of};
 ghost use Rattle.tclscript.specs.View.{script_view};
 
@@ -15,26 +19,53 @@ pub const MAX_BYTES: usize = 1_048_576;
 /// The deepest nesting of brackets and of the parentheses of indexes.
 pub const MAX_NESTING: usize = 200;
 
-/// The tree of a script whose pieces are slices of the text (Tcl(n)).
+/// The tree of a script (Tcl(n)), whose pieces are slices of the text. Takes time and memory in proportion to the text's length,
+/// and copies no text.
 ///
-/// A text that is no script within the limits has a `TextFault` with the place of the first offending mark or character.
+/// A text that is no script is refused with the first fault in it and its place; a text of more than 1,048,576 bytes is `TooLong`,
+/// and `OutOfMemory` says nothing of the text.
 pub fn parse_script(alloc: Global, text: &str) -> Result<Script<&str>, TextFault>
+    // A tree that is returned is the text's, within the limits.
+    ensures found { IfOk result (λ s. IsScript text.now (script_view (λ piece. piece.now) s) × (nesting (script_view (λ piece. piece.now) s) ≤ max_nesting) × (length text.now ≤ max_bytes)) }
+
+    // A text within the limits that has a tree is read, unless memory runs out.
+    ensures only { (s : Commands) → IsScript text.now s → nesting s ≤ max_nesting → length text.now ≤ max_bytes
+        → MatchResult result (λ t. script_view (λ piece. piece.now) t ≡ s) (λ e. e ≡ OutOfMemory) }
+
+    // A fault is the text's first, at its place.
+    ensures fault { IfErr result (IsTextFault text.now) }
+
+    // The tree or the fault is the one that the definition computes, unless memory runs out.
     ensures read { Reads (script_view (λ piece. piece.now)) result (script_of text.now) }
 {
-    parse_pieces(alloc, &text, text)
+    read_whole(alloc, &text)
 }
 
 /// The tree of a script, as `parse_script` gives it, with pieces of any kind.
-pub fn parse_pieces<S: Source<P>, P: Drop>(alloc: Global, source: &S, text: &str) -> Result<Script<P>, TextFault>
-    requires { S.text source.now ≡ text.now }
-    ensures { Reads (script_view (S.shown source.now)) result (script_of text.now) }
+pub fn parse_pieces<S: Source<P>, P: Drop>(
+    alloc: Global,
+    source: &S,
+) -> Result<Script<P>, TextFault>
+    ensures found { IfOk result (λ s. IsScript (S.text source.now) (script_view (S.shown source.now) s) × (nesting (script_view (S.shown source.now) s) ≤ max_nesting) × (length (S.text source.now) ≤ max_bytes)) }
+    ensures only { (s : Commands) → IsScript (S.text source.now) s → nesting s ≤ max_nesting → length (S.text source.now) ≤ max_bytes
+        → MatchResult result (λ t. script_view (S.shown source.now) t ≡ s) (λ e. e ≡ OutOfMemory) }
+    ensures fault { IfErr result (IsTextFault (S.text source.now)) }
+    ensures read { Reads (script_view (S.shown source.now)) result (script_of (S.text source.now)) }
 {
-    if text.len() > MAX_BYTES {
+    read_whole(alloc, source)
+}
+
+// The tree of a source within the limits, or its fault.
+fn read_whole<S: Source<P>, P: Drop>(alloc: Global, source: &S) -> Result<Script<P>, TextFault>
+    ensures { Reads (script_view (S.shown source.now)) result (script_of (S.text source.now)) }
+{
+    let len = source.as_str().len();
+    if len > MAX_BYTES {
         return Err(TextFault::TooLong);
     }
-    match read_source(alloc, source, text, MAX_NESTING) {
+    match read_source(alloc, source, MAX_NESTING) {
         Ok(script) => Ok(script),
         Err(ReadError::Memory) => Err(TextFault::OutOfMemory),
-        Err(ReadError::Fault(fault)) => Err(place(fault, text.len())),
+        Err(ReadError::Fault(fault)) => Err(place(fault, len)),
     }
 }

@@ -1,13 +1,2 @@
-pub mod Examples
-pub mod Runs
-pub mod Loops
-pub mod Gaps
-pub mod Sound
-pub mod Turns
-pub mod Complete
-pub mod FaultLemmas
-pub mod Answered
 pub mod NumberLemmas
-pub mod ListLemmas
-pub mod RoundTrip
-pub mod OneList
+pub mod Examples

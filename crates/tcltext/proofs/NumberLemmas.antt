@@ -6,9 +6,10 @@ use Rattle.std.proofs.Math.Seq.{take-length}
 use Rattle.std.proofs.Math.ListN.{drop_of_length-le}
 use Rattle.std.proofs.lemmas.Bool.Decides.{nat_tests}
 use Rattle.std.specs.Char.{digit_value}
-use Rattle.tcltext.specs.declared.Numeral.{Numeral}
-use Rattle.tcltext.specs.declared.Numeral.TheVariants.{TooLarge, Fraction, Text}
-use Rattle.tcltext.specs.Numerals.{is_space, before_space, without_end, trimmed, digits_from, digits_in, is_minus, without_sign, magnitude, is_fraction, whole_of, class_of, numeral_of, numeral}
+use Rattle.tcltext.specs.declared.number.Numeral.{Numeral}
+use Rattle.tcltext.specs.declared.number.Numeral.TheVariants.{TooLarge, Fraction, Text}
+use Rattle.tcltext.specs.Numerals.{before_space, without_end, trimmed, digits_from, digits_in, is_minus, without_sign, magnitude, is_fraction, whole_of, class_of, numeral_of, numeral}
+use Rattle.tclchars.specs.Bytes.{is_space}
 
 pub without_end-space : (xs : List ℕ) (b : ℕ) → is_space b ≡ true → without_end (xs ++ b ∷ []) ≡ without_end xs
 without_end-space [] b h = rw h refl

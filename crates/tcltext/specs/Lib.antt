@@ -1,10 +1,2 @@
-pub mod Bytes
-pub mod Tree
-pub mod View
-pub mod Grammar
-pub mod Faults
-pub mod Reading
 pub mod Numerals
-pub mod Backslash
-pub mod ListGrammar
-pub mod Lists
+pub mod Symbols

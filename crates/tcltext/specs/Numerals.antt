@@ -1,15 +1,11 @@
 -- Numbers as texts (Tcl(n) and expr(n), with the classes of this project): the class of a text, and its value.
 use Rattle.std.specs.Prelude.{ℕ, pos, negsuc, zero, suc, ◌+◌, ◌*◌, ◌^◌, [], ◌∷◌, Bool, true, false, ◌||◌, ◌&&◌, ◌==◌, nat_lt, nat_le, if◌then◌else◌, Option, Some, None, map, codes, bytes_eq}
 use Rattle.std.specs.Char.{digit_value, to_ascii_lowercase}
-use Rattle.tcltext.specs.Bytes.{newline, is_blank}
-use Rattle.tcltext.specs.Tree.{Text}
-use Rattle.tcltext.specs.Reading.{back, begins}
-use Rattle.tcltext.specs.declared.Numeral.{Numeral}
-use Rattle.tcltext.specs.declared.Numeral.TheVariants as numerals
-
--- white space: space, tab, newline, vertical tab, form feed and carriage return
-abbrev pub is_space : ℕ → Bool
-is_space b = is_blank b || b == newline
+use Rattle.tclchars.specs.Bytes.{is_space}
+use Rattle.tclchars.specs.Runs.{Text}
+use Rattle.tclchars.specs.Runs.{back, begins}
+use Rattle.tcltext.specs.declared.number.Numeral.{Numeral}
+use Rattle.tcltext.specs.declared.number.Numeral.TheVariants as numerals
 
 abbrev pub before_space : ℕ → Text → Text
 before_space b [] = if is_space b then [] else b ∷ []

@@ -1,9 +1,21 @@
 ghost use Rattle.std.specs.Prelude.{◌≡◌, ◌≤◌, ◌<◌, ◌-◌, ◌^◌, min, option_map};
 ghost use Rattle.std.specs.Char.{digit_value};
-ghost use Rattle.tcltext.specs.Reading.{back};
-ghost use Rattle.tcltext.specs.Numerals.{is_space, trimmed, without_end, is_minus, without_sign, digits_in, base_of, magnitude, behind_zero, is_digit, begins_digit, are_digits, is_exponent, may_be_exponent, is_fraction_end, is_word, is_fraction, whole_of, numeral};
+ghost use Rattle.tclchars.specs.Runs.{back};
+ghost use Rattle.tcltext.specs.Numerals.{trimmed, without_end, is_minus, without_sign, digits_in, base_of, magnitude, behind_zero, is_digit, begins_digit, are_digits, is_exponent, may_be_exponent, is_fraction_end, is_word, is_fraction, whole_of, numeral};
+ghost use Rattle.tclchars.specs.Bytes.{is_space};
 
-use crate::Numeral;
+/// A text as a number.
+#[derive(Clone, Copy, Debug, PartialEq, Eq)]
+pub enum Numeral {
+    /// A whole number of 64 bits with a sign.
+    Whole(i64),
+    /// A whole number outside 64 bits.
+    TooLarge,
+    /// A number with a fraction or an exponent, an infinity, or what is not a number.
+    Fraction,
+    /// No number.
+    Text,
+}
 
 /// The class of a text as a number of Tcl, with its value where it is whole. White space may stand around it. Takes no memory.
 ///

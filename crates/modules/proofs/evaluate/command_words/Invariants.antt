@@ -1,11 +1,11 @@
-use Rattle.std.proofs.Common.{◌≡◌, map, take, length, nat_le, true, string_bytes}
-use Rattle.std.specs.List.{list_all}
-use Rattle.tcltext.specs.Tree.{word_text}
-use Rattle.tcltext.specs.View.{word_view}
+use Rattle.std.proofs.Common.{◌≡◌, map, drop, string_bytes}
+use Rattle.tclscript.specs.Tree.{words_of}
+use Rattle.tclscript.specs.View.{word_view, command_view}
+use Rattle.modules.specs.Literals.{texts_of}
+use Rattle.modules.proofs.LiteralLemmas.{TextsSoFar}
 use Rattle.modules.proofs.evaluate.command_words.Given as goal
 
 abbrev pub invariant-loop-word : goal.invariant-loop-word
-invariant-loop-word l = record {
-  texts : map string_bytes l.words.items ≡ map word_text (map word_view (take l.word-index l.word-items));
-  short : list_all (λ text. nat_le (length text) l.most) (map word_text (map word_view (take l.word-index l.word-items))) ≡ true;
-}
+invariant-loop-word l =
+    TextsSoFar l.most (command_view (λ piece. piece.now) l.command).0 (map string_bytes l.words.items) (map (word_view (λ piece. piece.now)) (drop l.word-index l.word-items))
+    (texts_of l.most (command_view (λ piece. piece.now) l.command).0 (words_of (map (word_view (λ piece. piece.now)) l.word-items)))

@@ -1,16 +1,12 @@
-use Rattle.std.proofs.Common.{◌≡◌, ◌<◌, ◌≤◌, ◌++◌, ◌∷◌, [], ℕ, List, Result, Ok, Err, true, false, map, length, suc, sym, ap, ap₂, subst, ◌∙◌, refl, arith, rules}
+use Rattle.std.proofs.Common.{◌≡◌, ◌∷◌, Ok, map, sym, ap, subst, ◌∙◌, refl, arith, rules}
 use Rattle.std.proofs.lemmas.Result.{err_from_is_err_and}
 use Rattle.std.proofs.lemmas.List.{map_push}
-use Rattle.tclchars.specs.Runs.{Text}
-use Rattle.tclscript.specs.declared.context.Context.TheVariants.{InScript, InBracket, InIndex, InQuotes}
 use Rattle.tclscript.specs.declared.runs.Passing.TheVariants.{Blanks, Gap, Name}
 use Rattle.tclscript.specs.Pieces.{IsEndOf, IsFrontOf}
-use Rattle.tclscript.specs.Passing.{pass}
 use Rattle.tclscript.specs.Ends.{parts_end}
 use Rattle.tclscript.specs.Reading.{part_at, inner_at}
 use Rattle.tclscript.specs.View.{script_view, command_view, word_view, part_view, parts_view}
 use Rattle.tclscript.proofs.Ends.{end_mark, end_through}
-use Rattle.tclscript.proofs.Escapes.{back_end}
 use Rattle.tclscript.proofs.Passes.{pass_end, pass_front}
 use Rattle.tclscript.proofs.Readers.{expanded_end, inner_leaves}
 use Rattle.tclscript.proofs.Loops.{so_far-none}
@@ -34,7 +30,7 @@ pub read_index-returns-in_err-rest : goal.read_index-returns-in_err-rest
 read_index-returns-in_err-rest g t c =
     let p = err_from_is_err_and c.from_residual-in_err-rest.result c.from_residual-in_err-rest.ensures.1 in
     rw (p.1, p.2) (index-fails c.args.depth c.left_with_mark.result c.args.text.now (parts_view (g.S.Source.shown c.args.source.now) c.in_ok-parts.parts.items) c.in_ok-parts.close.now c.in_err-rest.field-0.0
-      (omega arith) c.left_with_mark.ensures c.in_ok-parts.ensures c.in_err-rest.ensures)
+    (omega arith) c.left_with_mark.ensures c.in_ok-parts.ensures c.in_err-rest.ensures)
 
 pub read_command-returns-in_err-first : goal.read_command-returns-in_err-first
 read_command-returns-in_err-first g t c =
@@ -53,9 +49,9 @@ read_command-loop-alloc-init g t c =
       utf8 = search rules;
       end = end_through (g.S.Source.text c.args.source.now) c.args.text.now c.in_ok-first.behind.now r behind;
       so_far =
-        words-none c.args.nested c.args.depth c.args.text.now (g.S.Source.shown c.args.source.now c.taken-first_text.result) (word_view (g.S.Source.shown c.args.source.now) c.in_ok-first.first)
-        (map (word_view (g.S.Source.shown c.args.source.now)) c.push.new.self.items) c.in_ok-first.behind.now c.in_ok-first.ensures c.taken-first_text.ensures
-        (rw (c.in_ok-push.ensures.items, c.new-words.ensures.items) refl);
+          words-none c.args.nested c.args.depth c.args.text.now (g.S.Source.shown c.args.source.now c.taken-first_text.result) (word_view (g.S.Source.shown c.args.source.now) c.in_ok-first.first)
+          (map (word_view (g.S.Source.shown c.args.source.now)) c.push.new.self.items) c.in_ok-first.behind.now c.in_ok-first.ensures c.taken-first_text.ensures
+          (rw (c.in_ok-push.ensures.items, c.new-words.ensures.items) refl);
     }
 
 pub read_command-returns-then-command_ends : goal.read_command-returns-then-command_ends
@@ -67,8 +63,8 @@ read_command-returns-then-command_ends g t c =
 pub read_command-read_word-requires-in-loop-alloc : goal.read_command-read_word-requires-in-loop-alloc
 read_command-read_word-requires-in-loop-alloc g t c =
     let e : IsEndOf (g.S.Source.text c.args.source.now) c.skip_blanks-start.result.now =
-        end_through (g.S.Source.text c.args.source.now) c.loop-alloc.rest.now c.skip_blanks-start.result.now c.loop-alloc.invariant.end
-        (subst (IsEndOf c.loop-alloc.rest.now) (sym c.skip_blanks-start.ensures) (pass_end Blanks c.loop-alloc.rest.now))
+    end_through (g.S.Source.text c.args.source.now) c.loop-alloc.rest.now c.skip_blanks-start.result.now c.loop-alloc.invariant.end
+    (subst (IsEndOf c.loop-alloc.rest.now) (sym c.skip_blanks-start.ensures) (pass_end Blanks c.loop-alloc.rest.now))
     in
     search rules
 
@@ -76,27 +72,27 @@ pub read_command-returns-in_err-word : goal.read_command-returns-in_err-word
 read_command-returns-in_err-word g t c =
     let p = err_from_is_err_and c.from_residual-in_err-word.result c.from_residual-in_err-word.ensures.1 in
     rw (p.1, p.2) (command-fails c.args.nested c.args.depth c.args.text.now (g.S.Source.shown c.args.source.now c.taken-first_text.result) (map (word_view (g.S.Source.shown c.args.source.now)) c.loop-alloc.words.items)
-      c.loop-alloc.rest.now c.skip_blanks-start.result.now c.in_err-word.field-0.0 c.skip_blanks-start.ensures (sym c.command_ends.ensures ∙ c.if-command_ends.false) c.in_err-word.ensures c.loop-alloc.invariant.so_far)
+    c.loop-alloc.rest.now c.skip_blanks-start.result.now c.in_err-word.field-0.0 c.skip_blanks-start.ensures (sym c.command_ends.ensures ∙ c.if-command_ends.false) c.in_err-word.ensures c.loop-alloc.invariant.so_far)
 
 pub read_command-loop-alloc-smaller : goal.read_command-loop-alloc-smaller
 read_command-loop-alloc-smaller g t c =
     (command-behind c.args.nested c.args.depth c.loop-alloc.rest.now c.skip_blanks-start.result.now (word_view (g.S.Source.shown c.args.source.now) c.in_ok-word.word) c.in_ok-word.after.now
-      c.skip_blanks-start.ensures (sym c.command_ends.ensures ∙ c.if-command_ends.false) c.in_ok-word.ensures).1
+    c.skip_blanks-start.ensures (sym c.command_ends.ensures ∙ c.if-command_ends.false) c.in_ok-word.ensures).1
 
 pub read_command-loop-alloc-preserved : goal.read_command-loop-alloc-preserved
 read_command-loop-alloc-preserved g t c =
     let behind = command-behind c.args.nested c.args.depth c.loop-alloc.rest.now c.skip_blanks-start.result.now (word_view (g.S.Source.shown c.args.source.now) c.in_ok-word.word) c.in_ok-word.after.now
-        c.skip_blanks-start.ensures (sym c.command_ends.ensures ∙ c.if-command_ends.false) c.in_ok-word.ensures
+    c.skip_blanks-start.ensures (sym c.command_ends.ensures ∙ c.if-command_ends.false) c.in_ok-word.ensures
     in
     record {
       utf8 = search rules;
       end = end_through (g.S.Source.text c.args.source.now) c.loop-alloc.rest.now c.in_ok-word.after.now c.loop-alloc.invariant.end behind.0;
       so_far =
-        command-more c.args.nested c.args.depth c.args.text.now (g.S.Source.shown c.args.source.now c.taken-first_text.result) (map (word_view (g.S.Source.shown c.args.source.now)) c.loop-alloc.words.items)
-        (map (word_view (g.S.Source.shown c.args.source.now)) c.push-in-loop-alloc.new.self.items)
-        c.loop-alloc.rest.now c.skip_blanks-start.result.now (word_view (g.S.Source.shown c.args.source.now) c.in_ok-word.word) c.in_ok-word.after.now
-        c.skip_blanks-start.ensures (sym c.command_ends.ensures ∙ c.if-command_ends.false) c.in_ok-word.ensures
-        (rw c.in_ok-push-2.ensures.items (map_push (word_view (g.S.Source.shown c.args.source.now)) c.loop-alloc.words.items c.in_ok-word.word)) c.loop-alloc.invariant.so_far;
+          command-more c.args.nested c.args.depth c.args.text.now (g.S.Source.shown c.args.source.now c.taken-first_text.result) (map (word_view (g.S.Source.shown c.args.source.now)) c.loop-alloc.words.items)
+          (map (word_view (g.S.Source.shown c.args.source.now)) c.push-in-loop-alloc.new.self.items)
+          c.loop-alloc.rest.now c.skip_blanks-start.result.now (word_view (g.S.Source.shown c.args.source.now) c.in_ok-word.word) c.in_ok-word.after.now
+          c.skip_blanks-start.ensures (sym c.command_ends.ensures ∙ c.if-command_ends.false) c.in_ok-word.ensures
+          (rw c.in_ok-push-2.ensures.items (map_push (word_view (g.S.Source.shown c.args.source.now)) c.loop-alloc.words.items c.in_ok-word.word)) c.loop-alloc.invariant.so_far;
     }
 
 pub read_script-returns-then-script_ends : goal.read_script-returns-then-script_ends
@@ -108,8 +104,8 @@ read_script-returns-then-script_ends g t c =
 pub read_script-read_command-requires : goal.read_script-read_command-requires
 read_script-read_command-requires g t c =
     let e : IsEndOf (g.S.Source.text c.args.source.now) c.skip_gap-start.result.now =
-        end_through (g.S.Source.text c.args.source.now) c.loop-alloc.rest.now c.skip_gap-start.result.now c.loop-alloc.invariant.end
-        (subst (IsEndOf c.loop-alloc.rest.now) (sym c.skip_gap-start.ensures) (pass_end Gap c.loop-alloc.rest.now))
+    end_through (g.S.Source.text c.args.source.now) c.loop-alloc.rest.now c.skip_gap-start.result.now c.loop-alloc.invariant.end
+    (subst (IsEndOf c.loop-alloc.rest.now) (sym c.skip_gap-start.ensures) (pass_end Gap c.loop-alloc.rest.now))
     in
     search rules
 
@@ -117,27 +113,27 @@ pub read_script-returns-in_err-command : goal.read_script-returns-in_err-command
 read_script-returns-in_err-command g t c =
     let p = err_from_is_err_and c.from_residual.result c.from_residual.ensures.1 in
     rw (p.1, p.2) (script-fails c.args.nested c.args.depth c.args.text.now (map (command_view (g.S.Source.shown c.args.source.now)) c.loop-alloc.commands.items)
-      c.loop-alloc.rest.now c.skip_gap-start.result.now c.in_err-command.field-0.0 c.skip_gap-start.ensures (sym c.script_ends.ensures ∙ c.if-script_ends.false) c.in_err-command.ensures c.loop-alloc.invariant.so_far)
+    c.loop-alloc.rest.now c.skip_gap-start.result.now c.in_err-command.field-0.0 c.skip_gap-start.ensures (sym c.script_ends.ensures ∙ c.if-script_ends.false) c.in_err-command.ensures c.loop-alloc.invariant.so_far)
 
 pub read_script-loop-alloc-smaller : goal.read_script-loop-alloc-smaller
 read_script-loop-alloc-smaller g t c =
     (script-behind c.args.nested c.args.depth c.loop-alloc.rest.now c.skip_gap-start.result.now (command_view (g.S.Source.shown c.args.source.now) c.in_ok-command.command) c.in_ok-command.after.now
-      c.skip_gap-start.ensures (sym c.script_ends.ensures ∙ c.if-script_ends.false) c.in_ok-command.ensures).1
+    c.skip_gap-start.ensures (sym c.script_ends.ensures ∙ c.if-script_ends.false) c.in_ok-command.ensures).1
 
 pub read_script-loop-alloc-preserved : goal.read_script-loop-alloc-preserved
 read_script-loop-alloc-preserved g t c =
     let behind = script-behind c.args.nested c.args.depth c.loop-alloc.rest.now c.skip_gap-start.result.now (command_view (g.S.Source.shown c.args.source.now) c.in_ok-command.command) c.in_ok-command.after.now
-        c.skip_gap-start.ensures (sym c.script_ends.ensures ∙ c.if-script_ends.false) c.in_ok-command.ensures
+    c.skip_gap-start.ensures (sym c.script_ends.ensures ∙ c.if-script_ends.false) c.in_ok-command.ensures
     in
     record {
       utf8 = search rules;
       end = end_through (g.S.Source.text c.args.source.now) c.loop-alloc.rest.now c.in_ok-command.after.now c.loop-alloc.invariant.end behind.0;
       so_far =
-        script-more c.args.nested c.args.depth c.args.text.now (map (command_view (g.S.Source.shown c.args.source.now)) c.loop-alloc.commands.items)
-        (map (command_view (g.S.Source.shown c.args.source.now)) c.push.new.self.items)
-        c.loop-alloc.rest.now c.skip_gap-start.result.now (command_view (g.S.Source.shown c.args.source.now) c.in_ok-command.command) c.in_ok-command.after.now
-        c.skip_gap-start.ensures (sym c.script_ends.ensures ∙ c.if-script_ends.false) c.in_ok-command.ensures
-        (rw c.in_ok-push.ensures.items (map_push (command_view (g.S.Source.shown c.args.source.now)) c.loop-alloc.commands.items c.in_ok-command.command)) c.loop-alloc.invariant.so_far;
+          script-more c.args.nested c.args.depth c.args.text.now (map (command_view (g.S.Source.shown c.args.source.now)) c.loop-alloc.commands.items)
+          (map (command_view (g.S.Source.shown c.args.source.now)) c.push.new.self.items)
+          c.loop-alloc.rest.now c.skip_gap-start.result.now (command_view (g.S.Source.shown c.args.source.now) c.in_ok-command.command) c.in_ok-command.after.now
+          c.skip_gap-start.ensures (sym c.script_ends.ensures ∙ c.if-script_ends.false) c.in_ok-command.ensures
+          (rw c.in_ok-push.ensures.items (map_push (command_view (g.S.Source.shown c.args.source.now)) c.loop-alloc.commands.items c.in_ok-command.command)) c.loop-alloc.invariant.so_far;
     }
 
 pub read_parts-loop-alloc-init : goal.read_parts-loop-alloc-init
@@ -156,7 +152,7 @@ pub read_parts-returns-in_err-part : goal.read_parts-returns-in_err-part
 read_parts-returns-in_err-part g t c =
     let p = err_from_is_err_and c.from_residual.result c.from_residual.ensures.1 in
     rw (p.1, p.2) (parts-fails c.args.context c.args.depth c.args.text.now (map (part_view (g.S.Source.shown c.args.source.now)) c.loop-alloc.parts.items) c.loop-alloc.rest.now c.in_err-part.field-0.0
-      (sym c.parts_end.ensures ∙ c.if-parts_end.false) c.in_err-part.ensures c.loop-alloc.invariant.so_far)
+    (sym c.parts_end.ensures ∙ c.if-parts_end.false) c.in_err-part.ensures c.loop-alloc.invariant.so_far)
 
 pub read_parts-loop-alloc-smaller : goal.read_parts-loop-alloc-smaller
 read_parts-loop-alloc-smaller g t c =
@@ -169,9 +165,9 @@ read_parts-loop-alloc-preserved g t c =
       utf8 = search rules;
       end = end_through (g.S.Source.text c.args.source.now) c.loop-alloc.rest.now c.in_ok-part.after.now c.loop-alloc.invariant.end behind.0;
       so_far =
-        parts-more c.args.context c.args.depth c.args.text.now (map (part_view (g.S.Source.shown c.args.source.now)) c.loop-alloc.parts.items) (map (part_view (g.S.Source.shown c.args.source.now)) c.push.new.self.items)
-        c.loop-alloc.rest.now (part_view (g.S.Source.shown c.args.source.now) c.in_ok-part.part) c.in_ok-part.after.now (sym c.parts_end.ensures ∙ c.if-parts_end.false) c.in_ok-part.ensures
-        (rw c.in_ok-push.ensures.items (map_push (part_view (g.S.Source.shown c.args.source.now)) c.loop-alloc.parts.items c.in_ok-part.part)) c.loop-alloc.invariant.so_far;
+          parts-more c.args.context c.args.depth c.args.text.now (map (part_view (g.S.Source.shown c.args.source.now)) c.loop-alloc.parts.items) (map (part_view (g.S.Source.shown c.args.source.now)) c.push.new.self.items)
+          c.loop-alloc.rest.now (part_view (g.S.Source.shown c.args.source.now) c.in_ok-part.part) c.in_ok-part.after.now (sym c.parts_end.ensures ∙ c.if-parts_end.false) c.in_ok-part.ensures
+          (rw c.in_ok-push.ensures.items (map_push (part_view (g.S.Source.shown c.args.source.now)) c.loop-alloc.parts.items c.in_ok-part.part)) c.loop-alloc.invariant.so_far;
     }
 
 pub read_dollar-read_braced_name-requires : goal.read_dollar-read_braced_name-requires
@@ -189,8 +185,8 @@ read_dollar-read_index-requires g t c =
     let name : IsEndOf c.args.behind.now c.split_passed.result.1.now = subst (IsEndOf c.args.behind.now) (sym c.split_passed.ensures.rest) (pass_end Name c.args.behind.now) in
     let index : IsEndOf c.split_passed.result.1.now c.in-Some-after_mark.index.now = end_mark c.split_passed.result.1.now 40 c.in-Some-after_mark.index.now c.in-Some-after_mark.ensures in
     let e : IsEndOf (g.S.Source.text c.args.source.now) c.in-Some-after_mark.index.now =
-        end_through (g.S.Source.text c.args.source.now) c.args.text.now c.in-Some-after_mark.index.now r
-        (end_through c.args.text.now c.args.behind.now c.in-Some-after_mark.index.now behind (end_through c.args.behind.now c.split_passed.result.1.now c.in-Some-after_mark.index.now name index))
+    end_through (g.S.Source.text c.args.source.now) c.args.text.now c.in-Some-after_mark.index.now r
+    (end_through c.args.text.now c.args.behind.now c.in-Some-after_mark.index.now behind (end_through c.args.behind.now c.split_passed.result.1.now c.in-Some-after_mark.index.now name index))
     in
     search rules
 
@@ -210,7 +206,7 @@ pub read_part-read_bracket-requires : goal.read_part-read_bracket-requires
 read_part-read_bracket-requires g t c =
     let r : IsEndOf (g.S.Source.text c.args.source.now) c.args.text.now = search rules in
     let e : IsEndOf (g.S.Source.text c.args.source.now) c.in-Some-after_mark.behind.now =
-        end_through (g.S.Source.text c.args.source.now) c.args.text.now c.in-Some-after_mark.behind.now r (end_mark c.args.text.now 91 c.in-Some-after_mark.behind.now c.in-Some-after_mark.ensures)
+    end_through (g.S.Source.text c.args.source.now) c.args.text.now c.in-Some-after_mark.behind.now r (end_mark c.args.text.now 91 c.in-Some-after_mark.behind.now c.in-Some-after_mark.ensures)
     in
     search rules
 
@@ -223,7 +219,7 @@ pub read_plain_word-read_quoted-requires : goal.read_plain_word-read_quoted-requ
 read_plain_word-read_quoted-requires g t c =
     let r : IsEndOf (g.S.Source.text c.args.source.now) c.args.text.now = search rules in
     let e : IsEndOf (g.S.Source.text c.args.source.now) c.in-Some-after_mark.behind.now =
-        end_through (g.S.Source.text c.args.source.now) c.args.text.now c.in-Some-after_mark.behind.now r (end_mark c.args.text.now 34 c.in-Some-after_mark.behind.now c.in-Some-after_mark.ensures)
+    end_through (g.S.Source.text c.args.source.now) c.args.text.now c.in-Some-after_mark.behind.now r (end_mark c.args.text.now 34 c.in-Some-after_mark.behind.now c.in-Some-after_mark.ensures)
     in
     search rules
 
@@ -231,6 +227,6 @@ pub read_word-read_plain_word-requires : goal.read_word-read_plain_word-requires
 read_word-read_plain_word-requires g t c =
     let r : IsEndOf (g.S.Source.text c.args.source.now) c.args.text.now = search rules in
     let e : IsEndOf (g.S.Source.text c.args.source.now) c.in-Some.behind.now =
-        end_through (g.S.Source.text c.args.source.now) c.args.text.now c.in-Some.behind.now r (expanded_end (inner_at 0) (inner_leaves 0) c.args.nested c.args.text.now c.in-Some.behind.now c.in-Some.ensures)
+    end_through (g.S.Source.text c.args.source.now) c.args.text.now c.in-Some.behind.now r (expanded_end (inner_at 0) (inner_leaves 0) c.args.nested c.args.text.now c.in-Some.behind.now c.in-Some.ensures)
     in
     search rules

@@ -1,4 +1,4 @@
-use Rattle.std.proofs.Common.{◌≡◌, length, map, ◌+◌, ◌*◌}
+use Rattle.std.proofs.Common.{length, map, ◌+◌, ◌*◌}
 use denote.Text.{Utf8}
 use denote.Shadow.{shadow}
 use Rattle.tclscript.specs.Pieces.{IsEndOf}
@@ -21,20 +21,23 @@ decreases-read_part g l = 10 * l.depth + 2
 abbrev pub decreases-read_parts : goal.decreases-read_parts
 decreases-read_parts g l = 10 * l.depth + 3
 
+abbrev pub decreases-read_quotes : goal.decreases-read_quotes
+decreases-read_quotes g l = 10 * l.depth + 4
+
 abbrev pub decreases-read_quoted : goal.decreases-read_quoted
-decreases-read_quoted g l = 10 * l.depth + 4
+decreases-read_quoted g l = 10 * l.depth + 5
 
 abbrev pub decreases-read_plain_word : goal.decreases-read_plain_word
-decreases-read_plain_word g l = 10 * l.depth + 5
+decreases-read_plain_word g l = 10 * l.depth + 6
 
 abbrev pub decreases-read_word : goal.decreases-read_word
-decreases-read_word g l = 10 * l.depth + 6
+decreases-read_word g l = 10 * l.depth + 7
 
 abbrev pub decreases-read_command : goal.decreases-read_command
-decreases-read_command g l = 10 * l.depth + 7
+decreases-read_command g l = 10 * l.depth + 8
 
 abbrev pub decreases-read_script : goal.decreases-read_script
-decreases-read_script g l = 10 * l.depth + 8
+decreases-read_script g l = 10 * l.depth + 9
 
 abbrev pub invariant-read_command-loop-alloc : goal.invariant-read_command-loop-alloc
 invariant-read_command-loop-alloc g l = record {

@@ -1,5 +1,3 @@
-use Rattle.std.proofs.Common.{ap, ◌∙◌}
-use Rattle.tclchars.specs.Runs.{front}
 use Rattle.tclchars.specs.Classes.{in_class}
 use Rattle.tclchars.specs.declared.runs.Class.TheVariants.{InName}
 use Rattle.tclscript.proofs.Escapes.{run_front}

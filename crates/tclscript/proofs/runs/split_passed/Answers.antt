@@ -1,6 +1,6 @@
-use Rattle.std.proofs.Common.{◌≡◌, ◌≤◌, ◌+◌, ℕ, List, length, get_or, take, drop, sym, ap, subst, ◌∙◌, arith}
+use Rattle.std.proofs.Common.{◌≡◌, ◌+◌, ℕ, length, get_or, take, drop, sym, ap, subst, ◌∙◌, arith}
 use Rattle.std.specs.Str.{IsUtf8}
-use Rattle.tclscript.proofs.Scans.{Scanned, scanned-none, scanned-more, scanned-stop, scanned-all, all_after}
+use Rattle.tclscript.proofs.Scans.{scanned-none, scanned-more, scanned-stop, scanned-all, all_after}
 use Rattle.tclchars.specs.Runs.{Text}
 use Rattle.tclscript.specs.Passing.{pass, step}
 use Rattle.tclscript.proofs.runs.split_passed.Goals as goal
@@ -28,7 +28,7 @@ all : (c : goal.After-split_at-2) → pass c.args.start c.args.text.now ≡ (tak
 all c =
     let end : c.loop-n.n ≡ length c.as_bytes-bytes.result.now = omega arith in
     let found : pass c.args.start c.as_bytes-bytes.result.now ≡ (take c.loop-n.n c.as_bytes-bytes.result.now, drop c.loop-n.n c.as_bytes-bytes.result.now) =
-        scanned-all c.args.start c.loop-n.passing c.as_bytes-bytes.result.now c.loop-n.n (omega arith) c.loop-n.invariant
+    scanned-all c.args.start c.loop-n.passing c.as_bytes-bytes.result.now c.loop-n.n (omega arith) c.loop-n.invariant
     in
     subst (λ (bs : Text). pass c.args.start bs ≡ (take (length bs) bs, drop (length bs) bs)) c.as_bytes-bytes.ensures.value
     (subst (λ (n : ℕ). pass c.args.start c.as_bytes-bytes.result.now ≡ (take n c.as_bytes-bytes.result.now, drop n c.as_bytes-bytes.result.now)) end found)

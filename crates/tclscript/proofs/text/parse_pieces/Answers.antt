@@ -1,6 +1,12 @@
-use Rattle.tclchars.specs.Faults.{max_nesting}
-use Rattle.tclscript.proofs.Within.{fault_within}
+use Rattle.tclscript.specs.View.{script_view}
+use Rattle.tclscript.proofs.Clauses.{reads_found, reads_only, reads_fault}
 use Rattle.tclscript.proofs.text.parse_pieces.Goals as goal
 
-pub place-requires : goal.place-requires
-place-requires g c = fault_within max_nesting c.args.text.now c.in-Err-Fault.fault (rw c.in-Err-Fault.field-0-is at c.in-Err-Fault.ensures)
+pub returns-clause-found : goal.returns-clause-found
+returns-clause-found g c = reads_found (script_view (g.S.Source.shown c.args.source.now)) (g.S.Source.text c.args.source.now) c.read_whole.result c.read_whole.ensures
+
+pub returns-clause-only : goal.returns-clause-only
+returns-clause-only g c = reads_only (script_view (g.S.Source.shown c.args.source.now)) (g.S.Source.text c.args.source.now) c.read_whole.result c.read_whole.ensures
+
+pub returns-clause-fault : goal.returns-clause-fault
+returns-clause-fault g c = reads_fault (script_view (g.S.Source.shown c.args.source.now)) (g.S.Source.text c.args.source.now) c.read_whole.result c.read_whole.ensures

@@ -1,5 +1,5 @@
 use Rattle.std.proofs.Common.{◌≡◌, length}
-use Rattle.tcltext.specs.Reading.{back}
+use Rattle.tclchars.specs.Runs.{back}
 use Rattle.tcltext.specs.Numerals.{is_digit}
 use Rattle.tcltext.proofs.number.after_digits.Given as goal
 

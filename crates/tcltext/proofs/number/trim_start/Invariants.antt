@@ -1,6 +1,6 @@
 use Rattle.std.proofs.Common.{◌≡◌, length}
-use Rattle.tcltext.specs.Reading.{back}
-use Rattle.tcltext.specs.Numerals.{is_space}
+use Rattle.tclchars.specs.Runs.{back}
+use Rattle.tclchars.specs.Bytes.{is_space}
 use Rattle.tcltext.proofs.number.trim_start.Given as goal
 
 abbrev pub invariant-loop-rest : goal.invariant-loop-rest

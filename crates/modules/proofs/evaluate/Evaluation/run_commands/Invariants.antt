@@ -1,11 +1,10 @@
 use Rattle.std.proofs.Common.{◌≡◌, map, drop}
 use Rattle.envstate.specs.Texts.{Text}
-use Rattle.tcltext.specs.Tree.{command_texts}
-use Rattle.tcltext.specs.View.{command_view}
+use Rattle.tclscript.specs.View.{command_view}
 use Rattle.modules.specs.Running.{run_commands}
 use Rattle.modules.proofs.evaluate.Evaluation.run_commands.Given as goal
 
 abbrev pub invariant-loop-command : goal.invariant-loop-command
 invariant-loop-command l =
-    (owner : Text) → run_commands l.self.mode owner l.self.limits.value_bytes l.env (map command_texts (map command_view (drop l.command-index l.commands)))
-    ≡ run_commands l.self.mode owner l.self.limits.value_bytes l.initial.env (map command_texts (map command_view l.commands))
+    (owner : Text) → run_commands l.self.mode owner l.self.limits.value_bytes l.env (map (command_view (λ piece. piece.now)) (drop l.command-index l.commands))
+    ≡ run_commands l.self.mode owner l.self.limits.value_bytes l.initial.env (map (command_view (λ piece. piece.now)) l.commands)

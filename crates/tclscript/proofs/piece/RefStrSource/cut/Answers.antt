@@ -2,7 +2,7 @@ use Rattle.std.proofs.Common.{◌≡◌, sym, subst, ◌∙◌}
 use Rattle.std.specs.Str.{IsUtf8}
 use Rattle.tclchars.specs.Runs.{Text}
 use Rattle.tclscript.specs.Pieces.{IsFrontOf}
-use Rattle.tclscript.proofs.Ends.{end_cut, end_drop, front_cut, front_take}
+use Rattle.tclscript.proofs.Ends.{end_cut, end_drop, front_cut}
 use Rattle.tclscript.proofs.piece.RefStrSource.cut.Goals as goal
 
 pub split_at-requires : goal.split_at-requires

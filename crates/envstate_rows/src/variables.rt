@@ -1,0 +1,68 @@
+use crate::edits::Edit::{Set, Unset};
+use crate::edits::walk;
+use envstate::{Env, changes, is_plain_value, is_protected, is_variable_name, share_name};
+use std::test::Fail;
+
+#[test]
+fn variables_are_set_and_unset(rt: HostRuntime) -> Result<(), Fail> {
+    walk(
+        &rt,
+        rt.alloc(),
+        &[
+            (Set("B", "2"), 0, "B=2"),
+            (Set("A", "1"), 0, "A=1 B=2"),
+            (Set("B", ""), 0, "A=1 B="),
+            (Unset("A"), 0, "B="),
+            (Unset("A"), 0, "B="),
+        ],
+    )
+}
+
+#[test]
+fn what_differs(rt: HostRuntime) -> Result<(), Fail> {
+    let alloc = rt.alloc();
+    let mut old = Env::new(alloc);
+    old.set("A", "1")?;
+    old.set("C", "3")?;
+    old.set("__MODULES_SHARE_P", "/a:2")?;
+    let mut new = old.copy()?;
+    new.unset("A");
+    new.set("B", "")?;
+    new.set("__MODULES_SHARE_P", "/a:3")?;
+    let mut text = String::new(alloc);
+    for change in &changes(alloc, &old, &new)? {
+        text.push_str(change.name.as_str())?;
+        match &change.value {
+            Some(value) => {
+                text.push('=')?;
+                text.push_str(value.as_str())?;
+            }
+            None => text.push('-')?,
+        }
+        text.push(' ')?;
+    }
+    assert_eq!(rt; text.as_str(), "A- B= __MODULES_SHARE_P=/a:3 ");
+    Ok(())
+}
+
+#[test]
+fn names_and_values(rt: HostRuntime) -> Result<(), Fail> {
+    for (name, is_name, is_kept) in [
+        ("A_1", true, false),
+        ("1A", false, false),
+        ("", false, false),
+        ("A-B", false, false),
+        ("LOADEDMODULES", true, true),
+        ("_LMFILES_", true, true),
+        ("__MODULES_X", true, true),
+        ("__MODULES", true, false),
+    ] {
+        assert_eq!(rt; is_variable_name(name), is_name, "at {name}");
+        assert_eq!(rt; is_protected(name), is_kept, "at {name}");
+    }
+    assert!(rt; is_plain_value("a:b\n"));
+    assert!(rt; !is_plain_value("a\0"));
+    let share = share_name(rt.alloc(), "PATH")?;
+    assert_eq!(rt; share.as_str(), "__MODULES_SHARE_PATH");
+    Ok(())
+}

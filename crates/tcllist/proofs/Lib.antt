@@ -1,0 +1,11 @@
+pub mod Runs
+pub mod WriteLemmas
+pub mod Loops
+pub mod BackslashTaken
+pub mod Pieces
+pub mod ElementLemmas
+pub mod ReadLemmas
+pub mod PieceTurns
+pub mod ListTurns
+pub mod ListAnswers
+pub mod RoundTrip

@@ -1,0 +1,136 @@
+-- The turns of the loop that reads a piece.
+use Rattle.std.proofs.Common.{◌≡◌, ℕ, zero, suc, ◌<◌, ◌≤◌, [], ◌∷◌, ◌++◌, length, get_or, Bool, true, false, not, ◌||◌, ◌==◌, Some, None, Ok, Err, refl, sym, ap, subst, ◌∙◌, arith, append-nil}
+use Rattle.std.proofs.lemmas.Bool.Decides.{nat_tests}
+use Rattle.std.specs.Str.{IsCharBoundary}
+use Rattle.tclchars.specs.Bytes.{backslash, AllPass, MayBegin}
+use Rattle.tclchars.specs.Runs.{Text, front, back, begins}
+use Rattle.tclchars.specs.Backslash.{after_backslash}
+use Rattle.tclchars.specs.Reading.{Read, read_map}
+use Rattle.tclchars.specs.declared.fault.Fault.TheVariants as marks
+use Rattle.tcllist.specs.declared.read.End.{End}
+use Rattle.tcllist.specs.declared.read.End.TheVariants.{Space, Quote}
+use Rattle.tcllist.specs.ListGrammar as grammar
+use Rattle.tcllist.specs.ListGrammar.{Piece}
+use Rattle.tcllist.specs.ListReading.{mark_at, piece_at, piece_of}
+use Rattle.tcllist.specs.Ends.{ends_piece, is_plain_before}
+use Rattle.tcllist.proofs.Runs.{front_back, front_passes, back_fails, back_no_longer}
+use Rattle.tcllist.proofs.BackslashTaken.{taken_length}
+use Rattle.tcllist.proofs.Pieces.{piece_left, piece-end, piece-none, piece-backslash, read_map-none, read_map-append}
+
+backslash_off : (end : End) → ends_piece end backslash ≡ false
+backslash_off Space = refl
+backslash_off Quote = refl
+
+-- what was read so far, and what is read from the rest, are what is read
+pub record PieceSoFar (end : End) (bs value rest : Text) : Type 0 where
+  pub turns : ℕ
+  pub enough : length rest < turns
+  pub whole : piece_of (ends_piece end) bs ≡ read_map (λ t. value ++ t) (piece_at (ends_piece end) turns rest)
+
+pub so_far-none : (end : End) (bs : Text) → PieceSoFar end bs [] bs
+unfolding piece_of
+so_far-none end bs = record { turns = suc (length bs); enough = omega arith; whole = read_map-none (piece_at (ends_piece end) (suc (length bs)) bs) }
+
+plain_parts : (s t : Bool) → not (s || t) ≡ true → (s ≡ false) × (t ≡ false)
+plain_parts true t h = cc
+plain_parts false true h = cc
+plain_parts false false h = (refl, refl)
+
+run_piece : (end : End) (run rest : Text) → AllPass (is_plain_before end) run → Piece (ends_piece end) (run ++ rest) run rest
+run_piece end [] rest h = grammar.Piece.nothing
+run_piece end (b ∷ run) rest h =
+    let two = plain_parts (ends_piece end b) (b == backslash) h.0 in
+    grammar.Piece.plain two.0 two.1 (run_piece end run rest h.1)
+
+-- a run in front is read
+so_far-run : (end : End) (bs value rest run marked : Text) → run ≡ front (is_plain_before end) rest → marked ≡ back (is_plain_before end) rest → PieceSoFar end bs value rest → PieceSoFar end bs (value ++ run) marked
+so_far-run end bs value rest run marked r m s =
+    let whole : rest ≡ run ++ marked = front_back (is_plain_before end) rest ∙ ap (λ xs. xs ++ back (is_plain_before end) rest) (sym r) ∙ ap (λ xs. run ++ xs) (sym m) in
+    let piece = run_piece end run marked (subst (AllPass (is_plain_before end)) (sym r) (front_passes (is_plain_before end) rest)) in
+    let enough = s.enough in
+    let left = piece_left (ends_piece end) (backslash_off end) piece s.turns (subst (λ (xs : Text). length xs < s.turns) whole enough) in
+    record {
+      turns = left.turns;
+      enough = left.enough;
+      whole = s.whole ∙ ap (λ xs. read_map (λ t. value ++ t) (piece_at (ends_piece end) s.turns xs)) whole ∙ ap (read_map (λ t. value ++ t)) left.whole ∙ read_map-append value run (piece_at (ends_piece end) left.turns marked);
+    }
+
+-- where a piece goes on with the rest so, so goes the whole
+on_rest : (end : End) (bs value rest : Text) (t r : Text) → PieceSoFar end bs value rest → ((n : ℕ) → piece_at (ends_piece end) (suc n) rest ≡ Ok (t, r)) → piece_of (ends_piece end) bs ≡ Ok (value ++ t, r)
+on_rest end bs value rest t r s h = go s.turns s.enough s.whole where
+  go : (turns : ℕ) → length rest < turns → piece_of (ends_piece end) bs ≡ read_map (λ t. value ++ t) (piece_at (ends_piece end) turns rest) → piece_of (ends_piece end) bs ≡ Ok (value ++ t, r)
+  go zero lt w = absurd (omega arith)
+  go (suc n) lt w = w ∙ ap (read_map (λ t. value ++ t)) (h n)
+
+ends_rest : (end : End) (bs value rest : Text) → MayBegin (ends_piece end) rest → PieceSoFar end bs value rest → piece_of (ends_piece end) bs ≡ Ok (value, rest)
+ends_rest end bs value [] h s = on_rest end bs value [] [] [] s (λ n. piece-none (ends_piece end) (backslash_off end) n) ∙ ap (λ t. Ok (t, [])) (append-nil value)
+ends_rest end bs value (b ∷ rest) h s = on_rest end bs value (b ∷ rest) [] (b ∷ rest) s (λ n. piece-end (ends_piece end) (backslash_off end) n b rest h) ∙ ap (λ t. Ok (t, b ∷ rest)) (append-nil value)
+
+no_backslash : (end : End) (rest : Text) → MayBegin (λ b. not (is_plain_before end b)) rest → begins backslash rest ≡ false → MayBegin (ends_piece end) rest
+no_backslash end [] h k = tt
+no_backslash end (b ∷ rest) h k = cases (ends_piece end b) (b == backslash) h k where
+  cases : (s t : Bool) → not (not (s || t)) ≡ true → t ≡ false → s ≡ true
+  cases true t h k = refl
+  cases false true h k = cc
+  cases false false h k = cc
+
+pub piece-ends : (end : End) (bs value rest run marked value' : Text) → run ≡ front (is_plain_before end) rest → marked ≡ back (is_plain_before end) rest → value' ≡ value ++ run → begins backslash marked ≡ false → PieceSoFar end bs value rest
+    → piece_of (ends_piece end) bs ≡ Ok (value', marked)
+piece-ends end bs value rest run marked value' r m v none s =
+    ends_rest end bs (value ++ run) marked (no_backslash end marked (subst (MayBegin (λ b. not (is_plain_before end b))) (sym m) (back_fails (is_plain_before end) rest)) none) (so_far-run end bs value rest run marked r m s)
+    ∙ ap (λ t. Ok (t, marked)) (sym v)
+
+at_backslash : (end : End) (bs value rest run marked behind : Text) → run ≡ front (is_plain_before end) rest → marked ≡ back (is_plain_before end) rest → marked ≡ backslash ∷ behind → PieceSoFar end bs value rest → PieceSoFar end bs (value ++ run) (backslash ∷ behind)
+at_backslash end bs value rest run marked behind r m is s = subst (PieceSoFar end bs (value ++ run)) is (so_far-run end bs value rest run marked r m s)
+
+empty : (bs : Text) → length bs ≡ 0 → bs ≡ []
+empty [] h = refl
+empty (b ∷ bs) h = absurd (omega arith)
+
+pub piece-last : (end : End) (bs value rest run marked behind value' : Text) → run ≡ front (is_plain_before end) rest → marked ≡ back (is_plain_before end) rest → marked ≡ backslash ∷ behind → length behind ≡ 0
+    → value' ≡ (value ++ run) ++ backslash ∷ [] → PieceSoFar end bs value rest → piece_of (ends_piece end) bs ≡ Ok (value', behind)
+piece-last end bs value rest run marked behind value' r m is len v s =
+    let none : behind ≡ [] = empty behind len in
+    let here = subst (λ x. PieceSoFar end bs (value ++ run) (backslash ∷ x)) none (at_backslash end bs value rest run marked behind r m is s) in
+    on_rest end bs (value ++ run) (backslash ∷ []) (backslash ∷ []) [] here (λ n. piece-backslash (ends_piece end) (backslash_off end) n [])
+    ∙ ap (λ t. Ok (t, [])) (sym v) ∙ ap (λ t. Ok (value', t)) (sym none)
+
+nothing_mark : (more : Text → Read Text) (rest : Text) → 0 < length rest → after_backslash rest ≡ None → mark_at more rest (after_backslash rest) ≡ Err (marks.BadCharacter (suc (length rest)))
+nothing_mark more [] some h = absurd (omega arith)
+nothing_mark more (b ∷ rest) some h = ap (mark_at more (b ∷ rest)) h
+
+pub piece-bad : (end : End) (bs value rest run marked behind : Text) (left : ℕ) → run ≡ front (is_plain_before end) rest → marked ≡ back (is_plain_before end) rest → marked ≡ backslash ∷ behind → 0 < length behind
+    → after_backslash behind ≡ None → left ≡ length marked → PieceSoFar end bs value rest → piece_of (ends_piece end) bs ≡ Err (marks.BadCharacter left)
+piece-bad end bs value rest run marked behind left r m is some none l s = go here.turns here.enough here.whole ∙ ap (λ n. Err (marks.BadCharacter n)) (ap length (sym is) ∙ sym l) where
+  here : PieceSoFar end bs (value ++ run) (backslash ∷ behind)
+  here = at_backslash end bs value rest run marked behind r m is s
+
+  go : (turns : ℕ) → length (backslash ∷ behind) < turns → piece_of (ends_piece end) bs ≡ read_map (λ t. (value ++ run) ++ t) (piece_at (ends_piece end) turns (backslash ∷ behind)) → piece_of (ends_piece end) bs ≡ Err (marks.BadCharacter (suc (length behind)))
+  go zero lt w = absurd (omega arith)
+  go (suc n) lt w = w ∙ ap (read_map (λ t. (value ++ run) ++ t)) (piece-backslash (ends_piece end) (backslash_off end) n behind ∙ nothing_mark (piece_at (ends_piece end) n) behind some none)
+
+pub piece-more : (end : End) (bs value rest run marked behind v after value' : Text) → run ≡ front (is_plain_before end) rest → marked ≡ back (is_plain_before end) rest → marked ≡ backslash ∷ behind → after_backslash behind ≡ Some (v, after)
+    → value' ≡ (value ++ run) ++ v → PieceSoFar end bs value rest → PieceSoFar end bs value' after
+piece-more end bs value rest run marked behind v after value' r m is stands made s = go here.turns here.enough here.whole where
+  here : PieceSoFar end bs (value ++ run) (backslash ∷ behind)
+  here = at_backslash end bs value rest run marked behind r m is s
+
+  go : (turns : ℕ) → length (backslash ∷ behind) < turns → piece_of (ends_piece end) bs ≡ read_map (λ t. (value ++ run) ++ t) (piece_at (ends_piece end) turns (backslash ∷ behind)) → PieceSoFar end bs value' after
+  go zero lt w = absurd (omega arith)
+  go (suc n) lt w = record {
+    turns = n;
+    enough = omega (arith, taken_length behind v after stands);
+    whole =
+        w ∙ ap (read_map (λ t. (value ++ run) ++ t)) (piece-backslash (ends_piece end) (backslash_off end) n behind ∙ ap (mark_at (piece_at (ends_piece end) n) behind) stands)
+        ∙ read_map-append (value ++ run) v (piece_at (ends_piece end) n after) ∙ ap (λ x. read_map (λ t. x ++ t) (piece_at (ends_piece end) n after)) (sym made);
+  }
+
+pub piece-shorter : (end : End) (rest marked behind v after : Text) → marked ≡ back (is_plain_before end) rest → marked ≡ backslash ∷ behind → after_backslash behind ≡ Some (v, after) → length after < length rest
+piece-shorter end rest marked behind v after m is stands = omega (arith, taken_length behind v after stands, ap length m, ap length is, back_no_longer (is_plain_before end) rest)
+
+-- Cuts
+quote_ascii : (b : ℕ) → is_plain_before Quote b ≡ false → b < 128
+quote_ascii b h = grind (arith, nat_tests)
+
+pub quote_cut : (bs : Text) (n : ℕ) → n ≤ length bs → (n < length bs → is_plain_before Quote (get_or bs n 0) ≡ false) → IsCharBoundary bs n
+quote_cut bs n le stop = (le, λ lt big. let small : get_or bs n 0 < 128 = quote_ascii _ (stop lt) in absurd (omega arith))

@@ -1,0 +1,5 @@
+pub mod ListGrammar
+pub mod ListFaults
+pub mod ListReading
+pub mod Ends
+pub mod Lists

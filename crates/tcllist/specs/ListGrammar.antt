@@ -1,0 +1,47 @@
+-- The grammar of lists: which texts are lists, with their elements (Tcl(n), list words as lindex(n) reads them), by cases on the elements.
+use Rattle.std.specs.Prelude.{◌≡◌, ℕ, List, [], ◌∷◌, ◌++◌, Bool, false, not, ◌||◌, ◌==◌, Some}
+use Rattle.tclchars.specs.Bytes.{backslash, is_space, AllPass, MayBegin, DoesBegin}
+use Rattle.tclchars.specs.Runs.{Text}
+use Rattle.tclchars.specs.Backslash.{after_backslash}
+use Rattle.tclchars.specs.Braces.{Balanced}
+
+-- A piece of an element that is bare or in quotes, with its value and what follows. A byte that neither ends the element nor is a
+-- backslash stands for itself, and a backslash with what is read behind it for what Tcl(n) says
+pub data Piece (ends : ℕ → Bool) : Text → Text → Text → Type 0 where
+  nothing : {rest : Text} → Piece ends rest [] rest
+  plain : {b : ℕ} {bs ts rest : Text} → ends b ≡ false → (b == backslash) ≡ false → Piece ends bs ts rest → Piece ends (b ∷ bs) (b ∷ ts) rest
+  substituted : {bs ts rest : Text} (v r : Text) → after_backslash bs ≡ Some (v, r) → Piece ends r ts rest → Piece ends (backslash ∷ bs) (v ++ ts) rest
+
+abbrev pub is_quote : ℕ → Bool
+is_quote b = b == 34
+
+-- a bare element stands in front of the text, up to white space or the end. A backslash at the text's end is itself
+pub data Bare : Text → Text → Text → Type 0 where
+  parted : {bs e rest : Text} → Piece is_space bs e rest → MayBegin is_space rest → Bare bs e rest
+  backslash_last : {bs e : Text} → Piece is_space bs e (backslash ∷ []) → Bare bs (e ++ backslash ∷ []) []
+
+-- what a bare element begins with
+abbrev pub begins_element : ℕ → Bool
+begins_element b = not (is_space b || b == 34 || b == 123)
+
+-- an element stands in front of the text, with its value and what follows; in braces it is taken as it stands
+pub data IsElement : Text → Text → Text → Type 0 where
+  in_braces : {bs e : Text} (rest : Text) → bs ≡ e ++ 125 ∷ rest → Balanced e → IsElement (123 ∷ bs) e rest
+  in_quotes : {bs e rest : Text} → Piece is_quote bs e (34 ∷ rest) → IsElement (34 ∷ bs) e rest
+  bare : {bs e rest : Text} → DoesBegin begins_element bs → Bare bs e rest → IsElement bs e rest
+
+-- white space, an element, and then white space or the end
+pub record Elements (bs e : Text) (More : Text → Type 0) : Type 0 where
+  pub spaces : Text
+  pub body : Text
+  pub rest : Text
+  pub whole : bs ≡ spaces ++ body
+  pub are_spaces : AllPass is_space spaces
+  pub is_element : IsElement body e rest
+  pub is_parted : MayBegin is_space rest
+  pub more : More rest
+
+-- the text is a list with these elements
+abbrev pub IsList : Text → List Text → Type 0
+IsList bs [] = AllPass is_space bs
+IsList bs (e ∷ es) = Elements bs e (λ rest. IsList rest es)

@@ -1,0 +1,66 @@
+-- The text that stands for a list of texts.
+use Rattle.std.specs.Prelude.{ℕ, zero, suc, List, [], ◌∷◌, ◌++◌, Bool, false, not, ◌||◌, ◌&&◌, ◌==◌, if◌then◌else◌, Option, Some, None, flat_map}
+use Rattle.std.specs.List.{list_all}
+use Rattle.tclchars.specs.Bytes.{is_gap, is_special, is_plain, backslash, hash}
+use Rattle.tclchars.specs.Runs.{Text}
+
+-- what has a meaning in a list or a script: white space, " $ ; [ ] { } \
+abbrev pub is_marked : ℕ → Bool
+is_marked b = is_gap b || is_special b
+
+abbrev pub begins_marked : Text → Bool
+begins_marked [] = false
+begins_marked (b ∷ bs) = is_marked b
+
+abbrev pub begins_bare : Text → Bool
+begins_bare [] = false
+begins_bare (b ∷ bs) = not (b == hash)
+
+-- an element that is written as itself
+abbrev pub is_bare : Text → Bool
+is_bare e = begins_bare e && list_all is_plain e
+
+-- how many braces are open behind a byte; None: it is a backslash, or closes one too many
+abbrev pub closed_one : ℕ → Option ℕ
+closed_one zero = None
+closed_one (suc depth) = Some depth
+
+abbrev pub depth_after : ℕ → ℕ → Option ℕ
+depth_after depth b = if b == backslash then None else if b == 123 then Some (suc depth) else if b == 125 then closed_one depth else Some depth
+
+abbrev pub goes_on : (ℕ → Bool) → Option ℕ → Bool
+goes_on more None = false
+goes_on more (Some depth) = more depth
+
+-- an element that may stand in braces, where so many are open in front: it has no backslash, no front of it closes more than are open,
+-- and the whole leaves none open
+abbrev pub balances : ℕ → Text → Bool
+balances depth [] = depth == 0
+balances depth (b ∷ bs) = goes_on (λ d. balances d bs) (depth_after depth b)
+
+-- what stands behind a backslash for a marked byte: a letter for newline, tab, carriage return, vertical tab and form feed, else itself
+abbrev pub letter_of : ℕ → ℕ
+letter_of b = if b == 10 then 110 else if b == 9 then 116 else if b == 13 then 114 else if b == 11 then 118 else if b == 12 then 102 else b
+
+abbrev pub escape : ℕ → Text
+escape b = if is_marked b then backslash ∷ (letter_of b ∷ []) else b ∷ []
+
+abbrev pub escaped : Text → Text
+escaped [] = []
+escaped (b ∷ bs) = if b == hash then backslash ∷ (hash ∷ flat_map escape bs) else flat_map escape (b ∷ bs)
+
+abbrev pub braced : Text → Text
+braced e = 123 ∷ (e ++ 125 ∷ [])
+
+-- the text of an element
+abbrev pub element_text : Text → Text
+element_text e = if is_bare e then e else if balances 0 e then braced e else escaped e
+
+-- the elements' texts, joined by one space
+abbrev pub list_rest : List Text → Text
+list_rest [] = []
+list_rest (e ∷ es) = 32 ∷ (element_text e ++ list_rest es)
+
+abbrev pub list_text : List Text → Text
+list_text [] = []
+list_text (e ∷ es) = element_text e ++ list_rest es

@@ -1,0 +1,34 @@
+ghost use Rattle.std.specs.Prelude.{◌≡◌, ◌≢◌, ◌↔◌, ◌≤◌, List, length, Ok, Err};
+ghost use Rattle.tclchars.specs.Runs.{Text};
+ghost use Rattle.tclchars.specs.Faults.{max_bytes};
+ghost use Rattle.tclchars.specs.declared.fault.TextFault.{TextFault};
+ghost use Rattle.tclchars.specs.declared.fault.TextFault.TheVariants.{OutOfMemory};
+ghost use Rattle.tcllist.specs.ListGrammar.{IsList};
+ghost use Rattle.tcllist.specs.ListFaults.{IsListFault};
+ghost use Rattle.tcllist.specs.ListReading.{list_of};
+ghost use Rattle.tcllist.specs.Lists.{list_text};
+
+/// A text is a list with one row of elements at most.
+pub fn one_list()
+    ensures { (bs : Text) (es fs : List Text) → IsList bs es → IsList bs fs → es ≡ fs }
+{}
+
+/// A text has one fault at most, but for want of memory, and one with a fault of a text within the limit is no list.
+pub fn one_list_fault()
+    ensures one { (bs : Text) (f g : TextFault) → f ≢ OutOfMemory → g ≢ OutOfMemory → IsListFault bs f → IsListFault bs g → f ≡ g }
+    ensures no_list { (bs : Text) (f : TextFault) (es : List Text) → f ≢ OutOfMemory → length bs ≤ max_bytes
+        → IsListFault bs f → IsList bs es → ⊥ }
+{}
+
+/// Within the limit, `list_of` gives elements exactly where the grammar has them; it gives a fault exactly where that is the
+/// text's, want of memory never.
+pub fn list_of_grammar()
+    ensures elements { (bs : Text) (es : List Text) → length bs ≤ max_bytes → (list_of bs ≡ Ok es) ↔ IsList bs es }
+    ensures fault { (bs : Text) (f : TextFault) → f ≢ OutOfMemory → (list_of bs ≡ Err f) ↔ IsListFault bs f }
+    ensures no_memory { (bs : Text) → list_of bs ≢ Err OutOfMemory }
+{}
+
+/// The text of a list is a list with the same elements.
+pub fn list_round_trip()
+    ensures { (es : List Text) → IsList (list_text es) es }
+{}

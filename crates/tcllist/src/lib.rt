@@ -1,0 +1,12 @@
+//! Lists of Tcl: the elements of a text, and the text of elements (Tcl(n), lindex(n), list(n)).
+#![tactic(auto)]
+
+mod laws;
+mod read;
+#[cfg(test)]
+mod tests;
+mod write;
+
+pub use laws::{list_of_grammar, list_round_trip, one_list, one_list_fault};
+pub use read::parse_list;
+pub use write::write_list;

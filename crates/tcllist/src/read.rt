@@ -1,0 +1,172 @@
+ghost use Rattle.std.specs.Prelude.{◌≡◌, ℕ, suc, ◌≤◌, List, length, map, false, not, IfOk, IfErr, MatchResult, string_bytes};
+ghost use Rattle.tclchars.specs.Runs.{Text, front, back};
+ghost use Rattle.tclchars.specs.Braces.{braced_at};
+ghost use Rattle.tclchars.specs.Faults.{max_bytes};
+ghost use Rattle.tclchars.specs.Reading.{Gives};
+ghost use Rattle.tclchars.specs.declared.fault.TextFault.TheVariants.{OutOfMemory};
+ghost use Rattle.tcllist.specs.ListGrammar.{IsList};
+ghost use Rattle.tcllist.specs.ListFaults.{IsListFault};
+ghost use Rattle.tcllist.specs.ListReading.{piece_of, parted_at, in_braces, quoted_at, element_at, list_at, list_of, ReadsList};
+ghost use Rattle.tcllist.specs.declared.read.End.TheVariants.{Quote};
+ghost use Rattle.tcllist.specs.Ends.{ends_piece, is_plain_before};
+
+use std::alloc::Global;
+use tclchars::{
+    Class, Fault, ReadError, TextFault, after_mark, begins_class, place, read_backslash,
+    split_close, split_front,
+};
+
+/// The elements of a list (Tcl(n), lindex(n)): they are parted by white space. One in braces is taken as it stands; in one that
+/// is bare or in quotes, backslashes stand for characters.
+///
+/// - `TooLong`: the text has more than 1,048,576 bytes, whatever else is wrong.
+/// - `OpenBrace`, `OpenQuote`: nothing closes the brace or the quote at this place.
+/// - `JoinedToClose`: the character at this place follows a closing brace or quote and is no white space.
+/// - `BadCharacter`: the backslash at this place stands for no character: `\U` and a hexadecimal digit, or a code from D800 to
+///   DFFF.
+/// - `OutOfMemory`: a growth was refused.
+pub fn parse_list(alloc: Global, text: &str) -> Result<Vec<String>, TextFault>
+    // Elements that are returned are the text's.
+    ensures found { IfOk result (λ es. IsList text.now (map string_bytes es.items)) }
+
+    // A list within the limit is read, unless memory runs out.
+    ensures only { (es : List Text) → IsList text.now es → length text.now ≤ max_bytes
+        → MatchResult result (λ found. map string_bytes found.items ≡ es) (λ e. e ≡ OutOfMemory) }
+
+    // A fault is the text's.
+    ensures fault { IfErr result (IsListFault text.now) }
+
+    // The result is the elements or the fault that the definition computes, unless memory runs out.
+    ensures read { ReadsList result (list_of text.now) }
+{
+    if text.len() > 1_048_576 {
+        return Err(TextFault::TooLong);
+    }
+    match read_elements(alloc, text) {
+        Ok(elements) => Ok(elements),
+        Err(ReadError::Memory) => Err(TextFault::OutOfMemory),
+        Err(ReadError::Fault(fault)) => Err(place(fault, text.len())),
+    }
+}
+
+fn read_elements(alloc: Global, text: &str) -> Result<Vec<String>, ReadError>
+    ensures { Gives (λ es. map string_bytes es.items) result (list_at text.now) }
+{
+    let mut elements = Vec::new(alloc);
+    let mut rest = text;
+    loop {
+        let start = split_front(rest, Class::Space).1;
+        if start.is_empty() {
+            return Ok(elements);
+        }
+        let (element, after) = read_element(alloc, start)?;
+        elements.push(element)?;
+        rest = after;
+    }
+}
+
+// The element in front of a text that begins with no white space, and what follows it.
+fn read_element(alloc: Global, text: &str) -> Result<(String, &str), ReadError>
+    ensures { Gives (λ x. (string_bytes x.0, x.1.now)) result (element_at text.now) }
+{
+    if let Some(inside) = after_mark(text, b'{') {
+        return read_braced(alloc, inside);
+    }
+    if let Some(inside) = after_mark(text, b'"') {
+        return read_quoted(alloc, inside);
+    }
+    read_piece(alloc, text, End::Space)
+}
+
+// An element in braces, from behind its brace.
+fn read_braced(alloc: Global, text: &str) -> Result<(String, &str), ReadError>
+    ensures { Gives (λ x. (string_bytes x.0, x.1.now)) result (in_braces (suc (length text.now)) (braced_at false 0 text.now)) }
+{
+    let Some((inside, rest)) = split_close(text) else {
+        return Err(ReadError::Fault(Fault::OpenBrace(text.len() + 1)));
+    };
+    part(rest)?;
+    Ok((String::from_str(alloc, inside)?, rest))
+}
+
+// An element in quotes, from behind its quote.
+fn read_quoted(alloc: Global, text: &str) -> Result<(String, &str), ReadError>
+    ensures { Gives (λ x. (string_bytes x.0, x.1.now)) result (quoted_at text.now) }
+{
+    let (value, behind) = read_piece(alloc, text, End::Quote)?;
+    let Some(rest) = after_mark(behind, b'"') else {
+        return Err(ReadError::Fault(Fault::OpenQuote(text.len() + 1)));
+    };
+    part(rest)?;
+    Ok((value, rest))
+}
+
+// Behind what closes an element there is white space or the end.
+fn part(rest: &str) -> Result<(), ReadError>
+    ensures { Gives (λ _. rest.now) result (parted_at rest.now) }
+{
+    if rest.is_empty() || begins_class(rest, Class::Space) {
+        return Ok(());
+    }
+    Err(ReadError::Fault(Fault::JoinedToClose(rest.len())))
+}
+
+/// What ends an element that is bare or in quotes.
+#[derive(Clone, Copy)]
+enum End {
+    Space,
+    Quote,
+}
+
+// The run of bytes in front that stand for themselves, and what follows it.
+fn split_plain(text: &str, end: End) -> (&str, &str)
+    ensures run { result.0.now ≡ front (is_plain_before end) text.now }
+    ensures rest { result.1.now ≡ back (is_plain_before end) text.now }
+{
+    match end {
+        End::Space => split_front(text, Class::BareElement),
+        End::Quote => split_quoted(text),
+    }
+}
+
+fn is_plain_in_quotes(b: u8) -> bool
+    ensures { result ≡ is_plain_before Quote b }
+{
+    b != b'"' && b != b'\\'
+}
+
+fn split_quoted(text: &str) -> (&str, &str)
+    ensures run { result.0.now ≡ front (is_plain_before Quote) text.now }
+    ensures rest { result.1.now ≡ back (is_plain_before Quote) text.now }
+{
+    let bytes = text.as_bytes();
+    let mut n = 0;
+    while n < bytes.len() && is_plain_in_quotes(bytes[n]) {
+        n += 1;
+    }
+    text.split_at(n)
+}
+
+// A piece of an element up to what ends it, or to the text's end, and what follows.
+fn read_piece(alloc: Global, text: &str, end: End) -> Result<(String, &str), ReadError>
+    ensures { Gives (λ x. (string_bytes x.0, x.1.now)) result (piece_of (ends_piece end) text.now) }
+{
+    let mut value = String::new(alloc);
+    let mut rest = text;
+    loop {
+        let (run, marked) = split_plain(rest, end);
+        value.push_str(run)?;
+        let Some(behind) = after_mark(marked, b'\\') else {
+            return Ok((value, marked));
+        };
+        if behind.is_empty() {
+            value.push('\\')?;
+            return Ok((value, behind));
+        }
+        let Some((c, after)) = read_backslash(behind) else {
+            return Err(ReadError::Fault(Fault::BadCharacter(marked.len())));
+        };
+        value.push(c)?;
+        rest = after;
+    }
+}

@@ -1,0 +1,188 @@
+ghost use Rattle.std.specs.Prelude.{◌≡◌, ◌++◌, ◌≤◌, ◌<◌, ◌∷◌, [], length, map, flat_map, false, true, IfOk, OnOk, MatchOption, string_bytes};
+ghost use Rattle.std.specs.List.{list_all};
+ghost use Rattle.tclchars.specs.Bytes.{is_plain, is_gap, is_special};
+ghost use Rattle.tcllist.specs.ListGrammar.{IsList};
+ghost use Rattle.tcllist.specs.Lists.{is_marked, begins_marked, begins_bare, is_bare, depth_after, balances, letter_of, escape, escaped, braced, element_text, list_rest, list_text};
+
+use std::alloc::{AllocError, Global};
+use tclchars::{Class, after_mark, split_front};
+
+/// The text of a list with these elements: they are parted by one space, and stand as they are, in braces, or with backslashes.
+pub fn write_list(alloc: Global, elements: &[&str]) -> Result<String, AllocError>
+    ensures text { IfOk result (λ text. string_bytes text ≡ list_text (map (λ e. e.now) elements.now)) }
+    ensures read { IfOk result (λ text. IsList (string_bytes text) (map (λ e. e.now) elements.now)) }
+{
+    let mut text = String::new(alloc);
+    push_list(&mut text, elements)?;
+    Ok(text)
+}
+
+fn push_list(text: &mut String, elements: &[&str]) -> Result<(), AllocError>
+    ensures { OnOk result (string_bytes text.new
+        ≡ string_bytes text.old ++ list_text (map (λ e. e.now) elements.now)) }
+{
+    match elements {
+        [] => Ok(()),
+        [first, rest @ ..] => {
+            push_element(text, first)?;
+            push_rest(text, rest)
+        }
+    }
+}
+
+// The elements behind the first, each behind a space.
+fn push_rest(text: &mut String, elements: &[&str]) -> Result<(), AllocError>
+    ensures { OnOk result (string_bytes text.new
+        ≡ string_bytes text.old ++ list_rest (map (λ e. e.now) elements.now)) }
+{
+    let mut rest = elements;
+    while let [element, after @ ..] = rest {
+        text.push(' ')?;
+        push_element(text, element)?;
+        rest = after;
+    }
+    Ok(())
+}
+
+fn push_element(text: &mut String, element: &str) -> Result<(), AllocError>
+    ensures { OnOk result (string_bytes text.new ≡ string_bytes text.old ++ element_text element.now) }
+{
+    if is_bare(element) {
+        return text.push_str(element);
+    }
+    if balances(element) {
+        return push_braced(text, element);
+    }
+    push_escaped(text, element)
+}
+
+fn push_braced(text: &mut String, element: &str) -> Result<(), AllocError>
+    ensures { OnOk result (string_bytes text.new ≡ string_bytes text.old ++ braced element.now) }
+{
+    text.push('{')?;
+    text.push_str(element)?;
+    text.push('}')
+}
+
+// Whether an element stands as it is.
+fn is_bare(element: &str) -> bool
+    ensures { result ≡ is_bare element.now }
+{
+    begins_bare(element) && are_plain(element)
+}
+
+fn begins_bare(element: &str) -> bool
+    ensures { result ≡ begins_bare element.now }
+{
+    match element.as_bytes() {
+        [] => false,
+        [b, ..] => *b != b'#',
+    }
+}
+
+fn are_plain(element: &str) -> bool
+    ensures { result ≡ list_all is_plain element.now }
+{
+    split_front(element, Class::Plain).1.is_empty()
+}
+
+// How many braces are open behind a byte; None: it is a backslash, or closes one too many.
+fn depth_after(depth: usize, b: u8) -> Option<usize>
+    requires { depth < usize.MAX }
+    ensures { result ≡ depth_after depth b }
+{
+    match b {
+        b'\\' => None,
+        b'{' => Some(depth + 1),
+        b'}' => depth.checked_sub(1),
+        _ => Some(depth),
+    }
+}
+
+// Whether an element may stand in braces.
+fn balances(element: &str) -> bool
+    ensures { result ≡ balances 0 element.now }
+{
+    let bytes = element.as_bytes();
+    let mut depth = 0usize;
+    for b in bytes {
+        match depth_after(depth, *b) {
+            None => return false,
+            Some(open) => depth = open,
+        }
+    }
+    depth == 0
+}
+
+// What stands behind a backslash for a marked byte.
+fn letter_of(b: u8) -> u8
+    ensures { result ≡ letter_of b }
+{
+    match b {
+        b'\n' => b'n',
+        b'\t' => b't',
+        b'\r' => b'r',
+        11 => b'v',
+        12 => b'f',
+        _ => b,
+    }
+}
+
+fn push_escaped(text: &mut String, element: &str) -> Result<(), AllocError>
+    ensures { OnOk result (string_bytes text.new ≡ string_bytes text.old ++ escaped element.now) }
+{
+    match after_mark(element, b'#') {
+        Some(rest) => {
+            text.push_str("\\#")?;
+            push_escapes(text, rest)
+        }
+        None => push_escapes(text, element),
+    }
+}
+
+// A text with a backslash before each marked byte.
+fn push_escapes(text: &mut String, plain: &str) -> Result<(), AllocError>
+    ensures { OnOk result (string_bytes text.new ≡ string_bytes text.old ++ flat_map escape plain.now) }
+{
+    let mut rest = plain;
+    loop {
+        let (run, marked) = split_front(rest, Class::Plain);
+        text.push_str(run)?;
+        let Some((b, after)) = split_marked(marked) else {
+            return Ok(());
+        };
+        text.push('\\')?;
+        text.push(letter_of(b) as char)?;
+        rest = after;
+    }
+}
+
+fn is_gap(b: u8) -> bool
+    ensures { result ≡ is_gap b }
+{
+    b == b' ' || b == b'\t' || b == 11 || b == 12 || b == b'\r' || b == b'\n' || b == b';'
+}
+
+fn is_special(b: u8) -> bool
+    ensures { result ≡ is_special b }
+{
+    b == b'"' || b == b'$' || b == b'[' || b == b']' || b == b'{' || b == b'}' || b == b'\\'
+}
+
+// What has a meaning in a list or a script.
+fn is_marked(b: u8) -> bool
+    ensures { result ≡ is_marked b }
+{
+    is_gap(b) || is_special(b)
+}
+
+// The marked byte in front, and what follows it.
+fn split_marked(text: &str) -> Option<(u8, &str)>
+    ensures { MatchOption result (begins_marked text.now ≡ false)
+        (λ p. (text.now ≡ p.0 ∷ p.1.now) × (is_marked p.0 ≡ true)) }
+{
+    match text.as_bytes() {
+        [b, ..] if is_marked(*b) => Some((*b, text.split_at(1).1)),
+        _ => None,
+    }
+}

@@ -1,0 +1,86 @@
+# Answers calls on texts as tclsh does, a line each. A call is a verb and texts in hexadecimal, of which `-` is the empty one.
+#
+#   list TEXT              ok and the elements, or error
+#   glob PATTERN TEXT      1 or 0
+#   script TEXT            ok and the words of each command that ran, parted by `;`, or error and its message
+#   value WORD...          ok and the result, or error and its message
+
+fconfigure stdin -translation lf -encoding utf-8
+fconfigure stdout -translation lf -encoding utf-8
+
+proc shown {text} {
+    if {$text eq ""} {
+        return -
+    }
+    binary encode hex [encoding convertto utf-8 $text]
+}
+
+proc meant {word} {
+    if {$word eq "-"} {
+        return ""
+    }
+    encoding convertfrom utf-8 [binary decode hex $word]
+}
+
+proc all_shown {texts} {
+    join [lmap text $texts {shown $text}] ,
+}
+
+proc answer_list {text} {
+    if {[catch {llength $text} n]} {
+        return error
+    }
+    set elements {}
+    for {set i 0} {$i < $n} {incr i} {
+        lappend elements [lindex $text $i]
+    }
+    return "ok [all_shown $elements]"
+}
+
+# every command of a generated script has a name that is none of Tcl's, so this records it
+proc record {args} {
+    lappend ::commands [all_shown $args]
+    return ""
+}
+
+proc answer_script {text} {
+    set ::commands {}
+    if {[catch {interp eval words $text} message]} {
+        return "error $message"
+    }
+    return "ok [join $::commands {;}]"
+}
+
+interp create words
+interp eval words {
+    rename unknown {}
+    foreach name [info commands] {
+        if {$name ni {rename foreach if info}} {
+            rename $name {}
+        }
+    }
+    foreach name {foreach if info rename} {
+        rename $name {}
+    }
+}
+interp alias words unknown {} record
+
+proc answer {verb texts} {
+    switch -- $verb {
+        list {answer_list [lindex $texts 0]}
+        glob {string match [lindex $texts 0] [lindex $texts 1]}
+        script {answer_script [lindex $texts 0]}
+        value {
+            if {[catch $texts result]} {
+                return "error [shown $result]"
+            }
+            return "ok [shown $result]"
+        }
+        default {return "no verb $verb"}
+    }
+}
+
+while {[gets stdin line] >= 0} {
+    set words [split $line " "]
+    puts [answer [lindex $words 0] [lmap word [lrange $words 1 end] {meant $word}]]
+}

@@ -1,0 +1,105 @@
+"""Compares the calls of tcltext and tclvalue with a real tclsh over generated texts.
+
+The program `text_calls` and answers.tcl read the same calls from standard input, a line each, and write an answer a line.
+Each known difference stands in DIFFERENCES with the rule of the profile (docs/DEFINITIONS.md) that means it."""
+
+import random
+import subprocess
+import sys
+import os
+
+HERE = os.path.dirname(os.path.abspath(__file__))
+SEED = 20261122
+CASES = 10000
+SECONDS = 60
+SHOWN = 20
+
+
+def shown(text):
+    return text.encode().hex() or "-"
+
+
+def made(draw, alphabet, longest):
+    return "".join(draw.choice(alphabet) for _ in range(draw.randint(0, longest)))
+
+
+LIST = list("aab {}{}\"\\ \n\t") + ["\\x41", "\\u00e9", "\\101", "\\n", "é", "]", "$", ";", "#", "\\\n "]
+PATTERN = list("*?[]-\\abc") + ["[a-c]", "[c-a]", "é", "*a", "[^"]
+PATTERN_TEXT = list("abc]-^\\é")
+SCRIPT = list("aab {}\"\\ \n;#") + ["\\x41", "\\u00e9", "\\n", "{a b}", "\"a b\"", "\\\n ", "é"]
+
+
+def list_call(draw):
+    return "list " + shown(made(draw, LIST, 12))
+
+
+def glob_call(draw):
+    return f"glob {shown(made(draw, PATTERN, 6))} {shown(made(draw, PATTERN_TEXT, 6))}"
+
+
+def script_call(draw):
+    return "script " + shown(made(draw, SCRIPT, 14))
+
+
+GENERATORS = [list_call, glob_call, script_call]
+
+# The rules of the profile by which an answer differs from tclsh's: a name, and a test of call, our answer and tclsh's.
+DIFFERENCES = []
+
+
+def difference(rule):
+    """Adds a test of call, our answer and tclsh's to the known differences."""
+    def add(test):
+        DIFFERENCES.append((rule, test))
+        return test
+    return add
+
+
+FAULTS = {
+    "2": "missing close-brace",
+    "3": "missing \"",
+    "4": "missing close-bracket",
+    "5": "extra characters after close-",
+}
+
+
+def agree(call, ours, theirs):
+    """The answers mean the same: equal, or both an error, of the same kind where tclsh says which."""
+    if ours == theirs:
+        return True
+    if not (ours.startswith("fault ") and theirs.startswith("error")):
+        return False
+    if call.startswith("script "):
+        return theirs[6:].startswith(FAULTS.get(ours.split()[1], "no such message"))
+    return True
+
+
+def answers(command, calls):
+    ran = subprocess.run(command, input="\n".join(calls) + "\n", capture_output=True, encoding="utf-8", timeout=SECONDS, check=True)
+    return ran.stdout.split("\n")[: len(calls)]
+
+
+def main():
+    draw = random.Random(SEED)
+    calls = [generate(draw) for generate in GENERATORS for _ in range(CASES)]
+    ours = answers([sys.argv[1]], calls)
+    theirs = answers(["tclsh", os.path.join(HERE, "answers.tcl")], calls)
+    explained, failed = {}, []
+    for call, one, other in zip(calls, ours, theirs, strict=True):
+        if agree(call, one, other):
+            continue
+        rule = next((rule for rule, test in DIFFERENCES if test(call, one, other)), None)
+        if rule is None:
+            failed.append((call, one, other))
+        else:
+            explained[rule] = explained.get(rule, 0) + 1
+    for call, one, other in failed[:SHOWN]:
+        print(f"FAILED: {call}: {one!r}, tclsh {other!r}")
+    for rule, count in sorted(explained.items()):
+        print(f"{count} differ by the profile: {rule}")
+    print(f"{len(calls) - len(failed)} passed, {len(failed)} failed")
+    return 1 if failed else 0
+
+
+if __name__ == "__main__":
+    sys.exit(main())
