@@ -96,7 +96,7 @@ module _ {O : Type 0} (read_operand : ℕ → Text → Read (O × ℕ)) where
     -- and goes on behind one
     pub climb_operator : (n turns : ℕ) (x : Expr O × ℕ) (rest : Text) (i : Infix) (after : Text) → mark_at (after_white rest) ≡ Some (marks.Infix i, after) → level i ≤ n
         → climb_at read_operand d below n (suc turns) x rest
-          ≡ (if nat_lt x.1 d then below (chain (level i - 1)) after >>= (λ y. climb_at read_operand d below n turns (join i x y.0) y.1) else Err TooDeep)
+        ≡ (if nat_lt x.1 d then below (chain (level i - 1)) after >>= (λ y. climb_at read_operand d below n turns (join i x y.0) y.1) else Err TooDeep)
     climb_operator n turns x rest i after is within = let less = le_true (level i) n within in climb_turn n turns x rest (Some (marks.Infix i, after)) is ∙ passes less where
       passes : nat_le (level i) n ≡ true → next_at read_operand d below n (climb_at read_operand d below n turns) x rest after (Some i)
           ≡ (if nat_lt x.1 d then below (chain (level i - 1)) after >>= (λ y. climb_at read_operand d below n turns (join i x y.0) y.1) else Err TooDeep)
@@ -168,16 +168,19 @@ module _ (O : Type 0) (IsOperand : Text → Text → O → ℕ → Type 0) (read
       turns,
       omega arith,
       h' ∙ climb_goes read_operand (suc d) (below_at read_operand (suc d)) n turns x rest i after is within (omega arith)
-      ∙ ap (λ r. r >>= (λ y. climb_at read_operand (suc d) (below_at read_operand (suc d)) n turns (join i x y.0) y.1)) (below_chain read_operand d (level i - 1) after ∙ h),
+          ∙ ap (λ r. r >>= (λ y. climb_at read_operand (suc d) (below_at read_operand (suc d)) n turns (join i x y.0) y.1)) (below_chain read_operand d (level i - 1) after ∙ h),
     )
 
   mutual
     pub chain_again : {h n : ℕ} {ts : List (Token O)} {e : Expr O} → IsChain O h n ts e → (d m : ℕ) → h ≤ d → n ≤ m → (bs rest : Text) → IsRow O IsOperand bs rest ts → Follows n rest → Reaches d m bs (e, h) rest
     chain_again (single {h} o) d m deep above bs rest row f =
         let row_ends = row.2 in
-        let reads = again d (after_white bs) row.0 o h row.1.0 row.1.1 deep in
-        (suc (length rest), omega arith, chain_from read_operand d (below_at read_operand d) m bs (operand o, h) rest
-          (prefix_operand read_operand d (below_at read_operand d) bs (o, h) rest row.1.0 (reads ∙ ap (λ r. Ok ((o, h), r)) row_ends)))
+        let reads = again d (after_white bs) row.0 o h row.1.0 row.1.1 deep in (
+          suc (length rest),
+          omega arith,
+          chain_from read_operand d (below_at read_operand d) m bs (operand o, h) rest
+              (prefix_operand read_operand d (below_at read_operand d) bs (o, h) rest row.1.0 (reads ∙ ap (λ r. Ok ((o, h), r)) row_ends)),
+        )
     chain_again (in_parentheses ts is) zero m deep above bs rest row f = absurd (omega arith)
     chain_again (in_parentheses {h} ts {e} is) (suc d) m deep above bs rest row f =
         let cut = row_cut O IsOperand ts (mark marks.Close ∷ []) row.0 rest row.2 in
@@ -185,19 +188,22 @@ module _ (O : Type 0) (IsOperand : Text → Text → O → ℕ → Type 0) (read
         let closes : mark_at (after_white cut.0) ≡ Some (marks.Close, rest) = cut.2.1 ∙ ap (λ r. Some (marks.Close, r)) cut.2.2 in
         let inner = below_whole read_operand d row.0 ∙ expr_again is d (omega arith) row.0 cut.0 cut.1 (no_goes_on marks.Close cut.0 rest closes (λ h. h)) in
         let all : enclosed_at read_operand below row.0 ≡ Ok ((e, suc h), rest) =
-            ap (λ r. r >>= (λ x. expect is_close x.1 >>= (λ after. Ok ((x.0.0, suc x.0.1), after)))) inner
-            ∙ ap (λ r. expected is_close (length (after_white cut.0)) r >>= (λ after. Ok ((e, suc h), after))) closes
+        ap (λ r. r >>= (λ x. expect is_close x.1 >>= (λ after. Ok ((x.0.0, suc x.0.1), after)))) inner
+        ∙ ap (λ r. expected is_close (length (after_white cut.0)) r >>= (λ after. Ok ((e, suc h), after))) closes
         in
         (suc (length rest), omega arith, chain_from read_operand (suc d) below m bs (e, suc h) rest (prefix_marked read_operand (suc d) below bs marks.Open row.0 row.1 ∙ all))
     chain_again (signed u s is) zero m deep above bs rest row f = absurd (omega arith)
     chain_again (signed {h} {n} {m = k} u {ts} {e} s is) (suc d) m deep above bs rest row f =
         let below = below_at read_operand (suc d) in
         let inner : below (chain 1) row.0 ≡ Ok ((e, h), rest) =
-            below_chain read_operand d 1 row.0
-            ∙ reaches_end d 1 row.0 (e, h) rest (chain_again is d 1 (omega arith) (omega arith) row.0 rest row.2 (λ i more is. omega (arith, level_more i))) (λ i more is. omega (arith, level_more i))
-        in
-        (suc (length rest), omega arith, chain_from read_operand (suc d) below m bs (unary u e, suc h) rest
-          (prefix_marked read_operand (suc d) below bs k row.0 row.1 ∙ marked_sign read_operand (suc d) below (length (after_white bs)) k u row.0 s ∙ ap (read_map (λ (x : Expr O × ℕ). let made : Expr O × ℕ = (unary u x.0, suc x.1) in made)) inner))
+        below_chain read_operand d 1 row.0
+        ∙ reaches_end d 1 row.0 (e, h) rest (chain_again is d 1 (omega arith) (omega arith) row.0 rest row.2 (λ i more is. omega (arith, level_more i))) (λ i more is. omega (arith, level_more i))
+        in (
+          suc (length rest),
+          omega arith,
+          chain_from read_operand (suc d) below m bs (unary u e, suc h) rest
+              (prefix_marked read_operand (suc d) below bs k row.0 row.1 ∙ marked_sign read_operand (suc d) below (length (after_white bs)) k u row.0 s ∙ ap (read_map (λ (x : Expr O × ℕ). let made : Expr O × ℕ = (unary u x.0, suc x.1) in made)) inner),
+        )
     chain_again (joining i ls rs within l r) zero m deep above bs rest row f = absurd (omega arith)
     chain_again (joining {h} {j} {n} i ls rs {l = x} {r = y} within l r) (suc d) m deep above bs rest row f =
         let cut = row_cut O IsOperand ls (mark (marks.Infix i) ∷ rs) bs rest row in
@@ -205,8 +211,8 @@ module _ (O : Type 0) (IsOperand : Text → Text → O → ℕ → Type 0) (read
         let left = chain_again l (suc d) m (omega arith) (omega arith) bs cut.0 cut.1 (operator_follows i cut.0 after cut.2.1) in
         let more = level_more i in
         let right = reaches_end d (level i - 1) after (y, j) rest
-            (chain_again r d (level i - 1) (omega arith) (omega arith) after rest cut.2.2 (follows_less (level i - 1) n rest (omega arith) f))
-            (follows_less (suc (level i - 1)) n rest (omega arith) f)
+        (chain_again r d (level i - 1) (omega arith) (omega arith) after rest cut.2.2 (follows_less (level i - 1) n rest (omega arith) f))
+        (follows_less (suc (level i - 1)) n rest (omega arith) f)
         in
         reaches_more d m bs (x, h) cut.0 left i after cut.2.1 (omega arith) (omega arith) (y, j) rest right (row_shorter O IsOperand shorter (mark (marks.Infix i)) rs cut.0 rest cut.2)
 

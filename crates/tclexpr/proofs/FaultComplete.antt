@@ -61,13 +61,13 @@ module _ {O : Type 0} (read_operand : ℕ → Text → Read (O × ℕ)) (d : ℕ
   sign_err : (n : ℕ) (bs : Text) (m : Mark) (u : UnaryOperator) (after : Text) (f : Fault) → mark_at (after_white bs) ≡ Some (m, after) → sign_of m ≡ Some u → below (chain 1) after ≡ Err f → chain_at read_operand d below n bs ≡ Err f
   sign_err n bs m u after f is s h =
       prefix_err n bs f (prefix_marked read_operand d below bs m after is ∙ marked_sign read_operand d below (length (after_white bs)) m u after s
-        ∙ ap (read_map (λ (x : Expr O × ℕ). let made : Expr O × ℕ = (unary u x.0, suc x.1) in made)) h)
+      ∙ ap (read_map (λ (x : Expr O × ℕ). let made : Expr O × ℕ = (unary u x.0, suc x.1) in made)) h)
 
   other_err : (n : ℕ) (bs : Text) (m : Mark) (after : Text) → mark_at (after_white bs) ≡ Some (m, after) → (Begins m → ⊥) → chain_at read_operand d below n bs ≡ Err (bad_next bs)
   other_err n bs m after is none =
       let two = no_begin m none in
       prefix_err n bs (bad_next bs) (prefix_marked read_operand d below bs m after is ∙ marked_other read_operand d below (length (after_white bs)) m after two.0
-        ∙ ap (signed_at read_operand below (length (after_white bs)) after) two.1)
+      ∙ ap (signed_at read_operand below (length (after_white bs)) after) two.1)
 
   choosing_deep : (x : Expr O × ℕ) (rest after : Text) → mark_at (after_white rest) ≡ Some (marks.Question, after) → d ≤ x.1 → choosing_at read_operand d below x rest (mark_at (after_white rest)) ≡ Err TooDeep
   choosing_deep x rest after is tall = ap (choosing_at read_operand d below x rest) is ∙ (let t : nat_lt x.1 d ≡ false = lt_false x.1 d tall in rw t refl)
@@ -104,7 +104,7 @@ module _ (O : Type 0) (IsOperand : Text → Text → O → ℕ → Type 0) (Oper
   -- the condition of a choice, read
   first_read : (d h : ℕ) (bs : Text) (cs us : List (Token O)) (c : Expr O) (last : Text) → IsChain O h 13 cs c → h ≤ d → IsRow O IsOperand bs last (cs ++ mark marks.Question ∷ us)
       → (rest : Text) × (after : Text) × (mark_at (after_white rest) ≡ Some (marks.Question, after)) × IsRow O IsOperand after last us
-        × (whole_at read_operand d (below_at read_operand d) bs ≡ choosing_at read_operand d (below_at read_operand d) (c, h) rest (mark_at (after_white rest)))
+      × (whole_at read_operand d (below_at read_operand d) bs ≡ choosing_at read_operand d (below_at read_operand d) (c, h) rest (mark_at (after_white rest)))
   first_read d h bs cs us c last is deep row =
       let cut = row_cut O IsOperand cs (mark marks.Question ∷ us) bs last row in
       let asks : mark_at (after_white cut.0) ≡ Some (marks.Question, cut.2.0) = cut.2.1 in
@@ -155,9 +155,9 @@ module _ (O : Type 0) (IsOperand : Text → Text → O → ℕ → Type 0) (Oper
         prefix_err read_operand d (below_at read_operand d) n bs f (operand_err read_operand d (below_at read_operand d) bs f none (operand_met d (after_white bs) f none h))
     chain_met (no_operand {d} {n} {bs} m after is none) = other_err read_operand d (below_at read_operand d) n bs m after is none
     chain_met (deep_prefix {n} {bs} m after is begins) = elim begins [
-        inl e ↦ open_err read_operand 0 (below_at read_operand 0) n bs after TooDeep (is ∙ ap (λ m. Some (m, after)) e) (enclosed_err read_operand 0 (below_at read_operand 0) after TooDeep (too_deep whole after))
+      | inl e ↦ open_err read_operand 0 (below_at read_operand 0) n bs after TooDeep (is ∙ ap (λ m. Some (m, after)) e) (enclosed_err read_operand 0 (below_at read_operand 0) after TooDeep (too_deep whole after))
       | inr s ↦ sign_err read_operand 0 (below_at read_operand 0) n bs m s.0 after TooDeep is s.1 (too_deep (chain 1) after)
-      ]
+    ]
     chain_met (in_signed {d} {n} {bs} {f} m u after is s h) = sign_err read_operand (suc d) (below_at read_operand (suc d)) n bs m u after f is s (below_chain read_operand d 1 after ∙ chain_met h)
     chain_met (in_open {d} {n} {bs} {f} after is h) =
         let below = below_at read_operand (suc d) in
@@ -166,8 +166,8 @@ module _ (O : Type 0) (IsOperand : Text → Text → O → ℕ → Type 0) (Oper
         let below = below_at read_operand (suc d) in
         let read = below_whole read_operand d row.0 ∙ expr_again O IsOperand read_operand again shorter is d deep row.0 after row.2 (ends_left marks.Close after none) in
         let all : enclosed_at read_operand below row.0 ≡ Err (bad_next after) =
-            ap (λ r. r >>= (λ x. expect is_close x.1 >>= (λ after. Ok ((x.0.0, suc x.0.1), after)))) read
-            ∙ ap (λ r. r >>= (λ after. Ok ((e, suc h), after))) (expect_err is_close marks.Close close_is after none)
+        ap (λ r. r >>= (λ x. expect is_close x.1 >>= (λ after. Ok ((x.0.0, suc x.0.1), after)))) read
+        ∙ ap (λ r. r >>= (λ after. Ok ((e, suc h), after))) (expect_err is_close marks.Close close_is after none)
         in
         open_err read_operand (suc d) below n bs row.0 (bad_next after) row.1 all
     chain_met (deep_operator {d} {n} {bs} i ls l after within is row) =

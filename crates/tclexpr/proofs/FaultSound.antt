@@ -82,10 +82,10 @@ module _ (O : Type 0) (IsOperand : Text → Text → O → ℕ → Type 0) (Oper
       enclosed_faulty : (n : ℕ) (bs after : Text) (f : Fault) → mark_at (after_white bs) ≡ Some (marks.Open, after) → enclosed_at read_operand below after ≡ Err f → ChainFault O IsOperand OperandFault d n bs f
       enclosed_faulty n bs after f is h =
           elim (bind_err (below whole after) (λ x. expect is_close x.1 >>= (λ after. Ok ((x.0.0, suc x.0.1), after))) f h) [
-            inl e ↦ enclosed_below d n faulty bs after f is e
-          | inr y ↦ elim (bind_err (expect is_close y.0.1) (λ (after : Text). let ok : Result ((Expr O × ℕ) × Text) Fault = Ok ((y.0.0.0, suc y.0.0.1), after) in ok) f y.2) [
-              inl e ↦ enclosed_open d n bs after y.0.0 y.0.1 f is (sound whole after y.0.0 y.0.1 y.1) e
-            | inr z ↦ absurd (no_ok {A = (Expr O × ℕ) × Text} ((y.0.0.0, suc y.0.0.1), z.0) f z.2)
+            | inl e ↦ enclosed_below d n faulty bs after f is e
+            | inr y ↦ elim (bind_err (expect is_close y.0.1) (λ (after : Text). let ok : Result ((Expr O × ℕ) × Text) Fault = Ok ((y.0.0.0, suc y.0.0.1), after) in ok) f y.2) [
+              | inl e ↦ enclosed_open d n bs after y.0.0 y.0.1 f is (sound whole after y.0.0 y.0.1 y.1) e
+              | inr z ↦ absurd (no_ok {A = (Expr O × ℕ) × Text} ((y.0.0.0, suc y.0.0.1), z.0) f z.2)
             ]
           ]
 
@@ -110,14 +110,14 @@ module _ (O : Type 0) (IsOperand : Text → Text → O → ℕ → Type 0) (Oper
       deep_here n bs x rest t i after is within tall =
           let all : x.1 ≡ d = omega (arith, t.deep) in
           deep_operator i t.tokens x.0 after within (subst (λ h. IsChain O h (level i) t.tokens x.0) all (chain_weaker t.is (level i) (t.follows i after is)))
-            (row_join O IsOperand t.tokens (mark (marks.Infix i) ∷ []) bs rest after t.row (after, is, refl))
+          (row_join O IsOperand t.tokens (mark (marks.Infix i) ∷ []) bs rest after t.row (after, is, refl))
 
       right_here : (k n : ℕ) (bs : Text) (x : Expr O × ℕ) (rest : Text) → k ≡ d → Front n bs x rest → (i : Infix) (after : Text) → mark_at (after_white rest) ≡ Some (marks.Infix i, after) → level i ≤ n → x.1 < k → (f : Fault)
           → BelowFault k (chain (level i - 1)) after f → ChainFault O IsOperand OperandFault k n bs f
       right_here zero n bs x rest same t i after is within less f h = absurd (omega arith)
       right_here (suc k) n bs x rest same t i after is within less f h =
           in_right i t.tokens x.0 x.1 after within (chain_weaker t.is (level i) (t.follows i after is)) (omega arith)
-            (row_join O IsOperand t.tokens (mark (marks.Infix i) ∷ []) bs rest after t.row (after, is, refl)) h
+          (row_join O IsOperand t.tokens (mark (marks.Infix i) ∷ []) bs rest after t.row (after, is, refl)) h
 
       -- what a turn of the loop does with a fault
       abbrev Rests : ℕ → Text → ℕ → (Expr O × ℕ → Text → Read (Expr O × ℕ)) → Type 0
@@ -128,12 +128,12 @@ module _ (O : Type 0) (IsOperand : Text → Text → O → ℕ → Type 0) (Oper
           → cond s (below (chain (level i - 1)) after >>= (λ y. more (join i x y.0) y.1)) (Err TooDeep) ≡ Err f → ChainFault O IsOperand OperandFault d n bs f
       operator_faulty n bs turns more all x rest t enough i after is within f true s h =
           elim (bind_err (below (chain (level i - 1)) after) (λ y. more (join i x y.0) y.1) f h) [
-            inl e ↦ right_here d n bs x rest refl t i after is within (lt_is x.1 d s) f (faulty (chain (level i - 1)) after f e)
-          | inr y ↦ (
-              let r = sound (chain (level i - 1)) after y.0.0 y.0.1 y.1 in
-              all (join i x y.0.0) y.0.1 (front_more O IsOperand read_operand operand_sound d below sound n bs x rest t i after is within (lt_is x.1 d s) y.0.0 y.0.1 y.1)
+            | inl e ↦ right_here d n bs x rest refl t i after is within (lt_is x.1 d s) f (faulty (chain (level i - 1)) after f e)
+            | inr y ↦ (
+                let r = sound (chain (level i - 1)) after y.0.0 y.0.1 y.1 in
+                all (join i x y.0.0) y.0.1 (front_more O IsOperand read_operand operand_sound d below sound n bs x rest t i after is within (lt_is x.1 d s) y.0.0 y.0.1 y.1)
                 (omega (arith, row_no_longer O IsOperand shorter r.tokens after y.0.1 r.row, mark_shorter (after_white rest) (marks.Infix i) after is, after_white_no_longer rest)) f y.2
-            )
+                )
           ]
       operator_faulty n bs turns more all x rest t enough i after is within f false s h =
           subst (ChainFault O IsOperand OperandFault d n bs) (one_err {A = (Expr O × ℕ) × Text} TooDeep f h) (deep_here n bs x rest t i after is within (lt_not x.1 d s))
@@ -161,9 +161,9 @@ module _ (O : Type 0) (IsOperand : Text → Text → O → ℕ → Type 0) (Oper
       unfolding chain_at
       chain_faulty n bs f h =
           elim (bind_err (prefix_at read_operand d below bs) (λ x. climb_at read_operand d below n (suc (length x.1)) x.0 x.1) f h) [
-            inl e ↦ prefix_faulty n bs f e
-          | inr y ↦ climb_faulty n bs (suc (length y.0.1)) y.0.0 y.0.1
-              (prefix_front O IsOperand read_operand operand_sound d below sound n bs y.0.0 y.0.1 (prefix_sound O IsOperand read_operand operand_sound d below sound bs y.0.0 y.0.1 y.1)) (omega arith) f y.2
+            | inl e ↦ prefix_faulty n bs f e
+            | inr y ↦ climb_faulty n bs (suc (length y.0.1)) y.0.0 y.0.1
+                (prefix_front O IsOperand read_operand operand_sound d below sound n bs y.0.0 y.0.1 (prefix_sound O IsOperand read_operand operand_sound d below sound bs y.0.0 y.0.1 y.1)) (omega arith) f y.2
           ]
 
       abbrev First : Text → Expr O × ℕ → Text → Type 0
@@ -189,7 +189,7 @@ module _ (O : Type 0) (IsOperand : Text → Text → O → ℕ → Type 0) (Oper
           let e = expected_err is_colon (length (after_white end)) (mark_at (after_white end)) f h in
           subst (ExprFault O IsOperand OperandFault (suc k) bs) e.0
           (no_colon t.tokens x.0 x.1 r.tokens y.0 y.1 end t.is (omega arith) r.is (omega (arith, r.deep))
-            (row_join O IsOperand t.tokens (mark marks.Question ∷ r.tokens) bs rest end t.row (after, is, r.row)) (goes_or marks.Colon is_colon refl end r.ends e.1))
+          (row_join O IsOperand t.tokens (mark marks.Question ∷ r.tokens) bs rest end t.row (after, is, r.row)) (goes_or marks.Colon is_colon refl end r.ends e.1))
 
       no_here : (k : ℕ) (bs : Text) (x : Expr O × ℕ) (rest : Text) → k ≡ d → First bs x rest → (after : Text) → mark_at (after_white rest) ≡ Some (marks.Question, after) → x.1 < k
           → (y : Expr O × ℕ) (end : Text) → TookWhole O IsOperand k after y end → (last : Text) → expect is_colon end ≡ Ok last → (f : Fault) → BelowFault k whole last f → ExprFault O IsOperand OperandFault k bs f
@@ -199,18 +199,18 @@ module _ (O : Type 0) (IsOperand : Text → Text → O → ℕ → Type 0) (Oper
           let parts : mark_at (after_white end) ≡ Some (marks.Colon, last) = c.1 ∙ ap (λ m. Some (m, last)) (colon_is c.0 c.2) in
           let behind : IsRow O IsOperand after last (r.tokens ++ mark marks.Colon ∷ []) = row_join O IsOperand r.tokens (mark marks.Colon ∷ []) after end last r.row (last, parts, refl) in
           in_no t.tokens x.0 x.1 r.tokens y.0 y.1 last t.is (omega arith) r.is (omega (arith, r.deep))
-            (row_join O IsOperand t.tokens (mark marks.Question ∷ (r.tokens ++ mark marks.Colon ∷ [])) bs rest last t.row (after, is, behind)) h
+          (row_join O IsOperand t.tokens (mark marks.Question ∷ (r.tokens ++ mark marks.Colon ∷ [])) bs rest last t.row (after, is, behind)) h
 
       branches_faulty : (bs : Text) (x : Expr O × ℕ) (rest : Text) → First bs x rest → (after : Text) → mark_at (after_white rest) ≡ Some (marks.Question, after) → x.1 < d → (f : Fault)
           → branches_at read_operand below x after ≡ Err f → ExprFault O IsOperand OperandFault d bs f
       branches_faulty bs x rest t after is less f h =
           elim (bind_err (below whole after) (λ y. expect is_colon y.1 >>= (λ after. below whole after >>= (λ z. Ok ((choice x.0 y.0.0 z.0.0, suc (max x.1 (max y.0.1 z.0.1))), z.1)))) f h) [
-            inl e ↦ yes_here d bs x rest refl t after is less f (faulty whole after f e)
-          | inr y ↦ elim (bind_err (expect is_colon y.0.1) (λ after. below whole after >>= (λ z. Ok ((choice x.0 y.0.0.0 z.0.0, suc (max x.1 (max y.0.0.1 z.0.1))), z.1))) f y.2) [
-              inl e ↦ colon_here d bs x rest refl t after is less y.0.0 y.0.1 (sound whole after y.0.0 y.0.1 y.1) f e
-            | inr k ↦ elim (bind_err (below whole k.0) (λ (z : (Expr O × ℕ) × Text). let ok : Result ((Expr O × ℕ) × Text) Fault = Ok ((choice x.0 y.0.0.0 z.0.0, suc (max x.1 (max y.0.0.1 z.0.1))), z.1) in ok) f k.2) [
-                inl e ↦ no_here d bs x rest refl t after is less y.0.0 y.0.1 (sound whole after y.0.0 y.0.1 y.1) k.0 k.1 f (faulty whole k.0 f e)
-              | inr z ↦ absurd (no_ok {A = (Expr O × ℕ) × Text} ((choice x.0 y.0.0.0 z.0.0.0, suc (max x.1 (max y.0.0.1 z.0.0.1))), z.0.1) f z.2)
+            | inl e ↦ yes_here d bs x rest refl t after is less f (faulty whole after f e)
+            | inr y ↦ elim (bind_err (expect is_colon y.0.1) (λ after. below whole after >>= (λ z. Ok ((choice x.0 y.0.0.0 z.0.0, suc (max x.1 (max y.0.0.1 z.0.1))), z.1))) f y.2) [
+              | inl e ↦ colon_here d bs x rest refl t after is less y.0.0 y.0.1 (sound whole after y.0.0 y.0.1 y.1) f e
+              | inr k ↦ elim (bind_err (below whole k.0) (λ (z : (Expr O × ℕ) × Text). let ok : Result ((Expr O × ℕ) × Text) Fault = Ok ((choice x.0 y.0.0.0 z.0.0, suc (max x.1 (max y.0.0.1 z.0.1))), z.1) in ok) f k.2) [
+                | inl e ↦ no_here d bs x rest refl t after is less y.0.0 y.0.1 (sound whole after y.0.0 y.0.1 y.1) k.0 k.1 f (faulty whole k.0 f e)
+                | inr z ↦ absurd (no_ok {A = (Expr O × ℕ) × Text} ((choice x.0 y.0.0.0 z.0.0.0, suc (max x.1 (max y.0.0.1 z.0.0.1))), z.0.1) f z.2)
               ]
             ]
           ]
@@ -231,8 +231,8 @@ module _ (O : Type 0) (IsOperand : Text → Text → O → ℕ → Type 0) (Oper
       unfolding whole_at
       whole_faulty bs f h =
           elim (bind_err (chain_at read_operand d below 13 bs) (λ x. choosing_at read_operand d below x.0 x.1 (mark_at (after_white x.1))) f h) [
-            inl e ↦ in_condition (chain_faulty 13 bs f e)
-          | inr y ↦ choosing_faulty bs y.0.0 y.0.1 (chain_sound O IsOperand read_operand operand_sound d below sound 13 bs y.0.0 y.0.1 y.1) f (mark_at (after_white y.0.1)) refl y.2
+            | inl e ↦ in_condition (chain_faulty 13 bs f e)
+            | inr y ↦ choosing_faulty bs y.0.0 y.0.1 (chain_sound O IsOperand read_operand operand_sound d below sound 13 bs y.0.0 y.0.1 y.1) f (mark_at (after_white y.0.1)) refl y.2
           ]
 
   below_faulty : (d : ℕ) → FaultBelow d (below_at read_operand d)
@@ -252,10 +252,10 @@ module _ (O : Type 0) (IsOperand : Text → Text → O → ℕ → Type 0) (Oper
       let below = below_at read_operand d in
       let sound = below_sound O IsOperand read_operand operand_sound d in
       elim (bind_err (whole_at read_operand d below bs) (λ x. ended x.0.0 (after_white x.1)) f h) [
-        inl e ↦ inside (whole_faulty below d sound (below_faulty d) bs f e)
-      | inr y ↦ (
-          let t = whole_sound O IsOperand read_operand operand_sound d below sound bs y.0.0 y.0.1 y.1 in
-          let e = ended_err y.0.0.0 (after_white y.0.1) f y.2 in
-          subst (ExprTextFault O IsOperand OperandFault d bs) e.0 (left_over t.tokens y.0.0.0 y.0.0.1 y.0.1 t.is (omega (arith, t.deep)) t.row t.ends e.1)
-        )
+        | inl e ↦ inside (whole_faulty below d sound (below_faulty d) bs f e)
+        | inr y ↦ (
+            let t = whole_sound O IsOperand read_operand operand_sound d below sound bs y.0.0 y.0.1 y.1 in
+            let e = ended_err y.0.0.0 (after_white y.0.1) f y.2 in
+            subst (ExprTextFault O IsOperand OperandFault d bs) e.0 (left_over t.tokens y.0.0.0 y.0.0.1 y.0.1 t.is (omega (arith, t.deep)) t.row t.ends e.1)
+            )
       ]

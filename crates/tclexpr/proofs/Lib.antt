@@ -10,3 +10,4 @@ pub mod OperandSound
 pub mod Turns
 pub mod Steps
 pub mod Heights
+pub mod OperandSteps

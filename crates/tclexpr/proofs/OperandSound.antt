@@ -69,11 +69,11 @@ pub data Opening (bs : Text) : Type 0 where
 
 pub opening : (bs : Text) → Opening bs
 opening bs = elim (script_marks.mark_at 36 bs) [
-  inl k ↦ dollar k.0 k.1
+  | inl k ↦ dollar k.0 k.1
   | inr w ↦ elim (script_marks.mark_at 91 bs) [
-    inl k ↦ square k.0 k.1
+    | inl k ↦ square k.0 k.1
     | inr x ↦ elim (script_marks.mark_at 34 bs) [
-      inl k ↦ quote k.0 k.1
+      | inl k ↦ quote k.0 k.1
       | inr y ↦ elim (script_marks.mark_at 123 bs) [ inl k ↦ brace k.0 k.1 | inr z ↦ other w x y z ]
     ]
   ]

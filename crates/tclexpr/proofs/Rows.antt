@@ -43,7 +43,7 @@ symbol_shorter (b ∷ (c ∷ bs)) m r h = by_test (b == 42 && c == 42) h where
   by_test : (t : Bool) → cond t None (longest (before bs (two_bytes b c)) (before (c ∷ bs) (one_byte b))) ≡ Some (m, r) → length r < suc (suc (length bs))
   by_test true h = cc
   by_test false h = elim (longest_found (before bs (two_bytes b c)) (before (c ∷ bs) (one_byte b)) (m, r) h) [
-      inl k ↦ (let two = before_found bs (two_bytes b c) m r k in let e : length r ≡ length bs = ap length two.1 in omega arith)
+    | inl k ↦ (let two = before_found bs (two_bytes b c) m r k in let e : length r ≡ length bs = ap length two.1 in omega arith)
     | inr k ↦ (let two = before_found (c ∷ bs) (one_byte b) m r k in let e : length r ≡ suc (length bs) = ap length two.1 in omega arith)
   ]
 
@@ -54,13 +54,13 @@ word_some (b ∷ bs) m h = omega arith
 pub mark_shorter : (bs : Text) (m : Mark) (r : Text) → mark_at bs ≡ Some (m, r) → length r < length bs
 unfolding mark_at
 mark_shorter bs m r h = elim (longest_found (before (back is_name bs) (word_mark (front is_name bs))) (symbol_at bs) (m, r) h) [
-    inl k ↦ (
+  | inl k ↦ (
       let two = before_found (back is_name bs) (word_mark (front is_name bs)) m r k in
       let some : 0 < length (front is_name bs) = word_some (front is_name bs) m two.0 in
       let e : length r ≡ length (back is_name bs) = ap length two.1 in
       let all : length bs ≡ length (front is_name bs ++ back is_name bs) = ap length (front_back is_name bs) in
       omega (arith, length-append (front is_name bs) (back is_name bs))
-    )
+      )
   | inr k ↦ symbol_shorter bs m r k
 ]
 

@@ -339,7 +339,7 @@ module _ (O : Type 0) (IsOperand : Text → Text → O → ℕ → Type 0) where
           let made : TookWhole (suc d) bs (choice x.0 y.0.0.0 z.0.0.0, suc (max x.1 (max y.0.0.1 z.0.0.1))) z.0.1 = record {
             tokens = t.tokens ++ mark marks.Question ∷ (ty.tokens ++ mark marks.Colon ∷ tz.tokens);
             row = row_join O IsOperand t.tokens (mark marks.Question ∷ (ty.tokens ++ mark marks.Colon ∷ tz.tokens)) bs rest z.0.1 t.row
-              (after, is, row_join O IsOperand ty.tokens (mark marks.Colon ∷ tz.tokens) after y.0.1 z.0.1 ty.row last);
+                (after, is, row_join O IsOperand ty.tokens (mark marks.Colon ∷ tz.tokens) after y.0.1 z.0.1 ty.row last);
             is = choosing t.tokens ty.tokens tz.tokens t.is ty.is tz.is;
             deep = omega (arith, ty.deep, tz.deep);
             ends = tz.ends;
@@ -362,7 +362,7 @@ module _ (O : Type 0) (IsOperand : Text → Text → O → ℕ → Type 0) where
         by_question false s h =
             let two = ok_pair (x, rest) (y, end) h in
             subst (λ x. TookWhole (suc d) bs x end) two.0 (subst (λ r. TookWhole (suc d) bs x r) two.1 (expression_ends bs x rest t
-              (λ after is'. true_false (sym (ap is_question (found_once (mark_at (after_white rest)) p.0 marks.Question p.1 after is is').0) ∙ s))))
+            (λ after is'. true_false (sym (ap is_question (found_once (mark_at (after_white rest)) p.0 marks.Question p.1 after is is').0) ∙ s))))
 
       pub whole_sound : (bs : Text) (x : Expr O × ℕ) (rest : Text) → whole_at read_operand d below bs ≡ Ok (x, rest) → TookWhole (suc d) bs x rest
       unfolding whole_at

@@ -46,14 +46,14 @@ symbol_end (b ∷ (c ∷ bs)) m r h = by_test (b == 42 && c == 42) h where
   by_test : (t : Bool) → cond t None (longest (before bs (two_bytes b c)) (before (c ∷ bs) (one_byte b))) ≡ Some (m, r) → IsEndOf (b ∷ (c ∷ bs)) r
   by_test true h = cc
   by_test false h = elim (longest_found (before bs (two_bytes b c)) (before (c ∷ bs) (one_byte b)) (m, r) h) [
-      inl k ↦ (let two = before_found bs (two_bytes b c) m r k in subst (IsEndOf (b ∷ (c ∷ bs))) (sym two.1) (b ∷ (c ∷ []), refl))
+    | inl k ↦ (let two = before_found bs (two_bytes b c) m r k in subst (IsEndOf (b ∷ (c ∷ bs))) (sym two.1) (b ∷ (c ∷ []), refl))
     | inr k ↦ (let two = before_found (c ∷ bs) (one_byte b) m r k in subst (IsEndOf (b ∷ (c ∷ bs))) (sym two.1) (b ∷ [], refl))
   ]
 
 mark_end_here : (bs : Text) (m : Mark) (r : Text) → mark_at bs ≡ Some (m, r) → IsEndOf bs r
 unfolding mark_at
 mark_end_here bs m r h = elim (longest_found (before (back is_name bs) (word_mark (front is_name bs))) (symbol_at bs) (m, r) h) [
-    inl k ↦ subst (IsEndOf bs) (sym (before_found (back is_name bs) (word_mark (front is_name bs)) m r k).1) (back_end is_name bs)
+  | inl k ↦ subst (IsEndOf bs) (sym (before_found (back is_name bs) (word_mark (front is_name bs)) m r k).1) (back_end is_name bs)
   | inr k ↦ symbol_end bs m r k
 ]
 
@@ -132,17 +132,17 @@ split d h n bs more false = refl
 
 turn : (d n : ℕ) (bs : Text) (x : Tall Operand) (rest : Text) → ChainSoFar d n bs x rest → (i : Infix) (after : Text) → mark_at (after_white rest) ≡ Some (marks.Infix i, after) → level i ≤ n
     → (turns : ℕ) × (length rest ≤ turns)
-      × (chain_at operand_at d (below_at operand_at d) n bs ≡ (right_at d x.1 (level i - 1) after >>= (λ y. climb_at operand_at d (below_at operand_at d) n turns (join i x y.0) y.1)))
+    × (chain_at operand_at d (below_at operand_at d) n bs ≡ (right_at d x.1 (level i - 1) after >>= (λ y. climb_at operand_at d (below_at operand_at d) n turns (join i x y.0) y.1)))
 turn d n bs x rest s i after found within = go s.turns s.enough s.is where
   go : (turns : ℕ) → length rest < turns → chain_at operand_at d (below_at operand_at d) n bs ≡ climb_at operand_at d (below_at operand_at d) n turns x rest
       → (turns : ℕ) × (length rest ≤ turns)
-        × (chain_at operand_at d (below_at operand_at d) n bs ≡ (right_at d x.1 (level i - 1) after >>= (λ y. climb_at operand_at d (below_at operand_at d) n turns (join i x y.0) y.1)))
+      × (chain_at operand_at d (below_at operand_at d) n bs ≡ (right_at d x.1 (level i - 1) after >>= (λ y. climb_at operand_at d (below_at operand_at d) n turns (join i x y.0) y.1)))
   go zero enough is = absurd (omega arith)
   go (suc turns) enough is = (
     turns,
     omega arith,
     is ∙ climb_operator operand_at d (below_at operand_at d) n turns x rest i after found within
-    ∙ split d x.1 (level i - 1) after (λ y. climb_at operand_at d (below_at operand_at d) n turns (join i x y.0) y.1) (nat_lt x.1 d),
+        ∙ split d x.1 (level i - 1) after (λ y. climb_at operand_at d (below_at operand_at d) n turns (join i x y.0) y.1) (nat_lt x.1 d),
   )
 
 pub chain-fail : (d n : ℕ) (bs : Text) (x : Tall Operand) (rest : Text) → ChainSoFar d n bs x rest → (i : Infix) (after : Text) → mark_at (after_white rest) ≡ Some (marks.Infix i, after) → level i ≤ n

@@ -6,4 +6,5 @@ pub mod Faults
 pub mod Reading
 pub mod Operands
 pub mod OperandGrammar
+pub mod Text
 pub mod View

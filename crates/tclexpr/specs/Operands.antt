@@ -102,10 +102,15 @@ is_front [] bs = true
 is_front (a ∷ xs) [] = false
 is_front (a ∷ xs) (b ∷ bs) = (lower a == b) && is_front xs bs
 
+abbrev pub begins_truth : Text → Bool
+begins_truth bs =
+    is_front bs (116 ∷ (114 ∷ (117 ∷ (101 ∷ [])))) || is_front bs (102 ∷ (97 ∷ (108 ∷ (115 ∷ (101 ∷ []))))) || is_front bs (121 ∷ (101 ∷ (115 ∷ []))) || is_front bs (110 ∷ (111 ∷ []))
+
+abbrev pub begins_switch : Text → Bool
+begins_switch bs = is_front bs (111 ∷ (110 ∷ [])) || is_front bs (111 ∷ (102 ∷ (102 ∷ [])))
+
 unfoldable pub is_truth : Text → Bool
-is_truth bs =
-    (nat_le 1 (length bs) && (is_front bs (116 ∷ (114 ∷ (117 ∷ (101 ∷ [])))) || is_front bs (102 ∷ (97 ∷ (108 ∷ (115 ∷ (101 ∷ []))))) || is_front bs (121 ∷ (101 ∷ (115 ∷ []))) || is_front bs (110 ∷ (111 ∷ []))))
-    || (nat_le 2 (length bs) && (is_front bs (111 ∷ (110 ∷ [])) || is_front bs (111 ∷ (102 ∷ (102 ∷ [])))))
+is_truth bs = (nat_le 1 (length bs) && begins_truth bs) || (nat_le 2 (length bs) && begins_switch bs)
 
 -- Operands
 
@@ -152,5 +157,5 @@ numeric bs (Some rest) = Ok ((number (taken bs rest), 0), rest)
 unfoldable pub operand_at : ℕ → Text → Read (Operand × ℕ)
 operand_at d bs =
     on_mark 36 bs (variable_at d (length bs))
-      (on_mark 91 bs (script_at d (length bs))
-        (on_mark 34 bs (quoted_at d) (on_mark 123 bs braced_text_at (numeric bs (after_number bs)))))
+    (on_mark 91 bs (script_at d (length bs))
+    (on_mark 34 bs (quoted_at d) (on_mark 123 bs braced_text_at (numeric bs (after_number bs)))))

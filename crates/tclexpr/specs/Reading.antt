@@ -96,7 +96,7 @@ module _ {O : Type 0} (read_operand : ℕ → Text → Read (O × ℕ)) where
   next_at d below n more x bs rest None = Ok (x, bs)
   next_at d below n more x bs rest (Some i) =
       if nat_le (level i) n then
-        if nat_lt x.1 d then below (chain (level i - 1)) rest >>= (λ y. more (join i x y.0) y.1) else Err TooDeep
+      if nat_lt x.1 d then below (chain (level i - 1)) rest >>= (λ y. more (join i x y.0) y.1) else Err TooDeep
       else Ok (x, bs)
 
   abbrev pub going_at : ℕ → (Extent → Text → Read (Tall O)) → ℕ → (Tall O → Text → Read (Tall O)) → Tall O → Text → Option (Mark × Text) → Read (Tall O)
@@ -123,7 +123,7 @@ module _ {O : Type 0} (read_operand : ℕ → Text → Read (O × ℕ)) where
   choosing_at d below x bs None = Ok (x, bs)
   choosing_at d below x bs (Some p) =
       if is_question p.0 then
-        if nat_lt x.1 d then branches_at below x p.1 else Err TooDeep
+      if nat_lt x.1 d then branches_at below x p.1 else Err TooDeep
       else Ok (x, bs)
 
   unfoldable pub whole_at : ℕ → (Extent → Text → Read (Tall O)) → Text → Read (Tall O)

@@ -8,8 +8,12 @@ mod numbers;
 mod operand;
 mod operators;
 mod reading;
+#[cfg(test)]
+mod tests;
+mod text;
 mod tree;
 
 pub use laws::one_expression;
 pub use operators::{BinaryOperator, Infix, Mark, UnaryOperator};
+pub use text::{parse_expr, parse_expr_pieces};
 pub use tree::{Expr, Operand};

@@ -123,7 +123,10 @@ fn operator_level(operator: BinaryOperator) -> usize
         BinaryOperator::Multiply | BinaryOperator::Divide | BinaryOperator::Remainder => 2,
         BinaryOperator::Add | BinaryOperator::Subtract => 3,
         BinaryOperator::ShiftLeft | BinaryOperator::ShiftRight => 4,
-        BinaryOperator::Less | BinaryOperator::Greater | BinaryOperator::LessEqual | BinaryOperator::GreaterEqual => 5,
+        BinaryOperator::Less
+        | BinaryOperator::Greater
+        | BinaryOperator::LessEqual
+        | BinaryOperator::GreaterEqual => 5,
         BinaryOperator::Equal | BinaryOperator::NotEqual => 6,
         BinaryOperator::TextEqual | BinaryOperator::TextNotEqual => 7,
         BinaryOperator::In | BinaryOperator::NotIn => 8,

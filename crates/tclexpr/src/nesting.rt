@@ -24,7 +24,7 @@ pub(crate) fn script_nesting<P: Drop>(script: &Script<P>) -> usize
     height
 }
 
-/// The same in words.
+// The same in words.
 #[cycle(nesting)]
 fn words_nesting<P: Drop>(words: &Vec<Word<P>>) -> usize
     ensures { (shown : P → Text) → words_nesting (words_view shown words.now.items) ≤ usize.MAX → result ≡ words_nesting (words_view shown words.now.items) }

@@ -19,7 +19,9 @@ fn is_digit(digits: Digits, b: u8) -> bool
         Digits::Binary => matches!(b, b'0'..=b'1'),
         Digits::Octal => matches!(b, b'0'..=b'7'),
         Digits::Decimal => matches!(b, b'0'..=b'9'),
-        Digits::Hexadecimal => matches!(b, b'0'..=b'9') || matches!(b, b'A'..=b'F') || matches!(b, b'a'..=b'f'),
+        Digits::Hexadecimal => matches!(b, b'0'..=b'9')
+            || matches!(b, b'A'..=b'F')
+            || matches!(b, b'a'..=b'f'),
     }
 }
 
@@ -63,7 +65,11 @@ fn after_based(text: &str) -> Option<&str>
     };
     let digits = announced(*c)?;
     let behind = after_first(after_first(text));
-    if begins_digit(behind, digits) { Some(after_digits(behind, digits)) } else { None }
+    if begins_digit(behind, digits) {
+        Some(after_digits(behind, digits))
+    } else {
+        None
+    }
 }
 
 fn after_sign(text: &str) -> &str
@@ -83,7 +89,11 @@ fn after_exponent(text: &str) -> &str
         return text;
     };
     let digits = after_sign(after_first(text));
-    if begins_digit(digits, Digits::Decimal) { after_digits(digits, Digits::Decimal) } else { text }
+    if begins_digit(digits, Digits::Decimal) {
+        after_digits(digits, Digits::Decimal)
+    } else {
+        text
+    }
 }
 
 // What follows a point and its digits, if there is a point.

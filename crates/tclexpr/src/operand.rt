@@ -1,11 +1,11 @@
-ghost use Rattle.std.specs.Prelude.{◌≡◌, ◌≤◌, ◌&&◌, ◌<◌, ◌∷◌, length};
+ghost use Rattle.std.specs.Prelude.{◌≡◌, ◌≤◌, ◌<◌, ◌∷◌, length, suc};
 ghost use Rattle.tclchars.specs.Runs.{Text};
 ghost use Rattle.tclchars.specs.Reading.{Gives};
 ghost use Rattle.tclscript.specs.Pieces.{IsEndOf};
 ghost use Rattle.tclscript.specs.Tree.{part_nesting};
 ghost use Rattle.tclscript.specs.Reading.{taken};
 ghost use Rattle.tclscript.specs.View.{part_view};
-ghost use Rattle.tclexpr.specs.Operands.{after_number, lower, is_front, is_truth, operand_of, variable_at, script_at, quoted_at, braced_text_at, word_at, numeric, operand_at};
+ghost use Rattle.tclexpr.specs.Operands.{after_number, lower, is_front, begins_truth, begins_switch, is_truth, operand_of, variable_at, script_at, quoted_at, braced_text_at, word_at, numeric, operand_at};
 ghost use Rattle.tclexpr.specs.View.{operand_view};
 
 use crate::nesting::{parts_nesting, script_nesting};
@@ -25,20 +25,43 @@ fn lower(b: u8) -> u8
 fn is_front(word: &[u8], whole: &[u8]) -> bool
     ensures { result ≡ is_front word.now whole.now }
 {
-    match (word, whole) {
-        ([], _) => true,
-        (_, []) => false,
-        ([a, word @ ..], [b, whole @ ..]) => lower(*a) == *b && is_front(word, whole),
+    match word {
+        [] => true,
+        [a, word @ ..] => match whole {
+            [] => false,
+            [b, whole @ ..] => lower(*a) == *b && is_front(word, whole),
+        },
     }
 }
 
+fn begins_truth(word: &[u8]) -> bool
+    ensures { result ≡ begins_truth word.now }
+{
+    is_front(word, b"true")
+        || is_front(word, b"false")
+        || is_front(word, b"yes")
+        || is_front(word, b"no")
+}
+
+fn begins_switch(word: &[u8]) -> bool
+    ensures { result ≡ begins_switch word.now }
+{
+    is_front(word, b"on") || is_front(word, b"off")
+}
+
 // Whether a word is a front of true, false, yes or no, or on, of or off, in any case.
-fn is_truth(word: &str) -> bool
+#[tactic(auto, unfolding(crate::specs::Operands::is_truth))]
+fn is_truth(word: &[u8]) -> bool
     ensures { result ≡ is_truth word.now }
 {
-    let bytes = word.as_bytes();
-    (!bytes.is_empty() && (is_front(bytes, b"true") || is_front(bytes, b"false") || is_front(bytes, b"yes") || is_front(bytes, b"no")))
-        || (bytes.len() >= 2 && (is_front(bytes, b"on") || is_front(bytes, b"off")))
+    (word.len() >= 1 && begins_truth(word)) || (word.len() >= 2 && begins_switch(word))
+}
+
+// How many bytes there are from a mark on, with what stands behind it.
+fn left_with_mark(behind: &str) -> usize
+    ensures { result ≡ suc (length behind.now) }
+{
+    behind.len() + 1
 }
 
 // What was read of the text before that rest.
@@ -50,6 +73,12 @@ fn taken<'a, S: Source<P>, P: Drop>(source: &S, text: &'a str, rest: &'a str) ->
     source.cut(text, text.split_at(text.len() - rest.len()).0)
 }
 
+fn one_more(height: usize) -> usize
+    ensures { height < usize.MAX → result ≡ suc height }
+{
+    height.saturating_add(1)
+}
+
 // A substitution as an operand, with how deep it nests; a dollar that is itself is none.
 fn operand_of<P: Drop>(part: Part<P>, left: usize) -> Result<(Operand<P>, usize), ReadError>
     ensures { (shown : P → Text) → part_nesting (part_view shown part) ≤ usize.MAX
@@ -58,11 +87,11 @@ fn operand_of<P: Drop>(part: Part<P>, left: usize) -> Result<(Operand<P>, usize)
     match part {
         Part::Variable(name) => Ok((Operand::Variable(name), 0)),
         Part::Indexed(name, parts) => {
-            let height = parts_nesting(&parts).saturating_add(1);
+            let height = one_more(parts_nesting(&parts));
             Ok((Operand::Indexed(name, parts), height))
         }
         Part::Bracket(script) => {
-            let height = script_nesting(&script).saturating_add(1);
+            let height = one_more(script_nesting(&script));
             Ok((Operand::Bracket(script), height))
         }
         _ => Err(ReadError::Fault(Fault::BadExpression(left))),
@@ -119,31 +148,42 @@ fn read_quoted<'a, S: Source<P>, P: Drop>(
 }
 
 // A text in braces, behind the first.
-fn read_braced<'a, S: Source<P>, P: Drop>(source: &S, text: &'a str) -> Result<(Operand<P>, usize, &'a str), ReadError>
+fn read_braced<'a, S: Source<P>, P: Drop>(
+    source: &S,
+    text: &'a str,
+) -> Result<(Operand<P>, usize, &'a str), ReadError>
     requires { IsEndOf (S.text source.now) text.now }
     ensures { Gives (λ x. ((operand_view (S.shown source.now) x.0, x.1), x.2.now)) result (braced_text_at text.now) }
 {
     match split_close(text) {
         Some((inner, rest)) => Ok((Operand::Braced(source.cut(text, inner)), 0, rest)),
-        None => Err(ReadError::Fault(Fault::OpenBrace(text.len().saturating_add(1)))),
+        None => Err(ReadError::Fault(Fault::OpenBrace(left_with_mark(text)))),
     }
 }
 
 // A truth word that no parenthesis follows directly.
-fn read_word<'a, S: Source<P>, P: Drop>(source: &S, text: &'a str) -> Result<(Operand<P>, usize, &'a str), ReadError>
+fn read_word<'a, S: Source<P>, P: Drop>(
+    source: &S,
+    text: &'a str,
+) -> Result<(Operand<P>, usize, &'a str), ReadError>
     requires { IsEndOf (S.text source.now) text.now }
     ensures { Gives (λ x. ((operand_view (S.shown source.now) x.0, x.1), x.2.now)) result (word_at text.now) }
 {
     let (word, rest) = split_front(text, Class::Name);
-    if is_truth(word) && after_mark(rest, b'(').is_none() {
-        Ok((Operand::Word(source.cut(text, word)), 0, rest))
-    } else {
-        Err(ReadError::Fault(Fault::BadExpression(text.len())))
+    if !is_truth(word.as_bytes()) {
+        return Err(ReadError::Fault(Fault::BadExpression(text.len())));
+    }
+    match after_mark(rest, b'(') {
+        None => Ok((Operand::Word(source.cut(text, word)), 0, rest)),
+        Some(_) => Err(ReadError::Fault(Fault::BadExpression(text.len()))),
     }
 }
 
 // A number or a word.
-fn read_numeric<'a, S: Source<P>, P: Drop>(source: &S, text: &'a str) -> Result<(Operand<P>, usize, &'a str), ReadError>
+fn read_numeric<'a, S: Source<P>, P: Drop>(
+    source: &S,
+    text: &'a str,
+) -> Result<(Operand<P>, usize, &'a str), ReadError>
     requires { IsEndOf (S.text source.now) text.now }
     ensures { Gives (λ x. ((operand_view (S.shown source.now) x.0, x.1), x.2.now)) result (numeric text.now (after_number text.now)) }
 {

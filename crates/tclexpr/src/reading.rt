@@ -68,16 +68,28 @@ fn read_infix(text: &str, limit: usize) -> Option<(Infix, &str)>
 }
 
 // An operator and its operand.
-fn unary<P: Drop>(alloc: Global, operator: UnaryOperator, operand: Tall<P>) -> Result<Tall<P>, AllocError>
+fn unary<P: Drop>(
+    alloc: Global,
+    operator: UnaryOperator,
+    operand: Tall<P>,
+) -> Result<Tall<P>, AllocError>
     requires { operand.height < usize.MAX }
     ensures { (shown : P → Text) → IfOk result (λ t. tall_view shown t ≡ unary_of operator (tall_view shown operand)) }
 {
     let height = operand.height + 1;
-    Ok(Tall { tree: Expr::Unary(operator, Box::new(alloc, operand.tree)?), height })
+    Ok(Tall {
+        tree: Expr::Unary(operator, Box::new(alloc, operand.tree)?),
+        height,
+    })
 }
 
 // Two expressions, joined.
-fn join<P: Drop>(alloc: Global, between: Infix, left: Tall<P>, right: Tall<P>) -> Result<Tall<P>, AllocError>
+fn join<P: Drop>(
+    alloc: Global,
+    between: Infix,
+    left: Tall<P>,
+    right: Tall<P>,
+) -> Result<Tall<P>, AllocError>
     requires left { left.height < usize.MAX }
     requires right { right.height < usize.MAX }
     ensures { (shown : P → Text) → IfOk result (λ t. tall_view shown t ≡ join between (tall_view shown left) (tall_view shown right)) }
@@ -94,7 +106,12 @@ fn join<P: Drop>(alloc: Global, between: Infix, left: Tall<P>, right: Tall<P>) -
 }
 
 // A condition and the two expressions that it chooses from.
-fn choice<P: Drop>(alloc: Global, condition: Tall<P>, yes: Tall<P>, no: Tall<P>) -> Result<Tall<P>, AllocError>
+fn choice<P: Drop>(
+    alloc: Global,
+    condition: Tall<P>,
+    yes: Tall<P>,
+    no: Tall<P>,
+) -> Result<Tall<P>, AllocError>
     requires condition { condition.height < usize.MAX }
     requires positive { yes.height < usize.MAX }
     requires negative { no.height < usize.MAX }
@@ -104,7 +121,10 @@ fn choice<P: Drop>(alloc: Global, condition: Tall<P>, yes: Tall<P>, no: Tall<P>)
     let condition = Box::new(alloc, condition.tree)?;
     let yes = Box::new(alloc, yes.tree)?;
     let no = Box::new(alloc, no.tree)?;
-    Ok(Tall { tree: Expr::Choice(condition, yes, no), height })
+    Ok(Tall {
+        tree: Expr::Choice(condition, yes, no),
+        height,
+    })
 }
 
 // An expression in parentheses, as high as those make it.
@@ -112,7 +132,10 @@ fn enclosed<P: Drop>(inner: Tall<P>) -> Tall<P>
     requires { inner.height < usize.MAX }
     ensures { (shown : P → Text) → tall_view shown result ≡ (expr_view shown inner.tree, suc inner.height) }
 {
-    Tall { tree: inner.tree, height: inner.height + 1 }
+    Tall {
+        tree: inner.tree,
+        height: inner.height + 1,
+    }
 }
 
 /// An expression at the front, where so many operators, parentheses and brackets may nest, and what follows it.
@@ -237,7 +260,13 @@ fn read_leaf<'a, S: Source<P>, P: Drop>(
     ensures { Gives (λ x. (tall_view (S.shown source.now) x.0, x.1.now)) result (read_map leaf_of (operand_at depth text.now)) }
 {
     let (operand, height, rest) = read_operand(alloc, source, text, depth)?;
-    Ok((Tall { tree: Expr::Operand(operand), height }, rest))
+    Ok((
+        Tall {
+            tree: Expr::Operand(operand),
+            height,
+        },
+        rest,
+    ))
 }
 
 // An expression behind its opening parenthesis.

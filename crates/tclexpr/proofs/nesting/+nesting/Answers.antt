@@ -14,7 +14,7 @@ parts_nesting-loop-part-preserved g t c = λ shown less.
     let i = c.loop-part.part-index in
     let e : take (i + 1) items ≡ take i items ++ c.part-item.result ∷ [] = take_more items i c.part-item.result (omega arith) ∙ ap (λ x. take i items ++ x ∷ []) (sym c.part-item.is) in
     let k = tallest_more 18446744073709551615 c.loop-part.height c.part_nesting.result (parts_nesting (parts_view shown (take i items))) (part_nesting (part_view shown c.part-item.result))
-        (parts_nesting (parts_view shown (take (i + 1) items))) (parts_step shown (take i items) (take (i + 1) items) c.part-item.result e) (c.loop-part.invariant shown) (c.part_nesting.ensures shown) less in
+    (parts_nesting (parts_view shown (take (i + 1) items))) (parts_step shown (take i items) (take (i + 1) items) c.part-item.result e) (c.loop-part.invariant shown) (c.part_nesting.ensures shown) less in
     c.larger-height.ensures ∙ k
 
 pub parts_nesting-returns : goal.parts_nesting-returns
@@ -30,7 +30,7 @@ script_nesting-loop-command-preserved g t c = λ shown less.
     let i = c.loop-command.command-index in
     let e : take (i + 1) items ≡ take i items ++ c.command-item.result ∷ [] = take_more items i c.command-item.result (omega arith) ∙ ap (λ x. take i items ++ x ∷ []) (sym c.command-item.is) in
     let k = tallest_more 18446744073709551615 c.loop-command.height c.words_nesting.result (nesting (commands_of (map (command_view shown) (take i items)))) (words_nesting (command_view shown c.command-item.result).1)
-        (nesting (commands_of (map (command_view shown) (take (i + 1) items)))) (commands_step shown (take i items) (take (i + 1) items) c.command-item.result e) (c.loop-command.invariant shown) (subst (Tallest 18446744073709551615 c.words_nesting.result) (ap words_nesting (sym (words_of_command shown c.command-item.result))) (c.words_nesting.ensures shown)) less in
+    (nesting (commands_of (map (command_view shown) (take (i + 1) items)))) (commands_step shown (take i items) (take (i + 1) items) c.command-item.result e) (c.loop-command.invariant shown) (subst (Tallest 18446744073709551615 c.words_nesting.result) (ap words_nesting (sym (words_of_command shown c.command-item.result))) (c.words_nesting.ensures shown)) less in
     c.larger-height.ensures ∙ k
 
 pub script_nesting-returns : goal.script_nesting-returns
@@ -48,5 +48,5 @@ words_nesting-loop-word-preserved g t c = λ shown less.
     let i = c.loop-word.word-index in
     let e : take (i + 1) items ≡ take i items ++ c.word-item.result ∷ [] = take_more items i c.word-item.result (omega arith) ∙ ap (λ x. take i items ++ x ∷ []) (sym c.word-item.is) in
     let k = tallest_more 18446744073709551615 c.loop-word.height c.parts_nesting.result (words_nesting (words_view shown (take i items))) (word_nesting (word_view shown c.word-item.result))
-        (words_nesting (words_view shown (take (i + 1) items))) (words_step shown (take i items) (take (i + 1) items) c.word-item.result e) (c.loop-word.invariant shown) (subst (Tallest 18446744073709551615 c.parts_nesting.result) (sym (word_height shown c.word-item.result)) (c.parts_nesting.ensures shown)) less in
+    (words_nesting (words_view shown (take (i + 1) items))) (words_step shown (take i items) (take (i + 1) items) c.word-item.result e) (c.loop-word.invariant shown) (subst (Tallest 18446744073709551615 c.parts_nesting.result) (sym (word_height shown c.word-item.result)) (c.parts_nesting.ensures shown)) less in
     c.larger-height.ensures ∙ k

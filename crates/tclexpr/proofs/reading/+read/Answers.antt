@@ -25,7 +25,7 @@ pub read_branches-returns-in_err-behind : goal.read_branches-returns-in_err-behi
 read_branches-returns-in_err-behind g t c =
     let p = err_from_is_err_and c.from_residual-in_err-behind.result c.from_residual-in_err-behind.ensures.1 in
     rw (p.1, p.2) (branches-colon c.args.depth (tall_view (g.S.Source.shown c.args.source.now) c.args.condition) (tall_view (g.S.Source.shown c.args.source.now) c.in_ok-yes.yes) c.args.text.now c.in_ok-yes.rest.now c.in_err-behind.field-0.0
-      (omega arith) c.in_ok-yes.ensures c.in_err-behind.ensures)
+    (omega arith) c.in_ok-yes.ensures c.in_err-behind.ensures)
 
 pub read_branches-read_whole-requires-2 : goal.read_branches-read_whole-requires-2
 read_branches-read_whole-requires-2 g t c =
@@ -33,8 +33,8 @@ read_branches-read_whole-requires-2 g t c =
     let r : IsEndOf (g.S.Source.text c.args.source.now) c.args.text.now = search rules in
     let yes : IsEndOf c.args.text.now c.in_ok-yes.rest.now = (whole_leaves (c.args.depth - 1) c.args.text.now (tall_view shown c.in_ok-yes.yes) c.in_ok-yes.rest.now c.in_ok-yes.ensures).0 in
     let e : IsEndOf (g.S.Source.text c.args.source.now) c.in_ok-behind.behind.now =
-        end_through (g.S.Source.text c.args.source.now) c.args.text.now c.in_ok-behind.behind.now r
-        (end_through c.args.text.now c.in_ok-yes.rest.now c.in_ok-behind.behind.now yes (expect_end is_colon c.in_ok-yes.rest.now c.in_ok-behind.behind.now c.in_ok-behind.ensures))
+    end_through (g.S.Source.text c.args.source.now) c.args.text.now c.in_ok-behind.behind.now r
+    (end_through c.args.text.now c.in_ok-yes.rest.now c.in_ok-behind.behind.now yes (expect_end is_colon c.in_ok-yes.rest.now c.in_ok-behind.behind.now c.in_ok-behind.ensures))
     in
     search rules
 
@@ -42,7 +42,7 @@ pub read_branches-returns-in_err-no : goal.read_branches-returns-in_err-no
 read_branches-returns-in_err-no g t c =
     let p = err_from_is_err_and c.from_residual-in_err-no.result c.from_residual-in_err-no.ensures.1 in
     rw (p.1, p.2) (branches-no c.args.depth (tall_view (g.S.Source.shown c.args.source.now) c.args.condition) (tall_view (g.S.Source.shown c.args.source.now) c.in_ok-yes.yes) c.args.text.now c.in_ok-yes.rest.now c.in_ok-behind.behind.now c.in_err-no.field-0.0
-      (omega arith) c.in_ok-yes.ensures c.in_ok-behind.ensures c.in_err-no.ensures)
+    (omega arith) c.in_ok-yes.ensures c.in_ok-behind.ensures c.in_err-no.ensures)
 
 pub read_branches-choice-requires-clause-positive : goal.read_branches-choice-requires-clause-positive
 read_branches-choice-requires-clause-positive g t c =
@@ -60,7 +60,7 @@ pub read_branches-returns : goal.read_branches-returns
 read_branches-returns g t c =
     let shown = g.S.Source.shown c.args.source.now in
     branches-read c.args.depth (tall_view shown c.args.condition) (tall_view shown c.in_ok-yes.yes) (tall_view shown c.in_ok-no.no) c.args.text.now c.in_ok-yes.rest.now c.in_ok-behind.behind.now c.in_ok-no.end.now
-      (omega arith) c.in_ok-yes.ensures c.in_ok-behind.ensures c.in_ok-no.ensures
+    (omega arith) c.in_ok-yes.ensures c.in_ok-behind.ensures c.in_ok-no.ensures
     ∙ ap (λ x. Ok (x, c.in_ok-no.end.now)) (sym (c.in_ok-choice.ensures shown))
 
 pub read_chain-returns-in_err-left : goal.read_chain-returns-in_err-left
@@ -82,8 +82,8 @@ pub read_chain-read_right-requires : goal.read_chain-read_right-requires
 read_chain-read_right-requires g t c =
     let r : IsEndOf (g.S.Source.text c.args.source.now) c.args.text.now = search rules in
     let e : IsEndOf (g.S.Source.text c.args.source.now) c.in-Some.behind.now =
-        end_through (g.S.Source.text c.args.source.now) c.args.text.now c.in-Some.behind.now r
-        (end_through c.args.text.now c.loop-between.rest.now c.in-Some.behind.now c.loop-between.invariant.1.end (mark_end c.loop-between.rest.now (marks.Infix c.in-Some.between) c.in-Some.behind.now c.in-Some.ensures.0))
+    end_through (g.S.Source.text c.args.source.now) c.args.text.now c.in-Some.behind.now r
+    (end_through c.args.text.now c.loop-between.rest.now c.in-Some.behind.now c.loop-between.invariant.1.end (mark_end c.loop-between.rest.now (marks.Infix c.in-Some.between) c.in-Some.behind.now c.in-Some.ensures.0))
     in
     search rules
 
@@ -91,7 +91,7 @@ pub read_chain-returns-in_err-right : goal.read_chain-returns-in_err-right
 read_chain-returns-in_err-right g t c =
     let p = err_from_is_err_and c.from_residual-in_err-right.result c.from_residual-in_err-right.ensures.1 in
     rw (p.1, p.2) (chain-fails c.args.depth c.args.limit c.args.text.now (tall_view (g.S.Source.shown c.args.source.now) c.loop-between.left) c.loop-between.rest.now c.loop-between.invariant.1 c.in-Some.between c.in-Some.behind.now
-      c.in-Some.ensures.0 c.in-Some.ensures.1 c.in_err-right.field-0.0 c.in_err-right.ensures)
+    c.in-Some.ensures.0 c.in-Some.ensures.1 c.in_err-right.field-0.0 c.in_err-right.ensures)
 
 pub read_chain-join-requires-clause-right : goal.read_chain-join-requires-clause-right
 read_chain-join-requires-clause-right g t c =
@@ -102,13 +102,13 @@ read_chain-join-requires-clause-right g t c =
 pub read_chain-loop-between-smaller : goal.read_chain-loop-between-smaller
 read_chain-loop-between-smaller g t c =
     chain-shorter c.args.depth (tall_view (g.S.Source.shown c.args.source.now) c.loop-between.left) c.loop-between.rest.now c.in-Some.between c.in-Some.behind.now c.in-Some.ensures.0
-      (tall_view (g.S.Source.shown c.args.source.now) c.in_ok-right.right) c.in_ok-right.end.now c.in_ok-right.ensures
+    (tall_view (g.S.Source.shown c.args.source.now) c.in_ok-right.right) c.in_ok-right.end.now c.in_ok-right.ensures
 
 pub read_chain-loop-between-preserved : goal.read_chain-loop-between-preserved
 read_chain-loop-between-preserved g t c = (
   search rules,
   chain-more c.args.depth c.args.limit c.args.text.now (tall_view (g.S.Source.shown c.args.source.now) c.loop-between.left) c.loop-between.rest.now c.loop-between.invariant.1 c.in-Some.between c.in-Some.behind.now c.in-Some.ensures.0 c.in-Some.ensures.1
-    (tall_view (g.S.Source.shown c.args.source.now) c.in_ok-right.right) c.in_ok-right.end.now c.in_ok-right.ensures (tall_view (g.S.Source.shown c.args.source.now) c.in_ok-left-2.left) (c.in_ok-left-2.ensures (g.S.Source.shown c.args.source.now)),
+      (tall_view (g.S.Source.shown c.args.source.now) c.in_ok-right.right) c.in_ok-right.end.now c.in_ok-right.ensures (tall_view (g.S.Source.shown c.args.source.now) c.in_ok-left-2.left) (c.in_ok-left-2.ensures (g.S.Source.shown c.args.source.now)),
 )
 
 pub read_enclosed-returns-then-depth-eq0 : goal.read_enclosed-returns-then-depth-eq0
@@ -146,8 +146,8 @@ read_prefix-read_enclosed-requires g t c =
     let r : IsEndOf (g.S.Source.text c.args.source.now) c.args.text.now = search rules in
     let found : mark_at c.skip_white-start.result.now ≡ Some (c.in-Some.mark, c.in-Some.behind.now) = sym c.in-Some.ensures in
     let e : IsEndOf (g.S.Source.text c.args.source.now) c.in-Some.behind.now =
-        end_through (g.S.Source.text c.args.source.now) c.args.text.now c.in-Some.behind.now r
-        (mark_end c.args.text.now c.in-Some.mark c.in-Some.behind.now (ap mark_at (sym c.skip_white-start.ensures) ∙ found))
+    end_through (g.S.Source.text c.args.source.now) c.args.text.now c.in-Some.behind.now r
+    (mark_end c.args.text.now c.in-Some.mark c.in-Some.behind.now (ap mark_at (sym c.skip_white-start.ensures) ∙ found))
     in
     search rules
 
@@ -156,18 +156,16 @@ read_prefix-read_signed-requires g t c =
     let r : IsEndOf (g.S.Source.text c.args.source.now) c.args.text.now = search rules in
     let found : mark_at c.skip_white-start.result.now ≡ Some (c.in-Some.mark, c.in-Some.behind.now) = sym c.in-Some.ensures in
     let e : IsEndOf (g.S.Source.text c.args.source.now) c.in-Some.behind.now =
-        end_through (g.S.Source.text c.args.source.now) c.args.text.now c.in-Some.behind.now r
-        (mark_end c.args.text.now c.in-Some.mark c.in-Some.behind.now (ap mark_at (sym c.skip_white-start.ensures) ∙ found))
+    end_through (g.S.Source.text c.args.source.now) c.args.text.now c.in-Some.behind.now r
+    (mark_end c.args.text.now c.in-Some.mark c.in-Some.behind.now (ap mark_at (sym c.skip_white-start.ensures) ∙ found))
     in
     search rules
-
-
 
 pub read_right-returns : goal.read_right-returns
 read_right-returns g t c =
     let lower : c.args.height < c.args.depth = omega arith in
     subst (λ r. Gives (λ x. (tall_view (g.S.Source.shown c.args.source.now) x.0, x.1.now)) c.read_chain.result r)
-      (sym (right-chain c.args.depth c.args.height (level c.args.between - 1) c.args.text.now lower ∙ ap (λ k. chain_at operand_at (c.args.depth - 1) (below_at operand_at (c.args.depth - 1)) (k - 1) c.args.text.now) (sym c.level.ensures))) c.read_chain.ensures
+    (sym (right-chain c.args.depth c.args.height (level c.args.between - 1) c.args.text.now lower ∙ ap (λ k. chain_at operand_at (c.args.depth - 1) (below_at operand_at (c.args.depth - 1)) (k - 1) c.args.text.now) (sym c.level.ensures))) c.read_chain.ensures
 
 pub read_signed-returns-then-depth-eq0 : goal.read_signed-returns-then-depth-eq0
 read_signed-returns-then-depth-eq0 g t c = signed-deep c.args.depth c.args.operator c.args.text.now (omega arith)
@@ -194,25 +192,24 @@ read_whole-returns-in_err-condition g t c =
     let p = err_from_is_err_and c.from_residual.result c.from_residual.ensures.1 in
     rw (p.1, p.2) (whole-fails c.args.depth c.args.text.now c.in_err-condition.field-0.0 c.in_err-condition.ensures)
 
-
 pub read_prefix-returns-in_default : goal.read_prefix-returns-in_default
 read_prefix-returns-in_default g t c =
     let none : mark_at c.skip_white-start.result.now ≡ None = sym c.in_default.ensures in
     subst (λ r. Gives (λ x. (tall_view (g.S.Source.shown c.args.source.now) x.0, x.1.now)) c.read_leaf.result r)
-      (sym (prefix-leaf c.args.depth c.args.text.now c.skip_white-start.result.now c.skip_white-start.ensures none)) c.read_leaf.ensures
+    (sym (prefix-leaf c.args.depth c.args.text.now c.skip_white-start.result.now c.skip_white-start.ensures none)) c.read_leaf.ensures
 
 pub read_prefix-returns-then-is_open : goal.read_prefix-returns-then-is_open
 read_prefix-returns-then-is_open g t c =
     let found : mark_at c.skip_white-start.result.now ≡ Some (c.in-Some.mark, c.in-Some.behind.now) = sym c.in-Some.ensures in
     let opens : is_open c.in-Some.mark ≡ true = sym c.is_open.ensures ∙ c.if-is_open.true in
     subst (λ r. Gives (λ x. (tall_view (g.S.Source.shown c.args.source.now) x.0, x.1.now)) c.read_enclosed.result r)
-      (sym (prefix-open c.args.depth c.args.text.now c.skip_white-start.result.now c.in-Some.behind.now c.skip_white-start.ensures (found ∙ ap (λ m. Some (m, c.in-Some.behind.now)) (open_is c.in-Some.mark opens)))) c.read_enclosed.ensures
+    (sym (prefix-open c.args.depth c.args.text.now c.skip_white-start.result.now c.in-Some.behind.now c.skip_white-start.ensures (found ∙ ap (λ m. Some (m, c.in-Some.behind.now)) (open_is c.in-Some.mark opens)))) c.read_enclosed.ensures
 
 pub read_prefix-returns-in-Some-sign_of : goal.read_prefix-returns-in-Some-sign_of
 read_prefix-returns-in-Some-sign_of g t c =
     let found : mark_at c.skip_white-start.result.now ≡ Some (c.in-Some.mark, c.in-Some.behind.now) = sym c.in-Some.ensures in
     subst (λ r. Gives (λ x. (tall_view (g.S.Source.shown c.args.source.now) x.0, x.1.now)) c.read_signed.result r)
-      (sym (prefix-signed c.args.depth c.args.text.now c.skip_white-start.result.now c.in-Some.mark c.in-Some-sign_of.operator c.in-Some.behind.now c.skip_white-start.ensures found (sym c.sign_of.ensures ∙ c.in-Some-sign_of.is))) c.read_signed.ensures
+    (sym (prefix-signed c.args.depth c.args.text.now c.skip_white-start.result.now c.in-Some.mark c.in-Some-sign_of.operator c.in-Some.behind.now c.skip_white-start.ensures found (sym c.sign_of.ensures ∙ c.in-Some-sign_of.is))) c.read_signed.ensures
 
 pub read_prefix-returns-in-None : goal.read_prefix-returns-in-None
 read_prefix-returns-in-None g t c =
@@ -223,7 +220,7 @@ pub read_whole-returns-in_default : goal.read_whole-returns-in_default
 read_whole-returns-in_default g t c =
     let none : mark_at c.skip_white.result.now ≡ None = sym c.in_default.ensures in
     whole-ends c.args.depth c.args.text.now (tall_view (g.S.Source.shown c.args.source.now) c.in_ok-condition.condition) c.in_ok-condition.rest.now c.skip_white.result.now c.in_ok-condition.ensures c.skip_white.ensures
-      (λ after is. found_none (mark_at c.skip_white.result.now) marks.Question after none is)
+    (λ after is. found_none (mark_at c.skip_white.result.now) marks.Question after none is)
 
 pub read_whole-read_branches-requires : goal.read_whole-read_branches-requires
 read_whole-read_branches-requires g t c =
@@ -231,9 +228,9 @@ read_whole-read_branches-requires g t c =
     let found : mark_at c.skip_white.result.now ≡ Some (c.in-Some.mark, c.in-Some.behind.now) = sym c.in-Some.ensures in
     let first : IsEndOf c.args.text.now c.in_ok-condition.rest.now = (chain_leaves c.args.depth 13 c.args.text.now (tall_view (g.S.Source.shown c.args.source.now) c.in_ok-condition.condition) c.in_ok-condition.rest.now c.in_ok-condition.ensures).0 in
     let e : IsEndOf (g.S.Source.text c.args.source.now) c.in-Some.behind.now =
-        end_through (g.S.Source.text c.args.source.now) c.args.text.now c.in-Some.behind.now r
-        (end_through c.args.text.now c.in_ok-condition.rest.now c.in-Some.behind.now first
-          (mark_end c.in_ok-condition.rest.now c.in-Some.mark c.in-Some.behind.now (ap mark_at (sym c.skip_white.ensures) ∙ found)))
+    end_through (g.S.Source.text c.args.source.now) c.args.text.now c.in-Some.behind.now r
+    (end_through c.args.text.now c.in_ok-condition.rest.now c.in-Some.behind.now first
+    (mark_end c.in_ok-condition.rest.now c.in-Some.mark c.in-Some.behind.now (ap mark_at (sym c.skip_white.ensures) ∙ found)))
     in
     search rules
 
@@ -242,12 +239,12 @@ read_whole-returns-then-is_question g t c =
     let found : mark_at c.skip_white.result.now ≡ Some (c.in-Some.mark, c.in-Some.behind.now) = sym c.in-Some.ensures in
     let asks : is_question c.in-Some.mark ≡ true = sym c.is_question.ensures ∙ c.if-is_question.true in
     subst (λ r. Gives (λ x. (tall_view (g.S.Source.shown c.args.source.now) x.0, x.1.now)) c.read_branches.result r)
-      (sym (whole-asks c.args.depth c.args.text.now (tall_view (g.S.Source.shown c.args.source.now) c.in_ok-condition.condition) c.in_ok-condition.rest.now c.skip_white.result.now c.in-Some.behind.now
-        c.in_ok-condition.ensures c.skip_white.ensures (found ∙ ap (λ m. Some (m, c.in-Some.behind.now)) (question_is c.in-Some.mark asks)))) c.read_branches.ensures
+    (sym (whole-asks c.args.depth c.args.text.now (tall_view (g.S.Source.shown c.args.source.now) c.in_ok-condition.condition) c.in_ok-condition.rest.now c.skip_white.result.now c.in-Some.behind.now
+    c.in_ok-condition.ensures c.skip_white.ensures (found ∙ ap (λ m. Some (m, c.in-Some.behind.now)) (question_is c.in-Some.mark asks)))) c.read_branches.ensures
 
 pub read_whole-returns-else-is_question : goal.read_whole-returns-else-is_question
 read_whole-returns-else-is_question g t c =
     let found : mark_at c.skip_white.result.now ≡ Some (c.in-Some.mark, c.in-Some.behind.now) = sym c.in-Some.ensures in
     let other : is_question c.in-Some.mark ≡ false = sym c.is_question.ensures ∙ c.if-is_question.false in
     whole-ends c.args.depth c.args.text.now (tall_view (g.S.Source.shown c.args.source.now) c.in_ok-condition.condition) c.in_ok-condition.rest.now c.skip_white.result.now c.in_ok-condition.ensures c.skip_white.ensures
-      (λ after is. true_false (sym (ap is_question (found_once (mark_at c.skip_white.result.now) c.in-Some.mark marks.Question c.in-Some.behind.now after found is).0) ∙ other))
+    (λ after is. true_false (sym (ap is_question (found_once (mark_at c.skip_white.result.now) c.in-Some.mark marks.Question c.in-Some.behind.now after found is).0) ∙ other))
