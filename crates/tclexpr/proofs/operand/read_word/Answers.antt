@@ -9,7 +9,7 @@ use Rattle.tclexpr.proofs.operand.read_word.Goals as goal
 pub cut-requires-clause-front : goal.cut-requires-clause-front
 cut-requires-clause-front g c = (back is_name c.args.text.now, front_back is_name c.args.text.now ∙ ap (λ w. w ++ back is_name c.args.text.now) (sym c.split_front.ensures.run))
 
-pub returns-then-not-is_truth : goal.returns-else-is_truth
+pub returns-then-not-is_truth : goal.returns-then-not-is_truth
 returns-then-not-is_truth g c =
     word-false c.args.text.now c.split_front.result.0.now c.split_front.ensures.run (ap is_truth (sym c.as_bytes.ensures.value) ∙ sym c.if-not-is_truth.ensures)
 
