@@ -33,7 +33,7 @@ def is_refused(found):
 
 def names():
     listed = subprocess.run([TESTS, "--list"], stdout=subprocess.PIPE, check=True).stdout.decode()
-    return [line.removesuffix(": test") for line in listed.splitlines() if line.endswith(": test")]
+    return [line.partition(": ")[0] for line in listed.splitlines() if line.endswith(": test")]
 
 
 def main():

@@ -423,16 +423,80 @@ def commands_that_are_refused(folder):
 
 
 @case
-def marks_that_come_later(folder):
-    for number, mark in enumerate('"$[]{}\\'):
-        name = f"mark/{number}"
-        folder.module(name, f"setenv A {mark}\n")
-        folder.refuses(["sh", "load", name], "Bad character at byte 18")
-        folder.module(name, f"nothing here\nsetenv A\nsetenv B é{mark}b\n")
-        folder.refuses(["sh", "load", name], "Bad character at byte 42")
-        folder.module(name, f"# {mark}.\nsetenv A b ;# {mark}.\n")
+def faults_of_scripts(folder):
+    for number, (text, said) in enumerate(
+        (
+            ("setenv A {b", "Missing close-brace at byte 18"),
+            ("setenv A ${b", "Missing close-brace at byte 19"),
+            ('setenv A "b\n', "Missing close-quote at byte 18"),
+            ("setenv A [b\n", "Missing close-bracket at byte 18"),
+            ('setenv A "b [c"\n', "Missing close-bracket at byte 21"),
+            ("setenv A {b}c\n", "Extra characters after a close at byte 21"),
+            ('setenv A "b"c\n', "Extra characters after a close at byte 21"),
+            ("setenv A \\uD800\n", "Bad character at byte 18"),
+            ("setenv A é\\U1\n", "Bad character at byte 20"),
+            ("setenv A $b(c\n", "Bad character at byte 20"),
+            ("[" * 100, "Missing close-bracket at byte 108"),
+            ("[" * 201 + "]" * 201, "Text is nested too deeply"),
+            ("{" * 500000, "Missing close-brace at byte 9"),
+        )
+    ):
+        name = f"fault/{number}"
+        folder.module(name, text)
+        folder.refuses(["sh", "load", name], said)
+
+
+@case
+def substitutions_that_come_later(folder):
+    for number, (text, word) in enumerate(
+        (
+            ("setenv A $b\n", "setenv"),
+            ("setenv A $b(c)\n", "setenv"),
+            ("setenv A ${b c}\n", "setenv"),
+            ('"setenv" A "b [c]"\n', '"setenv"'),
+            ("{setenv} A {*}{b}\n", "{setenv}"),
+            ("$setenv A b\n", "$setenv"),
+            ("[" * 200 + "]" * 200, "[" * 200 + "]" * 200),
+        )
+    ):
+        name = f"later/{number}"
+        folder.module(name, text)
+        folder.refuses(["sh", "load", name], f"'{word}' is left out")
+
+
+@case
+def words_of_literal_parts(folder):
+    for number, (word, value) in enumerate(
+        (
+            ("{b c}", b"b c"),
+            ('"b;c #d"', b"b;c #d"),
+            ("{$b [c] \\n \"}", b'$b [c] \\n "'),
+            ('"a\\nb"', b"a\nb"),
+            ("a\\ b\\x41\\u20acé\\101", "a bA€éA".encode()),
+            ("{a\\\n\t b}", b"a b"),
+            ('"a\\\n\t b"', b"a b"),
+            ("\\\n b", b"b"),
+            ("a$", b"a$"),
+            ("{*}", b"*"),
+            ("{}", b""),
+            ("a\"b{c}]", b'a"b{c}]'),
+        )
+    ):
+        name = f"word/{number}"
+        folder.module(name, f"setenv A {word}\n")
         lists = new_lists(folder, name)
-        folder.accepts(["sh", "load", name], b"A='b'; export A;\n" + lists[0] + lists[1])
+        folder.accepts(["sh", "load", name], b"A='" + value + b"'; export A;\n" + lists[0] + lists[1])
+
+
+@case
+def marks_in_values(folder):
+    folder.module("sq/1", "setenv Q \"it's!\"\n")
+    lists = new_lists(folder, "sq/1")
+    folder.accepts(["sh", "load", "sq/1"], lists[0] + b"Q='it'\\''s!'; export Q;\n" + lists[1])
+    for mark in '"$[]{}\\':
+        folder.module("mark/1", f"# {mark}.\nsetenv A b ;# {mark}.\n")
+        lists = new_lists(folder, "mark/1")
+        folder.accepts(["sh", "load", "mark/1"], b"A='b'; export A;\n" + lists[0] + lists[1])
 
 
 @case

@@ -20,8 +20,12 @@ SHELLS = (
 # The shells without which the tests say too little: their cases fail where they are missing.
 ALWAYS = ("dash", "bash")
 
-# Each value that a bare word can say in this stage: every mark but white space, `;` and "$[]{}\.
+# Every mark that stands for itself in a bare word.
 VALUE = "it's!#%&()*+,-./:<=>?@^_`|~''é€𝄞--"
+
+# What a word in quotes says, and the word.
+TEXT = "a\nb;\t\"$x [y] {z}\\\\n' `w` #\n "
+WORD = '"' + "".join("\\" + mark if mark in '"$[\\' else mark for mark in TEXT) + '"'
 
 # The text is captured first and evaluated only where the command was accepted; then the shell's own
 # environment is written, each entry ended by a NUL.
@@ -105,10 +109,19 @@ def add(title, name, words):
         same(between[b"P"], VALUE.replace(":", "").encode(), "P")
         same(after, changed(before, VALUE=None), "the environment after")
 
+    def every_text(folder):
+        folder.module("text/1", f"setenv TEXT {WORD}\n")
+        start = folder.environment(PATH=os.environ["PATH"], LANG="C.UTF-8")
+        before, between, after = shown(folder, words, name, start, ["show", "load text/1", "show", "unload text", "show"])
+        same(between[b"TEXT"], TEXT.encode(), "TEXT")
+        same(after, before, "the environment after")
+
     load_and_unload.__name__ = f"{title} loads and unloads"
     every_mark.__name__ = f"{title} reads every mark"
+    every_text.__name__ = f"{title} reads texts of several lines"
     case(load_and_unload)
     case(every_mark)
+    case(every_text)
 
 
 if __name__ == "__main__":

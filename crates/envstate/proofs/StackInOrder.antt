@@ -1,5 +1,5 @@
 -- Edits keep stacks in order.
-use Rattle.std.proofs.Common.{◌≡◌, Bool, true, false, cond, not, List, [], ◌∷◌, refl, sym, ap, ◌∙◌, subst, Option, Some, None, Ok, inl, inr}
+use Rattle.std.proofs.Common.{◌≡◌, Bool, true, false, cond, not, ◌||◌, List, [], ◌∷◌, ◌++◌, refl, sym, ap, ◌∙◌, subst, Option, Some, None, Ok, inl, inr}
 use Rattle.std.specs.Prelude.{bytes_eq, if◌then◌else◌}
 use Rattle.std.specs.List.{list_all, list_any}
 use Rattle.modulename.specs.ModuleName.{is_module_name}
@@ -10,7 +10,7 @@ use Rattle.envstate.specs.Environment.{Environment, lookup}
 use Rattle.envstate.specs.Stacks.{Item, StackState, is_owner, has_owner, holds, without_owner, visible, base, push, settled, on_top, pop}
 use Rattle.envstate.specs.StackTexts.{items_in, is_stack, can_own, is_writable_stack, stack_text}
 use Rattle.envstate.specs.StackVariables.{stack_from, stack_in, with_stack, pushed_value, popped_value, is_loaded_owner, IsWrittenStack, IsStackInOrder}
-use Rattle.envstate.proofs.TextLemmas.{bytes_eq-symmetric, has-without}
+use Rattle.envstate.proofs.TextLemmas.{bytes_eq-symmetric, has-push, has-without}
 use Rattle.envstate.proofs.PathOrderLemmas.{passes_each}
 use Rattle.envstate.proofs.StackLemmas.{without_stranger}
 use Rattle.envstate.proofs.LoadedAgain.{both_true, and_both}
@@ -146,3 +146,36 @@ pop_in_order loaded old new name owner n (inr w) h = at (holds owner w.items) re
     at false t =
         let e : new ≡ old = pop_new old new name owner was (stack_written loaded old name w n) h ∙ ap (λ (b : Bool). if b then with_stack old name (pop was owner) else old) t in
         inr (subst (λ (d : Environment). IsWrittenStack (without owner loaded) d name) (sym e) (kept loaded old name owner w t))
+
+-- one more module is loaded, or one of which the stack has no item is loaded no more
+
+or_true : (b : Bool) → (b || true) ≡ true
+or_true true = refl
+or_true false = refl
+
+owner_of_more : (loaded : List Text) (x : Text) (o : Option Text) → is_loaded_owner loaded o ≡ true → is_loaded_owner (loaded ++ x ∷ []) o ≡ true
+owner_of_more loaded x None h = refl
+owner_of_more loaded x (Some n) h = has-push loaded x n ∙ ap (λ (b : Bool). bytes_eq n x || b) h ∙ or_true (bytes_eq n x)
+
+owners_of_more : (loaded : List Text) (x : Text) (items : List Item) → list_all (λ item. is_loaded_owner loaded item.0) items ≡ true → list_all (λ item. is_loaded_owner (loaded ++ x ∷ []) item.0) items ≡ true
+owners_of_more loaded x [] h = refl
+owners_of_more loaded x (i ∷ is) h =
+    let k = both_true (is_loaded_owner loaded i.0) (list_all (λ item. is_loaded_owner loaded item.0) is) h in
+    and_both (is_loaded_owner (loaded ++ x ∷ []) i.0) (list_all (λ item. is_loaded_owner (loaded ++ x ∷ []) item.0) is) (owner_of_more loaded x i.0 k.0) (owners_of_more loaded x is k.1)
+
+pub order_of_more : (loaded : List Text) (e : Environment) (name owner : Text) → IsStackInOrder loaded e name → IsStackInOrder (loaded ++ owner ∷ []) e name
+order_of_more loaded e name owner (inl x) = inl x
+order_of_more loaded e name owner (inr w) =
+    inr (record { items = w.items; valid = w.valid; owned = w.owned; owners = owners_of_more loaded owner w.items w.owners; text = w.text; value = w.value })
+
+same_items : (items : List Item) (v : Option Text) (s : StackState) (o : Option StackState) → o ≡ Some (record { items = items; value = v }) → o ≡ Some s → s.items ≡ items
+same_items items v s o h k =
+    let e : s ≡ record { items = items; value = v } = cc in
+    ap (λ (t : StackState). t.items) e
+
+pub order_of_fewer : (loaded : List Text) (e : Environment) (name owner : Text) (s : StackState) → list_all is_module_name loaded ≡ true → IsStackInOrder loaded e name → stack_in e name ≡ Some s → holds owner s.items ≡ false
+    → IsStackInOrder (without owner loaded) e name
+order_of_fewer loaded e name owner s n (inl x) h k = inl x
+order_of_fewer loaded e name owner s n (inr w) h k =
+    let i = same_items w.items (lookup e name) s (stack_in e name) (stack_written loaded e name w n) h in
+    inr (kept loaded e name owner w (ap (holds owner) (sym i) ∙ k))

@@ -1,5 +1,5 @@
 //! Laws of stacks about the definitions alone. Each is a function that does nothing: its contract is the law.
-ghost use Rattle.std.specs.Prelude.{◌≡◌, [], ◌∷◌, List, Option, Some, Ok, true, false, bytes_eq};
+ghost use Rattle.std.specs.Prelude.{◌≡◌, [], ◌∷◌, ◌++◌, List, Option, Some, Ok, true, false, bytes_eq};
 ghost use Rattle.std.specs.List.{list_all};
 ghost use Rattle.modulename.specs.ModuleName.{is_module_name};
 ghost use Rattle.envstate.specs.Texts.{Text, has};
@@ -45,9 +45,11 @@ pub fn stack_edits()
     ensures pop_leaves { (old new : Environment) (name owner : Text) → popped_value old name owner ≡ Ok new → (other : Text) → bytes_eq other name ≡ false → bytes_eq other (stack_name name) ≡ false → lookup new other ≡ lookup old other }
 {}
 
-/// An accepted push by a loaded module leaves a stack in order in order, and so does an accepted pop, also where the
-/// module is loaded no more.
+/// A stack in order stays so by an accepted push of a loaded module, and by an accepted pop, also where the module is
+/// loaded no more. So it does where one more module is loaded, and where one of which it has no item is loaded no more.
 pub fn stack_orders()
     ensures push { (loaded : List Text) (old new : Environment) (name owner value : Text) → list_all is_module_name loaded ≡ true → has owner loaded ≡ true → IsStackInOrder loaded old name → pushed_value old name owner value ≡ Ok new → IsStackInOrder loaded new name }
     ensures pop { (loaded : List Text) (old new : Environment) (name owner : Text) → list_all is_module_name loaded ≡ true → IsStackInOrder loaded old name → popped_value old name owner ≡ Ok new → IsStackInOrder (without owner loaded) new name }
+    ensures more { (loaded : List Text) (e : Environment) (name owner : Text) → IsStackInOrder loaded e name → IsStackInOrder (loaded ++ owner ∷ []) e name }
+    ensures fewer { (loaded : List Text) (e : Environment) (name owner : Text) (s : StackState) → list_all is_module_name loaded ≡ true → IsStackInOrder loaded e name → stack_in e name ≡ Some s → holds owner s.items ≡ false → IsStackInOrder (without owner loaded) e name }
 {}

@@ -32,31 +32,31 @@ abbrev pub LeavesSome : {A : Type 0} → (Text → Type 0) → Option (A × Text
 LeavesSome P None = Unit {0}
 LeavesSome P (Some x) = P x.1
 
-digit_end : (base : ℕ) (bs : Text) → LeavesSome (IsEndOf bs) (digit_at base bs)
+pub digit_end : (base : ℕ) (bs : Text) → LeavesSome (IsEndOf bs) (digit_at base bs)
 digit_end base [] = tt
 digit_end base (b ∷ bs) = either (LeavesSome (IsEndOf (b ∷ bs))) (nat_lt (digit_value b) base) (Some (digit_value b, bs)) None (end_behind b bs bs (end_same bs)) tt
 
-octal_end : (n v : ℕ) (bs : Text) → IsEndOf bs (octal_at n v bs).1
+pub octal_end : (n v : ℕ) (bs : Text) → IsEndOf bs (octal_at n v bs).1
 octal_end zero v bs = end_same bs
 octal_end (suc n) v bs = go (octal_end n) (digit_at 8 bs) (digit_end 8 bs) where
   go : ((w : ℕ) (xs : Text) → IsEndOf xs (octal_at n w xs).1) → (d : Option (ℕ × Text)) → LeavesSome (IsEndOf bs) d → IsEndOf bs (octal_on (octal_at n) v bs d).1
   go more None e = end_same bs
   go more (Some d) e = either (λ (r : ℕ × Text). IsEndOf bs r.1) (nat_lt (v * 8 + d.0) 256) (octal_at n (v * 8 + d.0) d.1) (v, bs) (end_through bs d.1 _ e (more (v * 8 + d.0) d.1)) (end_same bs)
 
-hexadecimal_end : (n v : ℕ) (bs : Text) → IsEndOf bs (hexadecimal_at n v bs).1
+pub hexadecimal_end : (n v : ℕ) (bs : Text) → IsEndOf bs (hexadecimal_at n v bs).1
 hexadecimal_end zero v bs = end_same bs
 hexadecimal_end (suc n) v bs = go (hexadecimal_end n) (digit_at 16 bs) (digit_end 16 bs) where
   go : ((w : ℕ) (xs : Text) → IsEndOf xs (hexadecimal_at n w xs).1) → (d : Option (ℕ × Text)) → LeavesSome (IsEndOf bs) d → IsEndOf bs (hexadecimal_on (hexadecimal_at n) v bs d).1
   go more None e = end_same bs
   go more (Some d) e = end_through bs d.1 _ e (more (v * 16 + d.0) d.1)
 
-character_leaves : (P : Text → Type 0) (r : ℕ × Text) → P r.1 → LeavesSome P (character r)
+pub character_leaves : (P : Text → Type 0) (r : ℕ × Text) → P r.1 → LeavesSome P (character r)
 character_leaves P r h = either (LeavesSome P) (nat_le 55296 r.0 && nat_lt r.0 57344) None (Some _) tt h
 
-code_leaves : (n b : ℕ) (bs : Text) → LeavesSome (IsEndOf bs) (code_at n b bs)
+pub code_leaves : (n b : ℕ) (bs : Text) → LeavesSome (IsEndOf bs) (code_at n b bs)
 code_leaves n b bs = either (LeavesSome (IsEndOf bs)) (begins_hexadecimal bs) (character (hexadecimal_at n 0 bs)) (Some (b ∷ [], bs)) (character_leaves (IsEndOf bs) (hexadecimal_at n 0 bs) (hexadecimal_end n 0 bs)) (end_same bs)
 
-wide_leaves : (bs : Text) → LeavesSome (IsEndOf bs) (wide_code_at bs)
+pub wide_leaves : (bs : Text) → LeavesSome (IsEndOf bs) (wide_code_at bs)
 wide_leaves bs = either (LeavesSome (IsEndOf bs)) (begins_hexadecimal bs) None (Some (85 ∷ [], bs)) tt (end_same bs)
 
 behind_byte : {A : Type 0} (b : ℕ) (bs : Text) (found : Option (A × Text)) → LeavesSome (IsEndOf bs) found → LeavesSome (IsEndOf (b ∷ bs)) found

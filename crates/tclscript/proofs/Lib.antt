@@ -21,3 +21,10 @@ pub mod ScriptExact
 pub mod Whole
 pub mod Clauses
 pub mod Examples
+pub mod NextByte
+pub mod Firm
+pub mod Offending
+pub mod Operands
+pub mod Prefixes
+pub mod Viable
+pub mod BadEscapes

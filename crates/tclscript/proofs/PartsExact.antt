@@ -67,7 +67,7 @@ other_byte InIndex b bs h x y z = grind (arith, nat_tests)
 other_byte InQuotes b bs h x y z = grind (arith, nat_tests)
 
 -- where no part goes on, none is
-part_byte : (c : Context) (b : ℕ) (bs : Text) → (b ≡ 36) ⊎ (b ≡ 91) → parts_end c (b ∷ bs) ≡ false
+pub part_byte : (c : Context) (b : ℕ) (bs : Text) → (b ≡ 36) ⊎ (b ≡ 91) → parts_end c (b ∷ bs) ≡ false
 part_byte InScript b bs (inl h) = rw h refl
 part_byte InScript b bs (inr h) = rw h refl
 part_byte InBracket b bs (inl h) = rw h refl
@@ -86,7 +86,7 @@ newline_escape (b ∷ bs) h = go (b == newline) refl h where
     apart : {A : Type 0} {x : A} → Some x ≡ None → ⊥
     apart h = cc
 
-backslash_goes_on : (c : Context) (bs : Text) → begins newline bs ≡ false → parts_end c (92 ∷ bs) ≡ false
+pub backslash_goes_on : (c : Context) (bs : Text) → begins newline bs ≡ false → parts_end c (92 ∷ bs) ≡ false
 backslash_goes_on InScript bs h = h
 backslash_goes_on InBracket bs h = h
 backslash_goes_on InIndex bs h = refl
@@ -128,7 +128,7 @@ part_some c (bracket s) t r h = omega (arith, ap length h.1)
 module _ (d : ℕ) (inner : Inner) (exact : IsExactInner d inner) where
   -- Brackets
 
-  bracket_sound : (c : Context) (bs : Text) (p : Part) (r : Text) → bracket_at inner bs ≡ Ok (p, r) → Took (DollarIs d c) (91 ∷ bs) p r
+  pub bracket_sound : (c : Context) (bs : Text) (p : Part) (r : Text) → bracket_at inner bs ≡ Ok (p, r) → Took (DollarIs d c) (91 ∷ bs) p r
   unfolding bracket_at
   bracket_sound c bs p r h =
       let mark = OpenBracket (suc (length bs)) in
@@ -144,7 +144,7 @@ module _ (d : ℕ) (inner : Inner) (exact : IsExactInner d inner) where
       } in
       subst (λ p. Took (DollarIs d c) (91 ∷ bs) p r) two.0 made
 
-  bracket_faulty : (bs : Text) (f : Fault) → bracket_at inner bs ≡ Err f → PartFault d (91 ∷ bs) f
+  pub bracket_faulty : (bs : Text) (f : Fault) → bracket_at inner bs ≡ Err f → PartFault d (91 ∷ bs) f
   unfolding bracket_at
   bracket_faulty bs f h =
       let mark = OpenBracket (suc (length bs)) in
@@ -175,7 +175,7 @@ module _ (d : ℕ) (inner : Inner) (exact : IsExactInner d inner) where
               | inr k ↦ absurd (ok_err (bracket s, k.0) f k.2)
             ]
 
-  bracket_again : (inside r : Text) (s : Commands) → IsCommands true s inside (93 ∷ r) → nesting s < d → bracket_at inner (inside ++ 93 ∷ r) ≡ Ok (bracket s, r)
+  pub bracket_again : (inside r : Text) (s : Commands) → IsCommands true s inside (93 ∷ r) → nesting s < d → bracket_at inner (inside ++ 93 ∷ r) ≡ Ok (bracket s, r)
   unfolding bracket_at
   bracket_again inside r s h less =
       let bs = inside ++ 93 ∷ r in

@@ -375,6 +375,10 @@ module _ (d : ℕ) (inner : Inner) (exact : IsExactInner d inner) (nested : Bool
       let two : Without 34 bs = subst (Without 34) (append-nil bs) free.1 in
       at_bare bs one two ∙ parts_met d inner exact (bare nested) bs f k
 
+  -- the mark {*} alone, where the word doesn't end behind it
+  pub star_joined : (rest : Text) → word_ends nested rest ≡ false → plain_word_at nested inner (123 ∷ (42 ∷ (125 ∷ rest))) ≡ Err (JoinedToClose (length rest))
+  star_joined rest h = at_brace (42 ∷ (125 ∷ rest)) ∙ braced_joined (42 ∷ []) rest one_star h
+
   -- A word
 
   abbrev pub WordIs : Word → Text → Text → Type 0
@@ -416,7 +420,7 @@ module _ (d : ℕ) (inner : Inner) (exact : IsExactInner d inner) (nested : Bool
     | inr k ↦ k.1
     | inl k ↦ (
         let joined : plain_word_at nested inner (t ++ r) ≡ Err (JoinedToClose (length k.0.0)) =
-        ap (plain_word_at nested inner) k.0.1 ∙ at_brace (42 ∷ (125 ∷ k.0.0)) ∙ braced_joined (42 ∷ []) k.0.0 one_star k.0.2 in
+        ap (plain_word_at nested inner) k.0.1 ∙ star_joined k.0.0 k.0.2 in
         absurd (err_ok (ps, r) _ (sym joined ∙ plain_again ps t r h))
         )
   ]

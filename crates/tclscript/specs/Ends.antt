@@ -4,23 +4,24 @@ use Rattle.tclchars.specs.Runs.{Text, begins}
 use Rattle.tclchars.specs.Bytes.{newline, backslash, is_end, is_gap}
 use Rattle.tclchars.specs.declared.runs.Class.{Class}
 use Rattle.tclchars.specs.declared.runs.Class.TheVariants.{BareScript, BareBracket, BareIndex, BareQuote}
+use Rattle.tclscript.specs.Marks.{quote, right_parenthesis, right_bracket}
 use Rattle.tclscript.specs.declared.context.Context.{Context}
 use Rattle.tclscript.specs.declared.context.Context.TheVariants.{InScript, InBracket, InIndex, InQuotes}
 
 -- a script in brackets ends at the bracket that closes
 abbrev pub script_ends : Bool → Text → Bool
 script_ends nested [] = true
-script_ends nested (b ∷ bs) = nested && b == 93
+script_ends nested (b ∷ bs) = nested && b == right_bracket
 
 -- a command ends at a newline or semicolon as well
 abbrev pub command_ends : Bool → Text → Bool
 command_ends nested [] = true
-command_ends nested (b ∷ bs) = is_end b || (nested && b == 93)
+command_ends nested (b ∷ bs) = is_end b || (nested && b == right_bracket)
 
 -- a word ends at white space as well, of which a backslash before a newline is a part
 abbrev pub word_ends : Bool → Text → Bool
 word_ends nested [] = true
-word_ends nested (b ∷ bs) = is_gap b || (nested && b == 93) || (b == backslash && begins newline bs)
+word_ends nested (b ∷ bs) = is_gap b || (nested && b == right_bracket) || (b == backslash && begins newline bs)
 
 -- nothing, or this mark
 abbrev pub stands_before : ℕ → Text → Bool
@@ -31,8 +32,8 @@ stands_before mark (b ∷ bs) = b == mark
 abbrev pub parts_end : Context → Text → Bool
 parts_end InScript bs = word_ends false bs
 parts_end InBracket bs = word_ends true bs
-parts_end InIndex bs = stands_before 41 bs
-parts_end InQuotes bs = stands_before 34 bs
+parts_end InIndex bs = stands_before right_parenthesis bs
+parts_end InQuotes bs = stands_before quote bs
 
 -- what stands for itself there
 abbrev pub class_of : Context → Class

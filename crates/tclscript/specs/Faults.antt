@@ -12,6 +12,7 @@ use Rattle.tclchars.specs.declared.fault.Fault.{Fault}
 use Rattle.tclchars.specs.declared.fault.Fault.TheVariants.{OpenBrace, OpenQuote, OpenBracket, JoinedToClose, TooDeep, BadCharacter}
 use Rattle.tclchars.specs.declared.fault.TextFault.{TextFault}
 use Rattle.tclchars.specs.declared.fault.TextFault.TheVariants as faults
+use Rattle.tclscript.specs.Marks.{quote, dollar, left_parenthesis, star, left_bracket, left_brace, right_brace}
 use Rattle.tclscript.specs.declared.context.Context.{Context}
 use Rattle.tclscript.specs.declared.context.Context.TheVariants.{InIndex, InQuotes}
 use Rattle.tclscript.specs.Tree.{Commands, Words, Word, Parts, Part, nesting, words_nesting, word_nesting, parts_nesting, part_nesting}
@@ -20,11 +21,11 @@ use Rattle.tclscript.specs.Grammar.{IsBlanks, IsGap, IsName, IsCommands, IsComma
 
 -- no brace closes what stands behind an opening one
 abbrev pub NeverCloses : Text → Type 0
-NeverCloses bs = (inside rest : Text) → bs ≡ inside ++ 125 ∷ rest → Balanced inside → ⊥
+NeverCloses bs = (inside rest : Text) → bs ≡ inside ++ right_brace ∷ rest → Balanced inside → ⊥
 
 -- the mark {*}, behind which the word doesn't end
 abbrev pub Expands : Bool → Text → Type 0
-Expands nested bs = (rest : Text) × (bs ≡ 123 ∷ (42 ∷ (125 ∷ rest))) × (word_ends nested rest ≡ false)
+Expands nested bs = (rest : Text) × (bs ≡ left_brace ∷ (star ∷ (right_brace ∷ rest))) × (word_ends nested rest ≡ false)
 
 -- The number says how many brackets and indexes more may nest; the flag, that the text stands in brackets.
 mutual
@@ -49,18 +50,18 @@ mutual
   pub data WordFault : ℕ → Bool → Text → Fault → Type 0 where
     plain : {d : ℕ} {nested : Bool} {bs : Text} {f : Fault} → (Expands nested bs → ⊥) → PlainFault d nested bs f → WordFault d nested bs f
     expanding : {d : ℕ} {nested : Bool} {body : Text} {f : Fault} → word_ends nested body ≡ false → PlainFault d nested body f
-        → WordFault d nested (123 ∷ (42 ∷ (125 ∷ body))) f
+        → WordFault d nested (left_brace ∷ (star ∷ (right_brace ∷ body))) f
 
   -- of a word in braces, in quotes or bare
   pub data PlainFault : ℕ → Bool → Text → Fault → Type 0 where
-    open_brace : {d : ℕ} {nested : Bool} {bs : Text} → NeverCloses bs → PlainFault d nested (123 ∷ bs) (OpenBrace (suc (length bs)))
+    open_brace : {d : ℕ} {nested : Bool} {bs : Text} → NeverCloses bs → PlainFault d nested (left_brace ∷ bs) (OpenBrace (suc (length bs)))
     joined_brace : {d : ℕ} {nested : Bool} (inside rest : Text) → Balanced inside → word_ends nested rest ≡ false
-        → PlainFault d nested (123 ∷ (inside ++ 125 ∷ rest)) (JoinedToClose (length rest))
-    in_quotes : {d : ℕ} {nested : Bool} {bs : Text} {f : Fault} → PartsFault d InQuotes bs f → PlainFault d nested (34 ∷ bs) f
-    open_quote : {d : ℕ} {nested : Bool} {bs : Text} (ps : Parts) → IsParts InQuotes ps bs [] → parts_nesting ps ≤ d → PlainFault d nested (34 ∷ bs) (OpenQuote (suc (length bs)))
-    joined_quote : {d : ℕ} {nested : Bool} (inside rest : Text) (ps : Parts) → IsParts InQuotes ps inside (34 ∷ rest) → parts_nesting ps ≤ d → word_ends nested rest ≡ false
-        → PlainFault d nested (34 ∷ (inside ++ 34 ∷ rest)) (JoinedToClose (length rest))
-    in_bare : {d : ℕ} {nested : Bool} {bs : Text} {f : Fault} → DoesBegin (λ b. not (b == 123 || b == 34)) bs → PartsFault d (bare nested) bs f → PlainFault d nested bs f
+        → PlainFault d nested (left_brace ∷ (inside ++ right_brace ∷ rest)) (JoinedToClose (length rest))
+    in_quotes : {d : ℕ} {nested : Bool} {bs : Text} {f : Fault} → PartsFault d InQuotes bs f → PlainFault d nested (quote ∷ bs) f
+    open_quote : {d : ℕ} {nested : Bool} {bs : Text} (ps : Parts) → IsParts InQuotes ps bs [] → parts_nesting ps ≤ d → PlainFault d nested (quote ∷ bs) (OpenQuote (suc (length bs)))
+    joined_quote : {d : ℕ} {nested : Bool} (inside rest : Text) (ps : Parts) → IsParts InQuotes ps inside (quote ∷ rest) → parts_nesting ps ≤ d → word_ends nested rest ≡ false
+        → PlainFault d nested (quote ∷ (inside ++ quote ∷ rest)) (JoinedToClose (length rest))
+    in_bare : {d : ℕ} {nested : Bool} {bs : Text} {f : Fault} → DoesBegin (λ b. not (b == left_brace || b == quote)) bs → PartsFault d (bare nested) bs f → PlainFault d nested bs f
 
   -- of parts, in the first of them or a later one
   pub data PartsFault : ℕ → Context → Text → Fault → Type 0 where
@@ -69,15 +70,15 @@ mutual
         → PartsFault d c rest f → PartsFault d c (body ++ rest) f
 
   pub data PartFault : ℕ → Text → Fault → Type 0 where
-    open_name : {d : ℕ} {bs : Text} → AllPass (in_class InName) bs → PartFault d (36 ∷ (123 ∷ bs)) (OpenBrace (suc (length bs)))
+    open_name : {d : ℕ} {bs : Text} → AllPass (in_class InName) bs → PartFault d (dollar ∷ (left_brace ∷ bs)) (OpenBrace (suc (length bs)))
     bad_character : {d : ℕ} {bs : Text} → bs ≢ [] → after_backslash bs ≡ None → PartFault d (backslash ∷ bs) (BadCharacter (suc (length bs)))
-    bracket_too_deep : {bs : Text} → PartFault zero (91 ∷ bs) TooDeep
-    in_bracket : {d : ℕ} {bs : Text} {f : Fault} → CommandsFault d true bs f → PartFault (suc d) (91 ∷ bs) f
-    open_bracket : {d : ℕ} {bs : Text} (s : Commands) → IsCommands true s bs [] → nesting s ≤ d → PartFault (suc d) (91 ∷ bs) (OpenBracket (suc (length bs)))
-    index_too_deep : (name bs : Text) → IsName name → PartFault zero (36 ∷ (name ++ 40 ∷ bs)) TooDeep
-    in_index : {d : ℕ} (name bs : Text) {f : Fault} → IsName name → PartsFault d InIndex bs f → PartFault (suc d) (36 ∷ (name ++ 40 ∷ bs)) f
+    bracket_too_deep : {bs : Text} → PartFault zero (left_bracket ∷ bs) TooDeep
+    in_bracket : {d : ℕ} {bs : Text} {f : Fault} → CommandsFault d true bs f → PartFault (suc d) (left_bracket ∷ bs) f
+    open_bracket : {d : ℕ} {bs : Text} (s : Commands) → IsCommands true s bs [] → nesting s ≤ d → PartFault (suc d) (left_bracket ∷ bs) (OpenBracket (suc (length bs)))
+    index_too_deep : (name bs : Text) → IsName name → PartFault zero (dollar ∷ (name ++ left_parenthesis ∷ bs)) TooDeep
+    in_index : {d : ℕ} (name bs : Text) {f : Fault} → IsName name → PartsFault d InIndex bs f → PartFault (suc d) (dollar ∷ (name ++ left_parenthesis ∷ bs)) f
     open_index : {d : ℕ} (name bs : Text) (ps : Parts) → IsName name → IsParts InIndex ps bs [] → parts_nesting ps ≤ d
-        → PartFault (suc d) (36 ∷ (name ++ 40 ∷ bs)) (BadCharacter (suc (length bs)))
+        → PartFault (suc d) (dollar ∷ (name ++ left_parenthesis ∷ bs)) (BadCharacter (suc (length bs)))
 
 -- the first fault of a text, with the number of bytes from its mark on
 abbrev pub IsFault : ℕ → Text → Fault → Type 0

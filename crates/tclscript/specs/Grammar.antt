@@ -7,6 +7,7 @@ use Rattle.tclchars.specs.Classes.{in_class, is_name}
 use Rattle.tclchars.specs.Backslash.{after_backslash}
 use Rattle.tclchars.specs.Braces.{Balanced}
 use Rattle.tclchars.specs.declared.runs.Class.TheVariants.{InName}
+use Rattle.tclscript.specs.Marks.{quote, dollar, left_parenthesis, right_parenthesis, star, colon, left_bracket, right_bracket, left_brace, right_brace}
 use Rattle.tclscript.specs.declared.context.Context.{Context}
 use Rattle.tclscript.specs.declared.context.Context.TheVariants.{InIndex, InQuotes}
 use Rattle.tclscript.specs.Tree as tree
@@ -36,13 +37,13 @@ pub data IsGap : Text → Text → Type 0 where
   open_escape : {inside : Text} → IsComment inside → IsGap (hash ∷ (inside ++ backslash ∷ [])) []
 
 abbrev pub is_colon : ℕ → Bool
-is_colon b = b == 58
+is_colon b = b == colon
 
 -- a name of a variable: letters, digits, underscores, and runs of two or more colons
 pub data IsName : Text → Type 0 where
   nothing : IsName []
   letter : {b : ℕ} {bs : Text} → is_name b ≡ true → IsName bs → IsName (b ∷ bs)
-  colons : (run : Text) {bs : Text} → AllPass is_colon run → IsName bs → IsName (58 ∷ (58 ∷ (run ++ bs)))
+  colons : (run : Text) {bs : Text} → AllPass is_colon run → IsName bs → IsName (colon ∷ (colon ∷ (run ++ bs)))
 
 -- the longest name at the front
 abbrev pub IsLongestName : Text → Text → Type 0
@@ -53,7 +54,7 @@ abbrev pub IsRun : Context → Text → Text → Type 0
 IsRun c t after = DoesBegin (in_class (class_of c)) t × AllPass (in_class (class_of c)) t × MayBegin (λ b. not (in_class (class_of c) b)) after
 
 abbrev pub IsDollar : Text → Text → Type 0
-IsDollar t after = (t ≡ 36 ∷ []) × IsLongestName [] after × MayBegin (λ b. not (b == 40 || b == 123)) after
+IsDollar t after = (t ≡ dollar ∷ []) × IsLongestName [] after × MayBegin (λ b. not (b == left_parenthesis || b == left_brace)) after
 
 abbrev pub IsLastBackslash : Text → Text → Type 0
 IsLastBackslash t after = (t ≡ backslash ∷ []) × (after ≡ [])
@@ -63,11 +64,11 @@ IsLiteral c t after = IsRun c t after ⊎ (IsDollar t after ⊎ IsLastBackslash 
 
 -- $name, not before a parenthesis
 abbrev pub IsPlainVariable : Text → Text → Text → Type 0
-IsPlainVariable name bs after = (bs ≡ 36 ∷ name) × (name ≢ []) × IsLongestName name after × MayBegin (λ b. not (b == 40)) after
+IsPlainVariable name bs after = (bs ≡ dollar ∷ name) × (name ≢ []) × IsLongestName name after × MayBegin (λ b. not (b == left_parenthesis)) after
 
 -- ${name}
 abbrev pub IsBracedVariable : Text → Text → Type 0
-IsBracedVariable name bs = (bs ≡ 36 ∷ (123 ∷ (name ++ 125 ∷ []))) × AllPass (in_class InName) name
+IsBracedVariable name bs = (bs ≡ dollar ∷ (left_brace ∷ (name ++ right_brace ∷ []))) × AllPass (in_class InName) name
 
 -- the text is a first and a second part
 pub record Split (bs : Text) (First : Text → Text → Type 0) (Second : Text → Type 0) : Type 0 where
@@ -79,20 +80,20 @@ pub record Split (bs : Text) (First : Text → Text → Type 0) (Second : Text �
 
 -- A word in braces, in quotes or bare, of these parts: Stands says of which texts they are the parts. A word ends behind it.
 abbrev pub IsBracedWord : Parts → Text → Type 0
-IsBracedWord ps bs = (inside : Text) × (ps ≡ part (braced inside) no_parts) × (bs ≡ 123 ∷ (inside ++ 125 ∷ [])) × Balanced inside
+IsBracedWord ps bs = (inside : Text) × (ps ≡ part (braced inside) no_parts) × (bs ≡ left_brace ∷ (inside ++ right_brace ∷ [])) × Balanced inside
 
 abbrev pub IsQuotedWord : (Context → Text → Text → Type 0) → Text → Text → Type 0
-IsQuotedWord Stands bs after = (inside : Text) × (bs ≡ 34 ∷ (inside ++ 34 ∷ [])) × Stands InQuotes inside (34 ∷ after)
+IsQuotedWord Stands bs after = (inside : Text) × (bs ≡ quote ∷ (inside ++ quote ∷ [])) × Stands InQuotes inside (quote ∷ after)
 
 abbrev pub IsBareWord : Bool → (Context → Text → Text → Type 0) → Text → Text → Type 0
-IsBareWord nested Stands bs after = DoesBegin (λ b. not (b == 123 || b == 34)) bs × Stands (bare nested) bs after
+IsBareWord nested Stands bs after = DoesBegin (λ b. not (b == left_brace || b == quote)) bs × Stands (bare nested) bs after
 
 abbrev pub IsPlainWord : Bool → Parts → (Context → Text → Text → Type 0) → Text → Text → Type 0
 IsPlainWord nested ps Stands bs after = (word_ends nested after ≡ true) × (IsBracedWord ps bs ⊎ (IsQuotedWord Stands bs after ⊎ IsBareWord nested Stands bs after))
 
 -- the mark {*} and a text, where the word doesn't end between them
 abbrev pub IsExpanding : Bool → (Text → Type 0) → Text → Text → Type 0
-IsExpanding nested Is bs after = (body : Text) × (bs ≡ 123 ∷ (42 ∷ (125 ∷ body))) × (word_ends nested (body ++ after) ≡ false) × Is body
+IsExpanding nested Is bs after = (body : Text) × (bs ≡ left_brace ∷ (star ∷ (right_brace ∷ body))) × (word_ends nested (body ++ after) ≡ false) × Is body
 
 -- The flag says that the text stands in brackets.
 abbrev mutual
@@ -130,8 +131,8 @@ abbrev mutual
   IsPart c (braced t) bs after = ⊥
   IsPart c (tree.backslash value) bs after = (escape : Text) × (bs ≡ backslash ∷ escape) × (after_backslash (escape ++ after) ≡ Some (value, after))
   IsPart c (variable name) bs after = IsPlainVariable name bs after ⊎ IsBracedVariable name bs
-  IsPart c (indexed name ps) bs after = (inside : Text) × (bs ≡ 36 ∷ (name ++ 40 ∷ (inside ++ 41 ∷ []))) × IsName name × IsParts InIndex ps inside (41 ∷ after)
-  IsPart c (bracket s) bs after = (inside : Text) × (bs ≡ 91 ∷ (inside ++ 93 ∷ [])) × IsCommands true s inside (93 ∷ after)
+  IsPart c (indexed name ps) bs after = (inside : Text) × (bs ≡ dollar ∷ (name ++ left_parenthesis ∷ (inside ++ right_parenthesis ∷ []))) × IsName name × IsParts InIndex ps inside (right_parenthesis ∷ after)
+  IsPart c (bracket s) bs after = (inside : Text) × (bs ≡ left_bracket ∷ (inside ++ right_bracket ∷ [])) × IsCommands true s inside (right_bracket ∷ after)
 
 -- the text is a script with this tree
 abbrev pub IsScript : Text → Commands → Type 0

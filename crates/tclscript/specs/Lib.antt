@@ -1,3 +1,4 @@
+pub mod Marks
 pub mod Tree
 pub mod Ends
 pub mod Passing
@@ -7,3 +8,4 @@ pub mod View
 pub mod Text
 pub mod Grammar
 pub mod Faults
+pub mod Offending

@@ -1,11 +1,15 @@
-ghost use Rattle.std.specs.Prelude.{◌≡◌, ◌≢◌, ◌↔◌, ◌≤◌, length, Ok, Err};
+ghost use Rattle.std.specs.Prelude.{◌≡◌, ◌≢◌, ◌↔◌, ◌≤◌, suc, [], ◌∷◌, ◌++◌, length, Ok, Err, None};
 ghost use Rattle.tclchars.specs.Runs.{Text};
+ghost use Rattle.tclchars.specs.Bytes.{backslash};
+ghost use Rattle.tclchars.specs.Backslash.{after_backslash};
 ghost use Rattle.tclchars.specs.Faults.{max_bytes, max_nesting};
+ghost use Rattle.tclchars.specs.declared.fault.Fault.TheVariants.{JoinedToClose, BadCharacter};
 ghost use Rattle.tclchars.specs.declared.fault.TextFault.{TextFault};
 ghost use Rattle.tclchars.specs.declared.fault.TextFault.TheVariants.{OutOfMemory};
 ghost use Rattle.tclscript.specs.Tree.{Commands, nesting};
 ghost use Rattle.tclscript.specs.Grammar.{IsScript};
-ghost use Rattle.tclscript.specs.Faults.{IsTextFault};
+ghost use Rattle.tclscript.specs.Faults.{IsFault, IsTextFault};
+ghost use Rattle.tclscript.specs.Offending.{GoesOn, IsOffender, IsBadEscape};
 ghost use Rattle.tclscript.specs.Text.{script_of};
 
 /// A text is a script with one tree at most.
@@ -25,4 +29,17 @@ pub fn script_of_grammar()
     ensures fault { (bs : Text) (f : TextFault) → f ≢ OutOfMemory → (script_of bs ≡ Err f) ↔ IsTextFault bs f }
     ensures no_memory { (bs : Text) → script_of bs ≢ Err OutOfMemory }
     ensures no_tree { (bs : Text) (f : TextFault) (s : Commands) → f ≢ OutOfMemory → IsTextFault bs f → IsScript bs s → nesting s ≤ max_nesting → length bs ≤ max_bytes → ⊥ }
+{}
+
+/// Where something offends that follows a closing brace or quote, or that a backslash begins, a script begins with the text
+/// before it, and none with the text up to and with it, however deep that nests. What a backslash begins offends by five bytes
+/// behind it at most.
+pub fn first_offending()
+    ensures before_joined { (before rest : Text) → IsFault max_nesting (before ++ rest) (JoinedToClose (length rest)) → GoesOn before }
+    ensures with_joined { (before bad rest : Text) → IsFault max_nesting (before ++ (bad ++ rest)) (JoinedToClose (length (bad ++ rest))) → IsOffender bad
+        → GoesOn (before ++ bad) → ⊥ }
+    ensures before_escape { (before rest : Text) → IsFault max_nesting (before ++ backslash ∷ rest) (BadCharacter (suc (length rest))) → GoesOn before }
+    ensures with_escape { (before bad rest : Text) → IsFault max_nesting (before ++ backslash ∷ (bad ++ rest)) (BadCharacter (suc (length (bad ++ rest)))) → IsBadEscape bad
+        → GoesOn (before ++ backslash ∷ bad) → ⊥ }
+    ensures escapes { (bs : Text) → bs ≢ [] → after_backslash bs ≡ None → (bad : Text) × (rest : Text) × (bs ≡ bad ++ rest) × (length bad ≤ 5) × IsBadEscape bad }
 {}

@@ -11,7 +11,7 @@ mod tests;
 mod text;
 mod tree;
 
-pub use laws::{one_fault, one_script, script_of_grammar};
+pub use laws::{first_offending, one_fault, one_script, script_of_grammar};
 pub use piece::{ByteRange, Source};
 pub use reading::{read_bracket, read_dollar, read_quotes};
 pub use text::{MAX_BYTES, MAX_NESTING, parse_pieces, parse_script};

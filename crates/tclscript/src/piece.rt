@@ -2,7 +2,7 @@ ghost use Rattle.std.specs.Prelude.{◌≡◌, ◌-◌, take, drop};
 ghost use Rattle.tclchars.specs.Runs.{Text};
 ghost use Rattle.tclscript.specs.Pieces.{IsEndOf, IsFrontOf};
 
-/// A source text, with what stands for a piece of it.
+/// A source text, of which a `P` stands for a piece: `text` is the whole, and `shown` the text that a piece stands for.
 pub trait Source<P> {
     ghost text: { Self → Text };
 

@@ -63,6 +63,7 @@ fn taken<'a, S: Source<P>, P: Drop>(source: &S, text: &'a str, rest: &'a str) ->
     source.cut(text, text.split_at(text.len() - rest.len()).0)
 }
 
+// The run in front that stands for itself there, and what follows it.
 fn read_literal<'a, S: Source<P>, P: Drop>(
     source: &S,
     text: &'a str,
@@ -164,6 +165,7 @@ pub(crate) fn read_source<S: Source<P>, P: Drop>(
     Ok(script)
 }
 
+// A script, and what follows it: nothing, or the bracket that closes where it stands in one.
 #[cycle(read)]
 fn read_script<'a, S: Source<P>, P: Drop>(
     alloc: Global,
@@ -188,6 +190,7 @@ fn read_script<'a, S: Source<P>, P: Drop>(
     }
 }
 
+// A command, whose first word stands in front, and what follows it.
 #[cycle(read)]
 fn read_command<'a, S: Source<P>, P: Drop>(
     alloc: Global,
@@ -221,6 +224,7 @@ fn read_command<'a, S: Source<P>, P: Drop>(
     }
 }
 
+// The word in front, and what follows it.
 #[cycle(read)]
 #[tactic(auto, unfolding(crate::specs::Reading::word_at))]
 fn read_word<'a, S: Source<P>, P: Drop>(
@@ -317,6 +321,7 @@ fn read_quoted<'a, S: Source<P>, P: Drop>(
     Ok((parts, rest))
 }
 
+// The parts in front up to where none follows there, and what follows them.
 #[cycle(read)]
 fn read_parts<'a, S: Source<P>, P: Drop>(
     alloc: Global,
@@ -340,6 +345,7 @@ fn read_parts<'a, S: Source<P>, P: Drop>(
     }
 }
 
+// The part in front, where one is, and what follows it.
 #[cycle(read)]
 #[tactic(auto, unfolding(crate::specs::Reading::part_at))]
 fn read_part<'a, S: Source<P>, P: Drop>(

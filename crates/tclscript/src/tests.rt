@@ -1,66 +1,146 @@
 use super::*;
 use std::test::Fail;
-use tclchars::TextFault;
+use tclchars::{TextFault, after_mark};
 
+// Each text, with its fault as Rust prints it.
 #[test]
-fn words(rt: HostRuntime) -> Result<(), Fail> {
-    let script = parse_script(rt.alloc(), "set a {b {c} \\} d}; puts x[f [g]]y\n")
-        .ok()
-        .ok_or("a script")?;
-    assert_eq!(rt; script.commands.len(), 2);
-    assert_eq!(rt; script.commands[0].words.len(), 3);
-    assert_eq!(rt; script.commands[1].source, "puts");
+fn faults(rt: HostRuntime) -> Result<(), Fail> {
+    for (text, fault) in [
+        ("set a {b}c", "JoinedToClose(9)"),
+        ("set a \"x [y", "OpenBracket(9)"),
+        ("set a \"x", "OpenQuote(6)"),
+        ("set a \\uD800", "BadCharacter(6)"),
+        ("\"x \\uD800", "BadCharacter(3)"),
+        ("[foo {b}c", "JoinedToClose(8)"),
+        ("$x(a", "BadCharacter(2)"),
+        ("\"$x([a", "OpenBracket(4)"),
+        ("${a", "OpenBrace(1)"),
+        ("a {b \\}", "OpenBrace(2)"),
+        ("a \"b\"{", "JoinedToClose(5)"),
+        ("[a {b}] {", "OpenBrace(8)"),
+        ("[# b ]", "OpenBracket(0)"),
+    ] {
+        let found = parse_script(rt.alloc(), text).err().ok_or("a fault")?;
+        assert_eq!(rt; format!(in rt.alloc(); "{found:?}")?.as_str(), fault);
+    }
     Ok(())
 }
 
 #[test]
-fn faults(rt: HostRuntime) {
+fn limits(rt: HostRuntime) -> Result<(), Fail> {
+    let deep = format!(in rt.alloc();
+        "{}{}",
+        "[".repeat(rt.alloc(), 200)?,
+        "]".repeat(rt.alloc(), 200)?
+    )?;
+    assert!(rt; parse_script(rt.alloc(), deep.as_str()).is_ok());
+    let deeper = "[".repeat(rt.alloc(), 201)?;
     assert!(rt;
         matches!(
-            parse_script(rt.alloc(), "set a {b}c"),
-            Err(TextFault::JoinedToClose(9))
+            parse_script(rt.alloc(), deeper.as_str()),
+            Err(TextFault::TooDeep)
         )
     );
+    let long = "a".repeat(rt.alloc(), MAX_BYTES)?;
+    assert!(rt; parse_script(rt.alloc(), long.as_str()).is_ok());
+    let longer = "{".repeat(rt.alloc(), MAX_BYTES + 1)?;
     assert!(rt;
         matches!(
-            parse_script(rt.alloc(), "set a \"x [y"),
-            Err(TextFault::OpenBracket(9))
+            parse_script(rt.alloc(), longer.as_str()),
+            Err(TextFault::TooLong)
         )
     );
+    Ok(())
+}
+
+#[test]
+fn ranges(rt: HostRuntime) -> Result<(), Fail> {
+    let text = "a [b {c d}]\n$ef";
+    let script: Script<ByteRange> = parse_pieces(rt.alloc(), &text)?;
+    let word = script
+        .commands
+        .first()
+        .and_then(|c| c.words.get(1))
+        .ok_or("a word")?;
+    assert_eq!(rt; word.parts.len(), 1);
+    let last = script.commands.last().ok_or("a command")?;
+    assert_eq!(rt; last.source, ByteRange { start: 12, end: 15 });
     assert!(rt;
         matches!(
-            parse_script(rt.alloc(), "set a \"x"),
-            Err(TextFault::OpenQuote(6))
+            last.words.first().map(|w| w.parts.as_slice()),
+            Some([Part::Variable(ByteRange { start: 13, end: 15 })])
         )
     );
-    assert!(rt;
-        matches!(
-            parse_script(rt.alloc(), "set a \\uD800"),
-            Err(TextFault::BadCharacter(6))
-        )
-    );
-    assert!(rt;
-        matches!(
-            parse_script(rt.alloc(), "\"x \\uD800"),
-            Err(TextFault::BadCharacter(3))
-        )
-    );
-    assert!(rt;
-        matches!(
-            parse_script(rt.alloc(), "[foo {b}c"),
-            Err(TextFault::JoinedToClose(8))
-        )
-    );
-    assert!(rt;
-        matches!(
-            parse_script(rt.alloc(), "$x(a"),
-            Err(TextFault::BadCharacter(2))
-        )
-    );
-    assert!(rt;
-        matches!(
-            parse_script(rt.alloc(), "${a"),
-            Err(TextFault::OpenBrace(1))
-        )
-    );
+    Ok(())
+}
+
+// The readers of parts of a script, each at the front of a text.
+#[test]
+fn operands(rt: HostRuntime) -> Result<(), Fail> {
+    let text = "$a(b)+";
+    let behind = after_mark(text, b'$').ok_or("a dollar")?;
+    let (variable, rest): (Part<&str>, &str) = read_dollar(rt.alloc(), &text, text, behind, 1)
+        .ok()
+        .ok_or("a variable")?;
+    assert!(rt; matches!(variable, Part::Indexed("a", _)));
+    assert_eq!(rt; rest, "+");
+
+    let text = "\"c$d\"-";
+    let behind = after_mark(text, b'"').ok_or("a quote")?;
+    let (parts, rest): (Vec<Part<&str>>, &str) = read_quotes(rt.alloc(), &text, behind, 0)
+        .ok()
+        .ok_or("quotes")?;
+    assert_eq!(rt; parts.len(), 2);
+    assert_eq!(rt; rest, "-");
+
+    let text = "[e]*";
+    let behind = after_mark(text, b'[').ok_or("a bracket")?;
+    let (script, rest): (Part<&str>, &str) = read_bracket(rt.alloc(), &text, behind, 1)
+        .ok()
+        .ok_or("a script")?;
+    assert!(rt; matches!(script, Part::Bracket(_)));
+    assert_eq!(rt; rest, "*");
+    Ok(())
+}
+
+// Each script, with its tree as Rust prints it.
+#[test]
+fn trees(rt: HostRuntime) -> Result<(), Fail> {
+    for (text, words) in [
+        (
+            "a {b {c} \\} d}",
+            "[Literal(\"a\")] [Braced(\"b {c} \\\\} d\")] ",
+        ),
+        ("\"a b\"\\\n c", "[Literal(\"a b\")] [Literal(\"c\")] "),
+        (
+            "a$b.$::c::d:${e f}$",
+            "[Literal(\"a\"), Variable(\"b\"), Literal(\".\"), Variable(\"::c::d\"), Literal(\":\"), Variable(\"e f\"), Literal(\"$\")] ",
+        ),
+        (
+            "$a(b$c x)",
+            "[Indexed(\"a\", [Literal(\"b\"), Variable(\"c\"), Literal(\" x\")])] ",
+        ),
+        (
+            "$(x)]",
+            "[Indexed(\"\", [Literal(\"x\")]), Literal(\"]\")] ",
+        ),
+        (
+            "{*} {*}{a b} {*}$c",
+            "[Braced(\"*\")] *[Braced(\"a b\")] *[Variable(\"c\")] ",
+        ),
+        (
+            "\\x41\\101\\n\\u00e9\\",
+            "[Backslash('A'), Backslash('A'), Backslash('\\n'), Backslash('\u{e9}'), Literal(\"\\\\\")] ",
+        ),
+        ("# a ] \\\n b\n;a#b", "[Literal(\"a#b\")] "),
+    ] {
+        let script = parse_script(rt.alloc(), text)?;
+        let mut shown = String::new(rt.alloc());
+        for word in script.commands.iter().flat_map(|c| c.words.iter()) {
+            let mark = if word.expands { "*" } else { "" };
+            shown.push_str(format!(in rt.alloc(); "{mark}{:?} ", word.parts)?.as_str())?;
+        }
+        assert_eq!(rt; shown.as_str(), words);
+    }
+    Ok(())
 }

@@ -12,4 +12,5 @@ pub use number::{Numeral, read_number};
 pub use operator::{BinaryOperator, UnaryOperator};
 pub use tclchars::{TextFault, push_braced_text};
 pub use tcllist::{parse_list, write_list};
+pub use tclpattern::glob_match;
 pub use tclscript::{Command, Part, Script, Word, parse_script};

@@ -1,0 +1,44 @@
+-- Stars that a match comes to.
+use Rattle.std.proofs.Common.{◌≡◌, ◌↔◌, ℕ, suc, List, [], ◌∷◌, length, Bool, true, false, ◌==◌, IsTrue, refl, sym, ap, subst, ◌∙◌, arith}
+use Rattle.std.specs.Prelude.{encode_utf8_all}
+use Rattle.std.specs.Str.{chars, IsUtf8}
+use Rattle.std.proofs.lemmas.Str.{chars-nil, encodes-chars}
+use Rattle.std.proofs.lemmas.Bool.Decides.{nat_tests}
+use Rattle.tclpattern.specs.Patterns.{IsMatch}
+use Rattle.tclpattern.specs.Tails.{GoesOnAs}
+use Rattle.tclpattern.proofs.PatternLemmas.{pattern_ends}
+
+pub then_iff : {A B C : Type 0} → (A ↔ B) → (B ↔ C) → (A ↔ C)
+then_iff p q = (λ a. q.0 (p.0 a), λ c. p.1 (q.1 c))
+
+pub same_iff : {A : Type 0} → (A ↔ A)
+same_iff = (λ a. a, λ a. a)
+
+-- a text without characters is empty
+chars_empty : (bs : List ℕ) → IsUtf8 bs → chars bs ≡ [] → bs ≡ []
+chars_empty bs u e = sym (encodes-chars bs u) ∙ ap encode_utf8_all e
+
+length_empty : (bs : List ℕ) → (length bs == 0) ≡ true → bs ≡ []
+length_empty [] h = refl
+length_empty (b ∷ bs) h = absurd (never (length bs) h) where
+  never : (n : ℕ) → (suc n == 0) ≡ true → ⊥
+  never n h = grind (arith, nat_tests)
+
+none_left : (bs : List ℕ) (t : Bool) → (length bs == 0) ≡ t → IsUtf8 bs → IsTrue t ↔ (chars bs ≡ [])
+none_left bs true e u = (λ h. ap chars (length_empty bs e) ∙ chars-nil, λ h. refl)
+none_left bs false e u = (λ h. absurd (false_true h), λ h. sym e ∙ ap (λ (xs : List ℕ). length xs == 0) (chars_empty bs u h)) where
+  false_true : false ≡ true → ⊥
+  false_true k = cc
+
+-- where the pattern ends, the text has to
+pub run-ends : (pattern text : List ℕ) (goal : Type 0) (t : Bool) → t ≡ (length text == 0) → IsUtf8 text → chars pattern ≡ [] → IsMatch (chars pattern) (chars text) ↔ goal → IsTrue t ↔ goal
+run-ends pattern text goal t e u none same =
+    let here : IsMatch (chars pattern) (chars text) ↔ (chars text ≡ []) = subst (λ ps. IsMatch ps (chars text) ↔ (chars text ≡ [])) (sym none) (pattern_ends (chars text)) in
+    let left = none_left text t (sym e) u in
+    (λ h. same.0 (here.1 (left.0 h)), λ h. left.1 (here.0 (same.1 h)))
+
+-- a character of the pattern, and one of the text
+pub run-more : (ps cs : List ℕ) (p : ℕ) (ps' : List ℕ) (c : ℕ) (cs' rest : List ℕ) (goal : Type 0) → ps ≡ p ∷ ps' → cs ≡ c ∷ cs' → GoesOnAs (p ∷ ps') c rest → IsMatch ps cs ↔ goal → IsMatch rest cs' ↔ goal
+run-more ps cs p ps' c cs' rest goal e k goes same =
+    let here : IsMatch (p ∷ ps') (c ∷ cs') ↔ goal = subst (λ x. IsMatch (p ∷ ps') x ↔ goal) k (subst (λ x. IsMatch x cs ↔ goal) e same) in
+    (λ m. here.0 ((goes cs').1 m), λ g. (goes cs').0 (here.1 g))

@@ -1,0 +1,17 @@
+use Rattle.std.proofs.Common.{◌≤◌, ◌↔◌, ℕ, List, length}
+use Rattle.std.specs.Str.{chars}
+use Rattle.tclpattern.specs.Patterns.{IsMatch}
+use Rattle.tclpattern.specs.Hops.{Leads}
+use Rattle.tclpattern.specs.Places.{IsPlaceIn}
+use Rattle.tclpattern.proofs.place.read_to_star.Given as goal
+
+abbrev pub invariant-loop-first : goal.invariant-loop-first
+invariant-loop-first l = record {
+  inside : IsPlaceIn (chars l.pattern) (chars l.text) l.place;
+  same : IsMatch (chars l.place.pattern.now) (chars l.place.text.now) ↔ IsMatch (chars l.pattern) (chars l.text);
+  leads : (qs ds : List ℕ) → Leads (chars l.place.pattern.now) (chars l.place.text.now) qs ds ↔ Leads (chars l.pattern) (chars l.text) qs ds;
+  no_longer : length l.place.pattern.now ≤ length l.pattern;
+}
+
+abbrev pub decreases-loop-first : goal.decreases-loop-first
+decreases-loop-first l = length l.place.pattern.now

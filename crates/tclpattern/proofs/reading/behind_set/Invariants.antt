@@ -1,0 +1,13 @@
+use Rattle.std.proofs.Common.{◌≤◌, length}
+use Rattle.std.specs.Str.{chars}
+use denote.Text.{Utf8}
+use denote.Shadow.{shadow}
+use Rattle.tclpattern.specs.Tails.{IsTail}
+use Rattle.tclpattern.proofs.SetLemmas.{HoldsAs}
+use Rattle.tclpattern.proofs.reading.behind_set.Given as goal
+
+abbrev pub invariant-loop-item : goal.invariant-loop-item
+invariant-loop-item l = record { text : shadow (Utf8 l.rest); holds : HoldsAs l.c (chars l.rest) (chars l.set); tail : IsTail (chars l.set) (chars l.rest); no_longer : length l.rest ≤ length l.set }
+
+abbrev pub decreases-loop-item : goal.decreases-loop-item
+decreases-loop-item l = length l.rest

@@ -1,0 +1,6 @@
+pub mod Patterns
+pub mod Items
+pub mod View
+pub mod Tails
+pub mod Places
+pub mod Hops

@@ -1,0 +1,49 @@
+ghost use Rattle.std.specs.Prelude.{◌≡◌, ◌≤◌, ◌<◌, ◌↔◌, length};
+ghost use Rattle.std.specs.Str.{chars};
+ghost use Rattle.tclpattern.specs.Patterns.{IsMatch};
+ghost use Rattle.tclpattern.specs.Places.{OutcomeMatches, IsOutcomeIn, OutcomeIsBelow};
+ghost use Rattle.tclpattern.specs.Hops.{LeadsAs};
+
+use crate::reading::{behind_one, split_char};
+
+/// A star, by what of the pattern stands behind it, and what of the text it and the pattern behind it have to match.
+#[derive(Clone, Copy, Default)]
+pub(crate) struct Place<'a> {
+    pub(crate) pattern: &'a str,
+    pub(crate) text: &'a str,
+}
+
+/// What a pattern without a choice comes to.
+#[derive(Clone, Copy)]
+pub(crate) enum Outcome<'a> {
+    /// The pattern or the text ends; whether they match.
+    Ended(bool),
+    /// The pattern comes to a star.
+    Star(Place<'a>),
+}
+
+/// Reads a pattern and a text side by side up to the pattern's next star.
+pub(crate) fn read_to_star<'a>(pattern: &'a str, text: &'a str) -> Outcome<'a>
+    ensures same { OutcomeMatches result ↔ IsMatch (chars pattern.now) (chars text.now) }
+    ensures inside { IsOutcomeIn (chars pattern.now) (chars text.now) result }
+    ensures leads { LeadsAs (chars pattern.now) (chars text.now) result }
+    ensures shorter { OutcomeIsBelow (length pattern.now) result }
+{
+    let mut place = Place { pattern, text };
+    while let Some((first, rest)) = split_char(place.pattern) {
+        if first == '*' {
+            return Outcome::Star(Place {
+                pattern: rest,
+                text: place.text,
+            });
+        }
+        let Some((c, text)) = split_char(place.text) else {
+            return Outcome::Ended(false);
+        };
+        let Some(pattern) = behind_one(first, rest, c) else {
+            return Outcome::Ended(false);
+        };
+        place = Place { pattern, text };
+    }
+    Outcome::Ended(place.text.is_empty())
+}

@@ -1,0 +1,25 @@
+use Rattle.std.proofs.Common.{◌∷◌, subst, append_assoc}
+use Rattle.tclchars.specs.Faults.{max_nesting}
+use Rattle.tclscript.specs.Grammar.{IsScript}
+use Rattle.tclscript.proofs.Offending.{joined, escape, offender_kept, escape_kept}
+use Rattle.tclscript.proofs.Prefixes.{no_further}
+use Rattle.tclscript.proofs.Viable.{so_far, at_backslash}
+use Rattle.tclscript.proofs.BadEscapes.{bad_escape}
+use Rattle.tclscript.proofs.laws.first_offending.Goals as goal
+
+pub returns-clause-before_joined : goal.returns-clause-before_joined
+returns-clause-before_joined c = λ before rest h. so_far joined max_nesting before rest h tt
+
+pub returns-clause-with_joined : goal.returns-clause-with_joined
+returns-clause-with_joined c = λ before bad rest h off k.
+    no_further joined max_nesting before bad rest k.0 h (offender_kept bad rest k.0 off) k.1 (subst (λ ys. IsScript ys k.1) (append_assoc before bad k.0) k.2)
+
+pub returns-clause-before_escape : goal.returns-clause-before_escape
+returns-clause-before_escape c = λ before rest h. so_far escape max_nesting before (92 ∷ rest) h (at_backslash before rest)
+
+pub returns-clause-with_escape : goal.returns-clause-with_escape
+returns-clause-with_escape c = λ before bad rest h off k.
+    no_further escape max_nesting before (92 ∷ bad) rest k.0 h (escape_kept bad rest k.0 off) k.1 (subst (λ ys. IsScript ys k.1) (append_assoc before (92 ∷ bad) k.0) k.2)
+
+pub returns-clause-escapes : goal.returns-clause-escapes
+returns-clause-escapes c = bad_escape

@@ -1,0 +1,9 @@
+pub mod Examples
+pub mod NumberLemmas
+pub mod CharacterLemmas
+pub mod SearchLemmas
+pub mod IndexLemmas
+pub mod LimitLemmas
+pub mod CommandLemmas
+pub mod GlobLemmas
+pub mod EndLemmas

@@ -1,0 +1,76 @@
+-- Texts as characters (string(n), split(n), concat(n)).
+use Rattle.std.specs.Prelude.{ℕ, ◌==◌, List, [], ◌∷◌, ◌++◌, length, Bool, if◌then◌else◌, codes, map, filter, not}
+use Rattle.std.specs.List.{list_any, slice_split}
+use Rattle.std.specs.Str.{chars, encode_utf8_all}
+use Rattle.tclchars.specs.Runs.{Text}
+use Rattle.tclvalue.specs.Searches.{is_nil}
+use Rattle.tclvalue.specs.Indexes.{place, items_between}
+use Rattle.tclvalue.specs.declared.index.Index.{Index}
+use Rattle.tclvalue.specs.declared.texts.Ends.{Ends}
+use Rattle.tclvalue.specs.declared.texts.Ends.TheVariants.{Both, Start, End}
+
+-- a character is one of a set
+abbrev pub is_among : Text → ℕ → Bool
+is_among set c = list_any (λ d. d == c) set
+
+-- without the characters of a set in front, and at the end
+abbrev pub without_start : Text → Text → Text
+without_start set [] = []
+without_start set (c ∷ cs) = if is_among set c then without_start set cs else c ∷ cs
+
+abbrev pub kept_end : Text → ℕ → Text → Text
+kept_end set c [] = if is_among set c then [] else c ∷ []
+kept_end set c (d ∷ ds) = c ∷ (d ∷ ds)
+
+abbrev pub without_end : Text → Text → Text
+without_end set [] = []
+without_end set (c ∷ cs) = kept_end set c (without_end set cs)
+
+-- the characters between those of a set; without a set each character, and of no text none
+abbrev pub pieces : Text → Text → List Text
+pieces set [] = []
+pieces [] (c ∷ cs) = map (λ d. d ∷ []) (c ∷ cs)
+pieces (s ∷ set) (c ∷ cs) = slice_split (is_among (s ∷ set)) (c ∷ cs)
+
+-- texts joined by another
+abbrev pub joined_rest : Text → List Text → Text
+joined_rest separator [] = []
+joined_rest separator (t ∷ ts) = separator ++ (t ++ joined_rest separator ts)
+
+abbrev pub joined : Text → List Text → Text
+joined separator [] = []
+joined separator (t ∷ ts) = t ++ joined_rest separator ts
+
+-- the texts of rows of characters
+abbrev pub encoded_all : List Text → List Text
+encoded_all rows = map encode_utf8_all rows
+
+-- at which ends a text is trimmed
+abbrev pub without : Ends → Text → Text → Text
+without Both set t = without_end set (without_start set t)
+without Start set t = without_start set t
+without End set t = without_end set t
+
+-- the text without the characters of another at its ends
+abbrev pub trimmed : Ends → Text → Text → Text
+trimmed ends set t = encode_utf8_all (without ends (chars set) (chars t))
+
+-- the characters of a text from one index up to and with another, as far as they are there
+abbrev pub characters_between : Index → Index → Text → Text
+characters_between i j t = encode_utf8_all (items_between (place (length (chars t)) i) (place (length (chars t)) j) (chars t))
+
+-- the pieces of a text between the characters of another
+abbrev pub parts : Text → Text → List Text
+parts set t = encoded_all (pieces (chars set) (chars t))
+
+-- white space: space, tab, newline, vertical tab, form feed and carriage return
+unfoldable pub white_space : Text
+white_space = 32 ∷ 9 ∷ 10 ∷ 11 ∷ 12 ∷ 13 ∷ []
+
+-- what splits a text where nothing else is said: space, newline, tab and carriage return
+unfoldable pub split_space : Text
+split_space = 32 ∷ 10 ∷ 9 ∷ 13 ∷ []
+
+-- texts without the white space around them, those of nothing else left out, joined by a space
+abbrev pub concatenated : List Text → Text
+concatenated ts = joined (codes " ") (filter (λ t. not (is_nil t)) (map (trimmed Both white_space) ts))

@@ -1,0 +1,100 @@
+-- Which texts match a pattern (string(n), match), as a test. Patterns and texts are lists of characters.
+use Rattle.std.specs.Prelude.{ℕ, length, slice_index_or, List, [], ◌∷◌, ◌++◌, Bool, true, false, ◌||◌, ◌&&◌, ◌==◌, nat_le, if◌then◌else◌, Option, Some, None}
+use Rattle.std.specs.Str.{chars}
+use Rattle.tclchars.specs.Runs.{Text}
+
+-- * ? [ ] \ and -
+abbrev pub star : ℕ
+star = 42
+
+abbrev pub question : ℕ
+question = 63
+
+abbrev pub open_bracket : ℕ
+open_bracket = 91
+
+abbrev pub close_bracket : ℕ
+close_bracket = 93
+
+abbrev pub backslash : ℕ
+backslash = 92
+
+abbrev pub dash : ℕ
+dash = 45
+
+-- of a range either end may be the greater
+abbrev pub is_between : ℕ → ℕ → ℕ → Bool
+is_between low high c = nat_le low c && nat_le c high || nat_le high c && nat_le c low
+
+-- what a pattern goes on with behind the next closing bracket; it is at its end where none follows
+abbrev pub behind_close : Text → Text
+behind_close [] = []
+behind_close (p ∷ ps) = if p == close_bracket then ps else behind_close ps
+
+abbrev pub where_holds : Bool → Text → Option Text → Option Text
+where_holds true ps more = Some (behind_close ps)
+where_holds false ps more = more
+
+-- What a pattern goes on with behind a set that holds the character, from behind the opening bracket. The items of the set are read
+-- from the left: a range of two characters, or a character. The set doesn't hold it where a closing bracket stands in an item's
+-- place, where the pattern ends there, or where it ends directly behind a dash
+abbrev pub behind_set : ℕ → Text → Option Text
+behind_set c [] = None
+behind_set c (low ∷ []) = if low == close_bracket then None else where_holds (low == c) [] None
+behind_set c (low ∷ d ∷ []) =
+    if low == close_bracket || d == dash then None else where_holds (low == c) (d ∷ []) (behind_set c (d ∷ []))
+behind_set c (low ∷ d ∷ high ∷ ps) =
+    if low == close_bracket then None
+    else if d == dash then where_holds (is_between low high c) ps (behind_set c ps)
+    else where_holds (low == c) (d ∷ high ∷ ps) (behind_set c (d ∷ high ∷ ps))
+
+-- the other end of an item that begins so, the same where it is a character, and what follows the item
+abbrev pub item : ℕ → Text → Option (ℕ × Text)
+item low [] = Some (low, [])
+item low (d ∷ []) = if d == dash then None else Some (low, d ∷ [])
+item low (d ∷ high ∷ ps) = if d == dash then Some (high, ps) else Some (low, d ∷ high ∷ ps)
+
+-- what follows one character is tested by rest: behind a set, and behind a backslash with the character that it stands for
+abbrev pub after_set : (Text → Bool) → Option Text → Bool
+after_set rest None = false
+after_set rest (Some ps) = rest ps
+
+abbrev pub after_escape : (Text → Bool) → ℕ → Text → Bool
+after_escape rest c [] = false
+after_escape rest c (p ∷ ps) = p == c && rest ps
+
+-- the pattern matches the character and then what rest says of the pattern behind it. A star takes no character, or this one and
+-- stays
+abbrev pub matches_first : (Text → Bool) → Bool → ℕ → ℕ → Text → Bool
+matches_first rest without c p ps =
+    if p == star then without || rest (p ∷ ps)
+    else if p == question then rest ps
+    else if p == open_bracket then after_set rest (behind_set c ps)
+    else if p == backslash then after_escape rest c ps
+    else p == c && rest ps
+
+abbrev pub matches_from : (Text → Bool) → ℕ → Text → Bool
+matches_from rest c [] = false
+matches_from rest c (p ∷ ps) = matches_first rest (matches_from rest c ps) c p ps
+
+-- what a test says of each end of a pattern, the shortest first
+abbrev pub tests : (Text → Bool) → Text → List Bool
+tests test [] = test [] ∷ []
+tests test (p ∷ ps) = tests test ps ++ test (p ∷ ps) ∷ []
+
+-- what such a row says of an end of its pattern
+abbrev pub look : List Bool → Text → Bool
+look row end = slice_index_or row (length end) false
+
+-- the pattern matches no text
+abbrev pub matches_nothing : Text → Bool
+matches_nothing [] = true
+matches_nothing (p ∷ ps) = p == star && matches_nothing ps
+
+-- the pattern matches the text
+abbrev pub matches : Text → Text → Bool
+matches ps [] = matches_nothing ps
+matches ps (c ∷ cs) = matches_from (λ qs. matches qs cs) c ps
+
+abbrev pub glob : Text → Text → Bool
+glob pattern t = matches (chars pattern) (chars t)

@@ -1,0 +1,69 @@
+-- Indexes of lists and texts (lindex(n), string(n)): a whole number, end, or end-N.
+use Rattle.std.specs.Prelude.{ℕ, List, [], ◌∷◌, Bool, false, ◌==◌, nat_lt, if◌then◌else◌, ℤ, pos, negsuc, ◌+ℤ◌, ◌-ℤ◌, Option, Some, None, Ok, Err, take, drop, slice_get, bytes_eq, codes}
+use Rattle.tclchars.specs.Runs.{Text}
+use Rattle.tcltext.specs.Numerals.{numeral, is_space}
+use Rattle.tcltext.specs.declared.number.Numeral.{Numeral}
+use Rattle.tcltext.specs.declared.number.Numeral.TheVariants as numerals
+use Rattle.tclvalue.specs.Faults.{Answer, ◌>>=◌, error, number_too_large, fraction}
+use Rattle.tclvalue.specs.Messages.{bad_index, no_whole_number}
+use Rattle.tclvalue.specs.declared.index.Index.{Index}
+use Rattle.tclvalue.specs.declared.index.Index.TheVariants.{FromStart, FromEnd}
+
+-- what follows a text in front of another
+abbrev pub after_front : Text → Text → Option Text
+after_front [] t = Some t
+after_front (c ∷ cs) [] = None
+after_front (c ∷ cs) (d ∷ ds) = if c == d then after_front cs ds else None
+
+abbrev pub begins_space : Text → Bool
+begins_space [] = false
+begins_space (c ∷ cs) = is_space c
+
+-- the number in an index
+abbrev pub index_number : Text → Numeral → Answer ℤ
+index_number word (numerals.Whole z) = Ok z
+index_number word numerals.TooLarge = Err number_too_large
+index_number word numerals.Fraction = Err fraction
+index_number word numerals.Text = Err (error (bad_index word))
+
+-- no white space stands behind end-
+abbrev pub index_behind : Text → Option Text → Answer Index
+index_behind word (Some rest) = if begins_space rest then Err (error (bad_index word)) else index_number word (numeral rest) >>= (λ z. Ok (FromEnd z))
+index_behind word None = index_number word (numeral word) >>= (λ z. Ok (FromStart z))
+
+abbrev pub index_of : Text → Answer Index
+index_of word = if bytes_eq word (codes "end") then Ok (FromEnd (pos 0)) else index_behind word (after_front (codes "end-") word)
+
+-- the place that an index names among so many items; they stand at 0 and on, and other places are outside
+abbrev pub place : ℕ → Index → ℤ
+place n (FromStart z) = z
+place n (FromEnd z) = pos n -ℤ pos 1 -ℤ z
+
+-- a place where one of so many items stands
+abbrev pub place_among : ℕ → ℤ → Option ℕ
+place_among n (pos k) = if nat_lt k n then Some k else None
+place_among n (negsuc k) = None
+
+-- the item at a place, if there is one
+abbrev pub item_at : {X : Type 0} → ℤ → List X → Option X
+item_at (pos k) xs = slice_get xs k
+item_at (negsuc k) xs = None
+
+-- a number, or 0 where it is negative
+abbrev pub at_least_0 : ℤ → ℕ
+at_least_0 (pos n) = n
+at_least_0 (negsuc n) = 0
+
+-- the items from one place up to and with another, as far as they are there
+abbrev pub items_between : {X : Type 0} → ℤ → ℤ → List X → List X
+items_between i j xs = drop (at_least_0 i) (take (at_least_0 (j +ℤ pos 1)) xs)
+
+-- a count: a whole number
+abbrev pub whole_number : Text → Numeral → Answer ℤ
+whole_number word (numerals.Whole z) = Ok z
+whole_number word numerals.TooLarge = Err number_too_large
+whole_number word numerals.Fraction = Err fraction
+whole_number word numerals.Text = Err (error (no_whole_number word))
+
+abbrev pub count_of : Text → Answer ℤ
+count_of word = whole_number word (numeral word)

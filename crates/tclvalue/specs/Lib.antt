@@ -1,0 +1,11 @@
+pub mod Faults
+pub mod Messages
+pub mod Numbers
+pub mod Operators
+pub mod Indexes
+pub mod Searches
+pub mod Characters
+pub mod Limits
+pub mod Elements
+pub mod Globs
+pub mod Commands

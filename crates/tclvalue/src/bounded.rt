@@ -1,0 +1,59 @@
+//! Texts within a limit on their bytes.
+ghost use Rattle.std.specs.Prelude.{◌≡◌, [], string_bytes, encode_utf8};
+ghost use Rattle.tclvalue.specs.Faults.{GivesText};
+ghost use Rattle.tclvalue.specs.Limits.{limited, Appends};
+
+use crate::fault::ValueFault;
+use std::alloc::Global;
+
+/// The text, unless it has more bytes than the limit.
+pub(crate) fn limited(text: String, limit: usize) -> Result<String, ValueFault>
+    ensures { GivesText result (limited limit (string_bytes text)) }
+{
+    if text.len() <= limit {
+        Ok(text)
+    } else {
+        Err(ValueFault::ValueTooLong)
+    }
+}
+
+/// A text that is being made, and how many bytes it may have.
+#[derive(Drop)]
+pub(crate) struct Bounded {
+    pub(crate) text: String,
+    pub(crate) limit: usize,
+}
+
+impl Bounded {
+    pub(crate) fn new(alloc: Global, limit: usize) -> Bounded
+        ensures empty { string_bytes result.text ≡ [] }
+        ensures limit { result.limit ≡ limit }
+    {
+        Bounded {
+            text: String::new(alloc),
+            limit,
+        }
+    }
+
+    /// Puts a text behind the others.
+    pub(crate) fn push(&mut self, piece: &str) -> Result<(), ValueFault>
+        ensures { Appends result self.old self.new piece.now }
+    {
+        if piece.len() > self.limit.saturating_sub(self.text.len()) {
+            return Err(ValueFault::ValueTooLong);
+        }
+        self.text.push_str(piece)?;
+        Ok(())
+    }
+
+    /// Puts a character behind the others.
+    pub(crate) fn push_character(&mut self, character: char) -> Result<(), ValueFault>
+        ensures { Appends result self.old self.new (encode_utf8 character) }
+    {
+        if character.len_utf8() > self.limit.saturating_sub(self.text.len()) {
+            return Err(ValueFault::ValueTooLong);
+        }
+        self.text.push(character)?;
+        Ok(())
+    }
+}

@@ -1,0 +1,129 @@
+//! Indexes of lists and texts (lindex(n), string(n)).
+ghost use Rattle.std.specs.Prelude.{◌≡◌, ◌+ℤ◌, pos, min, length, Some};
+ghost use Rattle.tcltext.specs.Numerals.{numeral};
+ghost use Rattle.tclvalue.specs.Faults.{Gives};
+ghost use Rattle.tclvalue.specs.Indexes.{index_of, index_behind, index_number, begins_space, count_of, place, at_least_0, place_among, items_between};
+
+use crate::fault::ValueFault;
+use crate::messages::{bad_index, no_whole_number};
+use std::alloc::Global;
+use tcltext::{Numeral, read_number};
+
+/// An index: a place counted from the first item, or back from the last.
+#[derive(Clone, Copy)]
+pub(crate) enum Index {
+    FromStart(i64),
+    FromEnd(i64),
+}
+
+impl Index {
+    /// The place among so many items, where an item is there.
+    pub(crate) fn place(self, length: usize) -> Option<usize>
+        ensures { result ≡ place_among length (place length self) }
+    {
+        match self {
+            Index::FromStart(number) => usize::try_from(number)
+                .ok()
+                .filter(|place| *place < length),
+            Index::FromEnd(number) => match usize::try_from(number) {
+                Ok(back) if back < length => Some(length - 1 - back),
+                _ => None,
+            },
+        }
+    }
+
+    /// How many of so many items stand before the index.
+    pub(crate) fn items_before(self, length: usize) -> usize
+        ensures { result ≡ min (at_least_0 (place length self)) length }
+    {
+        match self {
+            Index::FromStart(number) => usize::try_from(number).unwrap_or(0).min(length),
+            Index::FromEnd(number) => match usize::try_from(number) {
+                Ok(back) => length.saturating_sub(1).saturating_sub(back),
+                Err(_) => length,
+            },
+        }
+    }
+
+    /// How many of so many items stand up to and with the index.
+    pub(crate) fn items_through(self, length: usize) -> usize
+        ensures { result ≡ min (at_least_0 (place length self +ℤ pos 1)) length }
+    {
+        match self {
+            Index::FromStart(number) => match usize::try_from(number) {
+                Ok(place) if place < length => place + 1,
+                Ok(_) => length,
+                Err(_) => 0,
+            },
+            Index::FromEnd(number) => match usize::try_from(number) {
+                Ok(back) => length.saturating_sub(back),
+                Err(_) => length,
+            },
+        }
+    }
+}
+
+/// The index that a word names: a whole number, `end`, or `end-` and a whole number.
+pub(crate) fn index_of(alloc: Global, word: &str) -> Result<Index, ValueFault>
+    ensures { Gives (λ i. i) result (index_of word.now) }
+{
+    if word == "end" {
+        return Ok(Index::FromEnd(0));
+    }
+    match word.strip_prefix("end-") {
+        Some(rest) => index_behind(alloc, word, rest),
+        None => Ok(Index::FromStart(number_in(alloc, word, word)?)),
+    }
+}
+
+/// The index that a word names with what follows its `end-`.
+fn index_behind(alloc: Global, word: &str, rest: &str) -> Result<Index, ValueFault>
+    ensures { Gives (λ i. i) result (index_behind word.now (Some rest.now)) }
+{
+    if begins_space(rest) {
+        return Err(bad_index(alloc, word));
+    }
+    Ok(Index::FromEnd(number_in(alloc, word, rest)?))
+}
+
+fn begins_space(text: &str) -> bool
+    ensures { result ≡ begins_space text.now }
+{
+    matches!(
+        text.as_bytes(),
+        [b' ' | b'\t' | b'\n' | 11 | 12 | b'\r', ..]
+    )
+}
+
+/// The number that is a part of an index.
+fn number_in(alloc: Global, word: &str, number: &str) -> Result<i64, ValueFault>
+    ensures { Gives (λ n. n) result (index_number word.now (numeral number.now)) }
+{
+    match read_number(number) {
+        Numeral::Whole(number) => Ok(number),
+        Numeral::TooLarge => Err(ValueFault::NumberTooLarge),
+        Numeral::Fraction => Err(ValueFault::FractionOperand),
+        Numeral::Text => Err(bad_index(alloc, word)),
+    }
+}
+
+/// A count: a whole number.
+pub(crate) fn count_of(alloc: Global, word: &str) -> Result<i64, ValueFault>
+    ensures { Gives (λ n. n) result (count_of word.now) }
+{
+    match read_number(word) {
+        Numeral::Whole(number) => Ok(number),
+        Numeral::TooLarge => Err(ValueFault::NumberTooLarge),
+        Numeral::Fraction => Err(ValueFault::FractionOperand),
+        Numeral::Text => Err(no_whole_number(alloc, word)),
+    }
+}
+
+/// The items from one index up to and with another, as far as they are there.
+pub(crate) fn between<T>(items: &[T], first: Index, last: Index) -> &[T]
+    ensures { result.now ≡ items_between (place (length items.entry.now) first) (place (length items.entry.now) last) items.entry.now }
+{
+    let start = first.items_before(items.len());
+    let end = last.items_through(items.len());
+    items.get(start..end).unwrap_or(&[])
+}

@@ -1,0 +1,81 @@
+//! Texts made of others: lists, and texts joined.
+ghost use Rattle.std.specs.Prelude.{◌≡◌, map, IfOk, string_bytes};
+ghost use Rattle.tcllist.specs.Lists.{list_text};
+ghost use Rattle.tclvalue.specs.Faults.{GivesText};
+ghost use Rattle.tclvalue.specs.Limits.{Appends, limited};
+ghost use Rattle.tclvalue.specs.Characters.{joined, joined_rest, encoded_all};
+
+use crate::bounded::{Bounded, limited};
+use crate::characters::text_of;
+use crate::fault::ValueFault;
+use std::alloc::{AllocError, Global};
+use tcllist::write_list;
+
+/// The texts as slices.
+fn slices(alloc: Global, texts: &[String]) -> Result<Vec<&str>, AllocError>
+    ensures { IfOk result (λ v. map (λ s. s.now) v.items ≡ map string_bytes texts.entry.now) }
+{
+    let mut slices = Vec::new(alloc);
+    for text in texts {
+        slices.push(text.as_str())?;
+    }
+    Ok(slices)
+}
+
+/// The text of the list with these elements.
+pub(crate) fn list_text(alloc: Global, elements: &[String]) -> Result<String, AllocError>
+    ensures { IfOk result (λ t. string_bytes t ≡ list_text (map string_bytes elements.now)) }
+{
+    write_list(alloc, &slices(alloc, elements)?)
+}
+
+/// Puts texts behind another, with a separator between them.
+fn push_joined(out: &mut Bounded, separator: &str, texts: &[String]) -> Result<(), ValueFault>
+    ensures { Appends result out.old out.new (joined separator.now (map string_bytes texts.now)) }
+{
+    match texts {
+        [] => Ok(()),
+        [first, rest @ ..] => {
+            out.push(first)?;
+            push_joined_rest(out, separator, rest)
+        }
+    }
+}
+
+/// Puts texts behind another, each behind a separator.
+fn push_joined_rest(out: &mut Bounded, separator: &str, texts: &[String]) -> Result<(), ValueFault>
+    ensures { Appends result out.old out.new (joined_rest separator.now (map string_bytes texts.now)) }
+{
+    let mut rest = texts;
+    while let [text, after @ ..] = rest {
+        out.push(separator)?;
+        out.push(text)?;
+        rest = after;
+    }
+    Ok(())
+}
+
+/// The texts of rows of characters.
+pub(crate) fn texts_of(alloc: Global, rows: &[&[char]]) -> Result<Vec<String>, AllocError>
+    ensures { IfOk result (λ v. map string_bytes v.items ≡ encoded_all (map (λ r. r.now) rows.now)) }
+{
+    let mut texts = Vec::new(alloc);
+    for row in rows {
+        texts.push(text_of(alloc, row)?)?;
+    }
+    Ok(texts)
+}
+
+/// The texts with a separator between them, unless this would pass the limit.
+pub(crate) fn joined(
+    alloc: Global,
+    separator: &str,
+    texts: &[String],
+    limit: usize,
+) -> Result<String, ValueFault>
+    ensures { GivesText result (limited limit (joined separator.now (map string_bytes texts.now))) }
+{
+    let mut out = Bounded::new(alloc, limit);
+    push_joined(&mut out, separator, texts)?;
+    limited(out.text, limit)
+}

@@ -1,0 +1,136 @@
+//! Searches in texts, and replacements (string(n)).
+ghost use Rattle.std.specs.Prelude.{◌≡◌, ◌<◌, ◌-◌, ◌++◌, length, drop, map, string_bytes, IfOk, IfErr, OnOk};
+ghost use Rattle.std.specs.Option.{option_map, option_copied};
+ghost use Rattle.std.specs.Str.{chars};
+ghost use Rattle.tclvalue.specs.Faults.{GivesText};
+ghost use Rattle.tclvalue.specs.Limits.{limited, Appends, Exceeds};
+ghost use Rattle.tclvalue.specs.Searches.{first_place, last_place, fits, first_fit, pair_view, mapped};
+
+use crate::bounded::{Bounded, limited};
+use crate::characters::characters;
+use crate::fault::ValueFault;
+use std::alloc::Global;
+
+/// The first place at which a text stands in another.
+pub(crate) fn first_place(sought: &[char], text: &[char]) -> Option<usize>
+    ensures { result ≡ first_place sought.now text.now }
+{
+    let mut rest = text;
+    while let [_, after @ ..] = rest {
+        if rest.starts_with(sought) {
+            return Some(text.len() - rest.len());
+        }
+        rest = after;
+    }
+    None
+}
+
+/// The last place at which a text stands in another.
+pub(crate) fn last_place(sought: &[char], text: &[char]) -> Option<usize>
+    ensures { result ≡ last_place sought.now text.now }
+{
+    let mut rest = text;
+    let mut last = None;
+    while let [_, after @ ..] = rest {
+        let here = rest.starts_with(sought).then_some(text.len() - rest.len());
+        last = here.or(last);
+        rest = after;
+    }
+    last
+}
+
+/// A key, and the text that stands for it.
+#[derive(Drop)]
+pub(crate) struct Replacement<'a> {
+    pub(crate) key: Vec<char>,
+    pub(crate) value: &'a str,
+}
+
+/// Whether the key stands at the front of a text; an empty key never does.
+fn fits(text: &[char], replacement: &Replacement) -> bool
+    ensures { result ≡ fits text.now (pair_view replacement.now) }
+{
+    !replacement.key.is_empty() && text.starts_with(&replacement.key)
+}
+
+/// The first of the replacements whose key stands at the front of a text.
+fn first_fit<'a, 'b>(
+    replacements: &'a [Replacement<'b>],
+    text: &[char],
+) -> Option<&'a Replacement<'b>>
+    ensures { option_map pair_view (option_copied result) ≡ first_fit (map pair_view replacements.entry.now) text.now }
+{
+    let mut rest = replacements;
+    while let [first, after @ ..] = rest {
+        if fits(text, first) {
+            return Some(first);
+        }
+        rest = after;
+    }
+    None
+}
+
+/// Puts a text behind another, with the first key that fits replaced at each place.
+fn push_mapped(
+    out: &mut Bounded,
+    replacements: &[Replacement],
+    text: &[char],
+) -> Result<(), ValueFault>
+    ensures { Appends result out.old out.new (mapped (map pair_view replacements.now) 0 text.now) }
+{
+    let mut rest = text;
+    while !rest.is_empty() {
+        rest = push_front(out, replacements, rest)?;
+    }
+    Ok(())
+}
+
+/// The text with the first key that fits replaced at each place, unless this would pass the limit.
+pub(crate) fn mapped(
+    alloc: Global,
+    replacements: &[Replacement],
+    text: &str,
+    limit: usize,
+) -> Result<String, ValueFault>
+    ensures { GivesText result (limited limit (mapped (map pair_view replacements.now) 0 (chars text.now))) }
+{
+    let characters = characters(alloc, text)?;
+    let mut out = Bounded::new(alloc, limit);
+    push_mapped(&mut out, replacements, &characters)?;
+    limited(out.text, limit)
+}
+
+/// Puts what stands for the front of a text behind another, and leaves the rest of the text.
+fn push_front<'a>(
+    out: &mut Bounded,
+    replacements: &[Replacement],
+    text: &'a [char],
+) -> Result<&'a [char], ValueFault>
+    ensures shorter { IfOk result (λ rest. 0 < length text.entry.now → length rest.now < length text.entry.now) }
+    ensures limit { OnOk result (out.new.limit ≡ out.old.limit) }
+    ensures ok { IfOk result (λ rest. string_bytes out.new.text ++ mapped (map pair_view replacements.now) 0 rest.now
+        ≡ string_bytes out.old.text ++ mapped (map pair_view replacements.now) 0 text.entry.now) }
+    ensures refused { IfErr result (λ e. Exceeds e out.old.limit
+        (string_bytes out.old.text ++ mapped (map pair_view replacements.now) 0 text.entry.now)) }
+{
+    let [first, after @ ..] = text else {
+        return Ok(text);
+    };
+    match first_fit(replacements, text) {
+        Some(found) => {
+            out.push(found.value)?;
+            Ok(after_key(found, after))
+        }
+        None => {
+            out.push_character(*first)?;
+            Ok(after)
+        }
+    }
+}
+
+/// What follows a key, but for its first character, in a text.
+fn after_key<'a>(found: &Replacement, text: &'a [char]) -> &'a [char]
+    ensures { result.now ≡ drop (length (pair_view found.now).0 - 1) text.entry.now }
+{
+    text.get(found.key.len().saturating_sub(1)..).unwrap_or(&[])
+}

@@ -1,0 +1,144 @@
+//! Commands on texts (string(n), split(n), concat(n)).
+ghost use Rattle.std.specs.Prelude.{◌≡◌, ◌∷◌, [], map, string_bytes, IfOk};
+ghost use Rattle.std.specs.List.{repeat, slice_split};
+ghost use Rattle.tclvalue.specs.Faults.{GivesText};
+ghost use Rattle.tclvalue.specs.Limits.{limited};
+ghost use Rattle.tclvalue.specs.Characters.{is_among, trimmed, without, characters_between, parts, pieces, encoded_all, white_space, split_space};
+
+use crate::characters::{characters, is_among, text_of, without_end, without_start};
+use crate::fault::ValueFault;
+use crate::index::{Index, between};
+use crate::lists::texts_of;
+use std::alloc::{AllocError, Global};
+
+/// Space, tab, newline, vertical tab, form feed and carriage return.
+const WHITE_SPACE: &str = " \t\n\u{b}\u{c}\r";
+
+/// What splits a text where nothing else is said: space, newline, tab and carriage return.
+const SPLIT_SPACE: &str = " \n\t\r";
+
+/// At which ends a text is trimmed.
+#[derive(Clone, Copy)]
+pub(crate) enum Ends {
+    Both,
+    Start,
+    End,
+}
+
+/// The text without the characters of another at its ends.
+pub(crate) fn trimmed(
+    alloc: Global,
+    ends: Ends,
+    set: &str,
+    text: &str,
+) -> Result<String, AllocError>
+    ensures { IfOk result (λ t. string_bytes t ≡ trimmed ends set.now text.now) }
+{
+    let set = characters(alloc, set)?;
+    let characters = characters(alloc, text)?;
+    text_of(alloc, without(ends, &set, &characters))
+}
+
+/// The text without the white space at its ends.
+#[tactic(auto, unfolding(crate::specs::Characters::white_space))]
+pub(crate) fn trimmed_of_space(alloc: Global, ends: Ends, text: &str) -> Result<String, AllocError>
+    ensures { IfOk result (λ t. string_bytes t ≡ trimmed ends white_space text.now) }
+{
+    trimmed(alloc, ends, WHITE_SPACE, text)
+}
+
+fn without<'a>(ends: Ends, set: &[char], text: &'a [char]) -> &'a [char]
+    ensures { result.now ≡ without ends set.now text.entry.now }
+{
+    match ends {
+        Ends::Both => without_end(set, without_start(set, text)),
+        Ends::Start => without_start(set, text),
+        Ends::End => without_end(set, text),
+    }
+}
+
+/// The characters from one index up to and with another.
+pub(crate) fn characters_between(
+    alloc: Global,
+    text: &str,
+    first: Index,
+    last: Index,
+) -> Result<String, AllocError>
+    ensures { IfOk result (λ t. string_bytes t ≡ characters_between first last text.now) }
+{
+    let characters = characters(alloc, text)?;
+    text_of(alloc, between(&characters, first, last))
+}
+
+/// The pieces of a text between the characters of another.
+pub(crate) fn parts(alloc: Global, set: &str, text: &str) -> Result<Vec<String>, AllocError>
+    ensures { IfOk result (λ v. map string_bytes v.items ≡ parts set.now text.now) }
+{
+    let set = characters(alloc, set)?;
+    let characters = characters(alloc, text)?;
+    if characters.is_empty() {
+        return Ok(Vec::new(alloc));
+    }
+    if set.is_empty() {
+        return single_texts(alloc, &characters);
+    }
+    texts_of(alloc, &rows(alloc, &set, &characters)?)
+}
+
+/// The rows of characters between those of a set.
+fn rows<'a>(alloc: Global, set: &[char], text: &'a [char]) -> Result<Vec<&'a [char]>, AllocError>
+    ensures { IfOk result (λ v. map (λ r. r.now) v.items ≡ slice_split (is_among set.now) text.entry.now) }
+{
+    text.split(|c| is_among(set, *c)).collect(alloc)
+}
+
+/// The pieces of a text between its white space.
+#[tactic(auto, unfolding(crate::specs::Characters::split_space))]
+pub(crate) fn parts_at_space(alloc: Global, text: &str) -> Result<Vec<String>, AllocError>
+    ensures { IfOk result (λ v. map string_bytes v.items ≡ parts split_space text.now) }
+{
+    parts(alloc, SPLIT_SPACE, text)
+}
+
+/// The text of each character.
+fn single_texts(alloc: Global, characters: &[char]) -> Result<Vec<String>, AllocError>
+    ensures { IfOk result (λ v. map string_bytes v.items ≡ encoded_all (map (λ c. c ∷ []) characters.now)) }
+{
+    let mut texts = Vec::new(alloc);
+    for character in characters {
+        texts.push(text_of(alloc, &[*character])?)?;
+    }
+    Ok(texts)
+}
+
+/// The text so many times, unless it would pass the limit.
+#[tactic(auto, using(crate::proofs::LimitLemmas::no_copies, crate::proofs::LimitLemmas::few_copies, crate::proofs::LimitLemmas::many_copies))]
+pub(crate) fn repeated(
+    alloc: Global,
+    text: &str,
+    count: usize,
+    limit: usize,
+) -> Result<String, ValueFault>
+    ensures { GivesText result (limited limit (repeat count text.now)) }
+{
+    if text.is_empty() {
+        return Ok(String::new(alloc));
+    }
+    let Some(length) = text.len().checked_mul(count) else {
+        return Err(ValueFault::ValueTooLong);
+    };
+    if length > limit {
+        return Err(ValueFault::ValueTooLong);
+    }
+    Ok(copies(alloc, text, count)?)
+}
+
+fn copies(alloc: Global, text: &str, count: usize) -> Result<String, AllocError>
+    ensures { IfOk result (λ t. string_bytes t ≡ repeat count text.now) }
+{
+    let mut copies = String::new(alloc);
+    for _ in 0..count {
+        copies.push_str(text)?;
+    }
+    Ok(copies)
+}
