@@ -11,3 +11,4 @@ pub mod Turns
 pub mod Steps
 pub mod Heights
 pub mod OperandSteps
+pub mod OperandFaults
