@@ -12,3 +12,4 @@ pub mod Steps
 pub mod Heights
 pub mod OperandSteps
 pub mod OperandFaults
+pub mod Whole

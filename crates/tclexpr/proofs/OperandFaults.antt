@@ -8,7 +8,7 @@ use Rattle.tclchars.specs.Braces.{Balanced, braced_at}
 use Rattle.tclchars.specs.Reading.{◌>>=◌, Read, read_map, left_of}
 use Rattle.tclchars.specs.declared.fault.Fault.{Fault}
 use Rattle.tclchars.specs.declared.fault.Fault.TheVariants.{OpenBrace, OpenQuote, BadExpression}
-use Rattle.tclchars.proofs.BraceClose.{close_sound, found_close}
+use Rattle.tclchars.proofs.BraceClose.{close_sound, found_close, is_byte}
 use Rattle.tclscript.specs.declared.context.Context.TheVariants.{InQuotes}
 use Rattle.tclscript.specs.Tree as tree
 use Rattle.tclscript.specs.Tree.{Part, Parts, nesting, parts_nesting, part_nesting}
@@ -26,12 +26,12 @@ use Rattle.tclscript.proofs.Operands.{quotes_exact}
 use Rattle.tclscript.proofs.Dollars.{dollar_alone}
 use Rattle.tclscript.proofs.Whole as script_whole
 use Rattle.tclscript.proofs.Whole.{inner_exact}
-use Rattle.tclscript.proofs.Marks.{Without, front_run, back_run, true_false}
+use Rattle.tclscript.proofs.Marks.{Without, run_taken, front_run, back_run, true_false}
 use Rattle.tclexpr.specs.declared.numbers.Digits.{Digits}
 use Rattle.tclexpr.specs.declared.numbers.Digits.TheVariants.{Decimal}
-use Rattle.tclexpr.specs.Operands.{Operand, number, word, variable, indexed, bracket, quoted, braced, is_digit, begins_digit, announced, after_announced, after_based, begins_point, after_decimal, first_of_both, after_number, is_truth, operand_of, substituted, quoted_at, in_braces, word_at, numeric, operand_at}
+use Rattle.tclexpr.specs.Operands.{Operand, number, word, variable, indexed, bracket, quoted, braced, is_digit, begins_digit, announced, after_announced, after_based, begins_point, after_exponent, after_fraction, after_digits, after_decimal, first_of_both, after_number, is_truth, operand_of, substituted, quoted_at, in_braces, word_at, numeric, operand_at}
 use Rattle.tclexpr.specs.OperandGrammar.{IsSubstitution, IsTruthWord, IsOperand, is_opening, OperandFault, in_substitution, lone_dollar, open_brace, in_quotes, open_quote, no_operand}
-use Rattle.tclexpr.proofs.OperandSteps.{word-read}
+use Rattle.tclexpr.proofs.OperandSteps.{word-read, word-false, word-called}
 use Rattle.tclexpr.proofs.OperandSound.{operand_dollar, operand_bracket, operand_quote, operand_brace, operand_other, Opening, dollar, square, quote, brace, other, opening, taken_whole, number_end}
 
 abbrev script_run : ℕ → Bool
@@ -126,7 +126,7 @@ number_first b bs rest h = both (after_based (b ∷ bs)) (after_decimal (b ∷ b
 
   decimal : (b : ℕ) (bs r : Text) → after_decimal (b ∷ bs) ≡ Some r → (is_digit Decimal b || b == 46) ≡ true
   decimal b bs r h = go (begins_digit Decimal (b ∷ bs) || begins_point (b ∷ bs)) refl h where
-    go : {x : Option Text} → (t : Bool) → (begins_digit Decimal (b ∷ bs) || begins_point (b ∷ bs)) ≡ t → cond t x None ≡ Some r → (is_digit Decimal b || b == 46) ≡ true
+    go : (t : Bool) → (begins_digit Decimal (b ∷ bs) || begins_point (b ∷ bs)) ≡ t → cond t (Some (after_exponent (after_fraction (after_digits Decimal (b ∷ bs))))) None ≡ Some r → (is_digit Decimal b || b == 46) ≡ true
     go true t h = decimal_byte b (begins_digit Decimal bs) t
     go false t h = cc
 
@@ -150,12 +150,13 @@ number_again : (d : ℕ) (bs rest t : Text) (k : ℕ) → IsOperand bs rest (num
 number_again d bs rest t k h =
     at_other d bs (number_opens bs rest h.1) ∙ ap (numeric bs) h.1 ∙ ap₂ (λ (x : Text) (n : ℕ). Ok ((number x, n), rest)) (taken_is bs rest t h.0) (sym h.2)
 
+no_truth : false ≡ is_truth []
+unfolding is_truth
+no_truth = refl
+
 -- a truth word is some bytes
 truth_some : (t : Text) → AllPass is_name t → is_truth t ≡ true → DoesBegin is_name t
-truth_some [] all h = absurd (true_false (sym (none ∙ h))) where
-  none : false ≡ is_truth []
-  unfolding is_truth
-  none = refl
+truth_some [] all h = absurd (true_false (no_truth ∙ h))
 truth_some (b ∷ t) all h = all.0
 
 word_opens : (t rest : Text) → DoesBegin is_name t → MayBegin (λ b. not (is_opening b)) (t ++ rest)
@@ -191,19 +192,34 @@ none_some found x h k = apart (sym h ∙ k) where
 err_one : {A : Type 0} (e f : Fault) → (let err : Result A Fault = Err e in err) ≡ Err f → e ≡ f
 err_one e f h = cc
 
+dollar_not : (b : ℕ) → b ≡ 36 → script_run b ≡ false
+dollar_not b e = rw e refl
+
+square_not : (b : ℕ) → b ≡ 91 → script_run b ≡ false
+square_not b e = rw e refl
+
 dollar_class : (b : ℕ) → b ≡ 36 → script_run b ≡ true → ⊥
-dollar_class b e h = true_false (sym h ∙ rw e refl)
+dollar_class b e h = true_false (sym (dollar_not b e) ∙ h)
 
 square_class : (b : ℕ) → b ≡ 91 → script_run b ≡ true → ⊥
-square_class b e h = true_false (sym h ∙ rw e refl)
+square_class b e h = true_false (sym (square_not b e) ∙ h)
+
+head_is : (a b : ℕ) (xs ys : Text) → a ∷ xs ≡ b ∷ ys → a ≡ b
+head_is a b xs ys e = cc
+
+empty_no : (a : ℕ) (xs : Text) → [] ≡ a ∷ xs → ⊥
+empty_no a xs e = cc
+
+apart : (a b : ℕ) (xs ys : Text) → a ∷ xs ≡ b ∷ ys → (a ≡ b → ⊥) → ⊥
+apart a b xs ys e differ = differ (head_is a b xs ys e)
 
 -- a part that stands for itself is no operand
 literal_fault : (d : ℕ) (xs rest t taken : Text) (f : Fault) → 36 ∷ xs ≡ taken ++ rest → IsPart InQuotes (tree.literal t) taken rest → BadExpression (suc (length xs)) ≡ f → OperandFault d (36 ∷ xs) f
 literal_fault d xs rest t [] f e (same, is) k = absurd (empty_literal t (sym same) is) where
   empty_literal : (t : Text) → t ≡ [] → script_grammar.IsLiteral InQuotes t rest → ⊥
   empty_literal t n (inl run) = subst (DoesBegin script_run) n run.0
-  empty_literal t n (inr (inl dollar)) = (let no : [] ≡ 36 ∷ [] = sym n ∙ dollar.0 in cc)
-  empty_literal t n (inr (inr last)) = (let no : [] ≡ 92 ∷ [] = sym n ∙ last.0 in cc)
+  empty_literal t n (inr (inl alone)) = empty_no 36 [] (sym n ∙ alone.0)
+  empty_literal t n (inr (inr last)) = empty_no 92 [] (sym n ∙ last.0)
 literal_fault d xs rest t (b ∷ taken) f e (same, is) k = by_kind is where
   first : b ≡ 36
   first = cc
@@ -215,12 +231,12 @@ literal_fault d xs rest t (b ∷ taken) f e (same, is) k = by_kind is where
       let none : taken ≡ [] = cc in
       let all : xs ≡ rest = (let tail : xs ≡ taken ++ rest = cc in tail ∙ ap (λ ys. ys ++ rest) none) in
       subst (OperandFault d (36 ∷ xs)) k (lone_dollar (refl, subst (IsLongestName []) (sym all) alone.1, subst (MayBegin (λ b. not (b == 40 || b == 123))) (sym all) alone.2))
-  by_kind (inr (inr last)) = (let no : b ∷ taken ≡ 92 ∷ [] = same ∙ last.0 in let wrong : b ≡ 92 = cc in absurd (omega arith))
+  by_kind (inr (inr last)) = absurd (apart 36 92 taken [] (ap (λ c. c ∷ taken) (sym first) ∙ same ∙ last.0) (λ e. omega arith))
 
 dollar_substituted : (d : ℕ) (xs rest taken : Text) (p : Part) (f : Fault) → 36 ∷ xs ≡ taken ++ rest → IsPart InQuotes p taken rest → substituted (suc (length xs)) (p, rest) ≡ Err f → OperandFault d (36 ∷ xs) f
 dollar_substituted d xs rest taken (tree.literal t) f e is h = literal_fault d xs rest t taken f e is (err_one {A = (Operand × ℕ) × Text} (BadExpression (suc (length xs))) f h)
 dollar_substituted d xs rest taken (tree.braced t) f e is h = absurd is
-dollar_substituted d xs rest taken (tree.backslash v) f e is h = (let no : 36 ∷ xs ≡ 92 ∷ (is.0 ++ rest) = e ∙ ap (λ ys. ys ++ rest) is.1 in let wrong : 36 ≡ 92 = cc in absurd (omega arith))
+dollar_substituted d xs rest taken (tree.backslash v) f e is h = absurd (apart 36 92 xs (is.0 ++ rest) (e ∙ ap (λ ys. ys ++ rest) is.1) (λ e. omega arith))
 dollar_substituted d xs rest taken (tree.variable name) f e is h = absurd (ok_err ((variable name, 0), rest) f h)
 dollar_substituted d xs rest taken (tree.indexed name ps) f e is h = absurd (ok_err ((indexed name ps, suc (parts_nesting ps)), rest) f h)
 dollar_substituted d xs rest taken (tree.bracket s) f e is h = absurd (ok_err ((bracket s, suc (nesting s)), rest) f h)
@@ -230,13 +246,13 @@ square_literal xs rest t taken e (same, inl run) = go taken e (subst (DoesBegin 
   go : (taken : Text) → 91 ∷ xs ≡ taken ++ rest → DoesBegin script_run taken → ⊥
   go [] e h = h
   go (b ∷ taken) e h = (let first : b ≡ 91 = cc in square_class b first h)
-square_literal xs rest t taken e (same, inr (inl alone)) = (let no : 91 ∷ xs ≡ 36 ∷ rest = e ∙ ap (λ ys. ys ++ rest) (same ∙ alone.0) in let wrong : 91 ≡ 36 = cc in omega arith)
-square_literal xs rest t taken e (same, inr (inr last)) = (let no : 91 ∷ xs ≡ 92 ∷ rest = e ∙ ap (λ ys. ys ++ rest) (same ∙ last.0) in let wrong : 91 ≡ 92 = cc in omega arith)
+square_literal xs rest t taken e (same, inr (inl alone)) = apart 91 36 xs rest (e ∙ ap (λ ys. ys ++ rest) (same ∙ alone.0)) (λ e. omega arith)
+square_literal xs rest t taken e (same, inr (inr last)) = apart 91 92 xs rest (e ∙ ap (λ ys. ys ++ rest) (same ∙ last.0)) (λ e. omega arith)
 
 square_substituted : (d : ℕ) (xs rest taken : Text) (p : Part) (f : Fault) → 91 ∷ xs ≡ taken ++ rest → IsPart InQuotes p taken rest → substituted (suc (length xs)) (p, rest) ≡ Err f → OperandFault d (91 ∷ xs) f
 square_substituted d xs rest taken (tree.literal t) f e is h = absurd (square_literal xs rest t taken e is)
 square_substituted d xs rest taken (tree.braced t) f e is h = absurd is
-square_substituted d xs rest taken (tree.backslash v) f e is h = (let no : 91 ∷ xs ≡ 92 ∷ (is.0 ++ rest) = e ∙ ap (λ ys. ys ++ rest) is.1 in let wrong : 91 ≡ 92 = cc in absurd (omega arith))
+square_substituted d xs rest taken (tree.backslash v) f e is h = absurd (apart 91 92 xs (is.0 ++ rest) (e ∙ ap (λ ys. ys ++ rest) is.1) (λ e. omega arith))
 square_substituted d xs rest taken (tree.variable name) f e is h = absurd (ok_err ((variable name, 0), rest) f h)
 square_substituted d xs rest taken (tree.indexed name ps) f e is h = absurd (ok_err ((indexed name ps, suc (parts_nesting ps)), rest) f h)
 square_substituted d xs rest taken (tree.bracket s) f e is h = absurd (ok_err ((bracket s, suc (nesting s)), rest) f h)
@@ -302,3 +318,93 @@ operand_faulty d bs f h = at_opening (opening bs) where
   at_opening (quote xs e) = subst (λ ys. OperandFault d ys f) (sym e) (quote_faulty d xs f (sym (operand_quote d xs) ∙ ap (operand_at d) (sym e) ∙ h))
   at_opening (brace xs e) = subst (λ ys. OperandFault d ys f) (sym e) (brace_faulty d xs f (braced_at false 0 xs) refl (sym (operand_brace d xs) ∙ ap (operand_at d) (sym e) ∙ h))
   at_opening (other w x y z) = numeric_faulty d bs f (no_opening bs w x y z) (after_number bs) refl (sym (operand_other d bs w x y z) ∙ h)
+
+-- Faults that are there
+
+part_fails : (d : ℕ) (b : ℕ) (xs : Text) (f : Fault) → (b == 36 || b == 91) ≡ true → PartFault d (b ∷ xs) f → operand_at d (b ∷ xs) ≡ Err f
+part_fails d b xs f opens h = go (b == 36) refl opens where
+  to_dollar : b ≡ 36 → operand_at d (b ∷ xs) ≡ Err f
+  to_dollar e =
+      let k : PartFault d (36 ∷ xs) f = subst (λ b. PartFault d (b ∷ xs) f) e h in
+      ap (λ b. operand_at d (b ∷ xs)) e ∙ operand_dollar d xs
+      ∙ ap (λ r. r >>= substituted (suc (length xs))) (sym (at_dollar d (inner_at d) (inner_exact d) InQuotes xs) ∙ part_met d (inner_at d) (inner_exact d) InQuotes (36 ∷ xs) f k)
+
+  to_square : b ≡ 91 → operand_at d (b ∷ xs) ≡ Err f
+  to_square e =
+      let k : PartFault d (91 ∷ xs) f = subst (λ b. PartFault d (b ∷ xs) f) e h in
+      ap (λ b. operand_at d (b ∷ xs)) e ∙ operand_bracket d xs
+      ∙ ap (λ r. r >>= substituted (suc (length xs))) (sym (at_bracket d (inner_at d) (inner_exact d) InQuotes xs) ∙ part_met d (inner_at d) (inner_exact d) InQuotes (91 ∷ xs) f k)
+
+  go : (t : Bool) → (b == 36) ≡ t → (t || b == 91) ≡ true → operand_at d (b ∷ xs) ≡ Err f
+  go true t h = to_dollar (is_byte b 36 t)
+  go false t h = to_square (is_byte b 91 h)
+
+none_found : (bs : Text) (found : Option (Text × Text)) → braced_at false 0 bs ≡ found → NeverCloses bs → braced_at false 0 bs ≡ None
+none_found bs None is h = is
+none_found bs (Some p) is h = let so = close_sound bs false zero p.0 p.1 is in absurd (h p.0 p.1 so.0 so.1)
+
+no_word_there : (bs : Text) → ((t rest : Text) → bs ≡ t ++ rest → IsTruthWord t rest → ⊥) → word_at bs ≡ Err (BadExpression (length bs))
+no_word_there bs none = go (is_truth (front is_name bs)) refl (begins 40 (back is_name bs)) refl where
+  run : (bs ≡ front is_name bs ++ back is_name bs) × AllPass is_name (front is_name bs) × MayBegin (λ b. not (is_name b)) (back is_name bs)
+  run = run_taken is_name bs
+
+  called : (r : Text) → begins 40 r ≡ true → (rest : Text) × (r ≡ 40 ∷ rest)
+  called [] h = cc
+  called (b ∷ r) h = (r, ap (λ c. c ∷ r) (is_byte b 40 h))
+
+  go : (s : Bool) → is_truth (front is_name bs) ≡ s → (t : Bool) → begins 40 (back is_name bs) ≡ t → word_at bs ≡ Err (BadExpression (length bs))
+  go false s t' t = word-false bs (front is_name bs) refl s
+  go true s true t = let k = called (back is_name bs) t in word-called bs (front is_name bs) (back is_name bs) k.0 refl refl s k.1
+  go true s false t = absurd (none (front is_name bs) (back is_name bs) run.0 (run.1, run.2, s, t))
+
+-- A fault that is there is met.
+pub operand_met : (d : ℕ) (bs : Text) (f : Fault) → OperandFault d bs f → operand_at d bs ≡ Err f
+unfolding quoted_at
+operand_met d [] f (in_substitution opens h) = absurd opens
+operand_met d (b ∷ xs) f (in_substitution opens h) = part_fails d b xs f opens h
+operand_met d _ f (lone_dollar {bs = xs} h) = operand_dollar d xs ∙ ap (λ r. r >>= substituted (suc (length xs))) (dollar_alone d (inner_at d) (inner_exact d) xs h.1 h.2)
+operand_met d _ f (open_brace {bs = xs} h) = operand_brace d xs ∙ ap (in_braces (suc (length xs))) (none_found xs (braced_at false 0 xs) refl h)
+operand_met d _ f (in_quotes {bs = xs} h) = operand_quote d xs ∙ ap (read_map (λ (ps : Parts). let made : Operand × ℕ = (quoted ps, parts_nesting ps) in made)) ((quotes_exact d (inner_at d) (inner_exact d)).met xs f (inl h))
+operand_met d _ f (open_quote {bs = xs} ps h k) =
+    operand_quote d xs ∙ ap (read_map (λ (ps : Parts). let made : Operand × ℕ = (quoted ps, parts_nesting ps) in made)) ((quotes_exact d (inner_at d) (inner_exact d)).met xs f (inr (ps, h, k, refl)))
+operand_met d bs f (no_operand free none others) = at_other d bs free ∙ ap (numeric bs) none ∙ no_word_there bs others
+
+-- the place of a fault lies within the text
+
+script_fault : (d : ℕ) (b : ℕ) (xs : Text) (f : Fault) → (b == 36 || b == 91) ≡ true → PartFault d (b ∷ xs) f → left_of f ≤ length (b ∷ xs)
+script_fault d b xs f opens h =
+    script_whole.within d (b ∷ xs) f (script_whole.met d (b ∷ xs) f
+      (script_faults.CommandsFault.first_command [] script_grammar.IsGap.nothing (no_hash b opens)
+        (script_faults.CommandFault.first_word (script_faults.WordFault.plain (no_expansion b opens)
+          (script_faults.PlainFault.in_bare (bare_byte b opens) (script_faults.PartsFault.first_part h)))))) where
+  no_hash : (b : ℕ) → (b == 36 || b == 91) ≡ true → not (b == 35) ≡ true
+  no_hash b h = grind (arith, nat_tests)
+
+  bare_byte : (b : ℕ) → (b == 36 || b == 91) ≡ true → not (b == 123 || b == 34) ≡ true
+  bare_byte b h = grind (arith, nat_tests)
+
+  no_brace : (b : ℕ) → (b == 36 || b == 91) ≡ true → b ≡ 123 → ⊥
+  no_brace b h e = grind (arith, nat_tests)
+
+  no_expansion : (b : ℕ) → (b == 36 || b == 91) ≡ true → Expands false (b ∷ xs) → ⊥
+  no_expansion b h e = no_brace b h (head_is b 123 xs (42 ∷ (125 ∷ e.0)) e.1)
+
+quote_within : (d : ℕ) (xs : Text) (f : Fault) → PartsFault d InQuotes xs f → left_of f ≤ suc (length xs)
+quote_within d xs f h =
+    script_whole.within d (34 ∷ xs) f (script_whole.met d (34 ∷ xs) f
+      (script_faults.CommandsFault.first_command [] script_grammar.IsGap.nothing refl
+        (script_faults.CommandFault.first_word (script_faults.WordFault.plain no_expansion (script_faults.PlainFault.in_quotes h))))) where
+  no_expansion : Expands false (34 ∷ xs) → ⊥
+  no_expansion e = apart 34 123 xs (42 ∷ (125 ∷ e.0)) e.1 (λ e. omega arith)
+
+part_fault_within : (d : ℕ) (bs : Text) (f : Fault) → DoesBegin (λ b. b == 36 || b == 91) bs → PartFault d bs f → left_of f ≤ length bs
+part_fault_within d [] f opens h = absurd opens
+part_fault_within d (b ∷ xs) f opens h = script_fault d b xs f opens h
+
+pub operand_within : {d : ℕ} {bs : Text} {f : Fault} → OperandFault d bs f → left_of f ≤ length bs
+operand_within (in_substitution {d} {bs} {f} opens h) = part_fault_within d bs f opens h
+operand_within (lone_dollar h) = omega arith
+operand_within (open_brace h) = omega arith
+operand_within (in_quotes {d} {bs} {f} h) = quote_within d bs f h
+operand_within (open_quote ps h k) = omega arith
+operand_within (no_operand free none others) = omega arith

@@ -1,6 +1,7 @@
 use Rattle.tclexpr.proofs.Sound.{level_more}
 use Rattle.tclexpr.proofs.Complete.{lt_true}
 use Rattle.tclexpr.proofs.FaultSound.{BelowFault}
+use Rattle.tclexpr.proofs.Whole.{within}
 use Rattle.tclexpr.proofs.OperandFaults.{operand_faulty}
 use Rattle.tclexpr.proofs.Steps.{branches-read}
 use Rattle.tclexpr.proofs.Turns.{chain-more}

@@ -1,0 +1,104 @@
+-- The tree and the fault of a whole text.
+use Rattle.std.proofs.Common.{◌≡◌, ◌≢◌, ℕ, zero, suc, ◌+◌, ◌-◌, ◌<◌, ◌≤◌, max, List, [], ◌∷◌, ◌++◌, length, Bool, true, false, cond, nat_lt, Option, Some, None, Result, Ok, Err, refl, sym, ap, ap₂, subst, ◌∙◌, arith, length-append, ◌⊎◌, inl, inr}
+use Rattle.std.specs.Prelude.{MatchResult, IfOk, IfErr}
+use Rattle.tclchars.specs.Runs.{Text}
+use Rattle.tclchars.specs.Faults.{max_bytes, max_nesting}
+use Rattle.tclchars.specs.Reading.{◌>>=◌, Read, Fails, left_of, placed}
+use Rattle.tclchars.specs.declared.fault.Fault.{Fault}
+use Rattle.tclchars.specs.declared.fault.Fault.TheVariants as marks
+use Rattle.tclchars.specs.declared.fault.ReadError.{ReadError}
+use Rattle.tclchars.specs.declared.fault.ReadError.TheVariants as errors
+use Rattle.tclchars.specs.declared.fault.TextFault.{TextFault}
+use Rattle.tclchars.specs.declared.fault.TextFault.TheVariants.{OutOfMemory, OpenBrace, OpenQuote, OpenBracket, JoinedToClose, TooDeep, BadCharacter, BadExpression, TooLong}
+use Rattle.tclscript.specs.Text.{at_place, Reads, FailsWith}
+use Rattle.tclexpr.specs.declared.operators.Mark.{Mark}
+use Rattle.tclexpr.specs.Tree.{Expr, Token}
+use Rattle.tclexpr.specs.Marks.{after_white, mark_at}
+use Rattle.tclexpr.specs.Row.{IsRow}
+use Rattle.tclexpr.specs.Faults.{ExprFault, in_condition, deep_choice, in_yes, no_colon, in_no, ChainFault, in_operand, no_operand, deep_prefix, in_signed, in_open, no_close, deep_operator, in_right, ExprTextFault, inside, left_over}
+use Rattle.tclexpr.specs.Operands.{Operand, operand_at}
+use Rattle.tclexpr.specs.OperandGrammar.{IsOperand, OperandFault}
+use Rattle.tclexpr.specs.Reading.{Tall, whole_at, below_at, ended, expr_at}
+use Rattle.tclexpr.specs.Text.{IsExpression, IsFault, IsFaultAt, IsTextFault, expr_of}
+use Rattle.tclexpr.proofs.Rows.{row_no_longer, after_white_no_longer, mark_shorter}
+use Rattle.tclexpr.proofs.Sound as operators
+use Rattle.tclexpr.proofs.Complete as complete_operators
+use Rattle.tclexpr.proofs.FaultSound as fault_operators
+use Rattle.tclexpr.proofs.FaultComplete as met_operators
+use Rattle.tclexpr.proofs.OperandSound.{operand_sound, operand_end}
+use Rattle.tclexpr.proofs.OperandFaults.{operand_again, operand_faulty, operand_met, operand_within}
+use Rattle.tclscript.specs.Pieces.{IsEndOf}
+
+-- an operand is some bytes
+pub operand_shorter : (bs rest : Text) (o : Operand) (k : ℕ) → IsOperand bs rest o k → length rest < length bs
+operand_shorter bs rest o k h = ?
+
+-- Reading
+
+pub sound : (d : ℕ) (bs : Text) (e : Expr Operand) → expr_at operand_at d bs ≡ Ok e → (h : ℕ) × (h ≤ d) × IsExpression h bs e
+sound = operators.sound Operand IsOperand operand_at operand_sound
+
+pub complete : (h d : ℕ) (bs : Text) (e : Expr Operand) → IsExpression h bs e → h ≤ d → expr_at operand_at d bs ≡ Ok e
+complete = complete_operators.complete Operand IsOperand operand_at (λ d bs rest o k none is deep. operand_again d bs rest o k is deep) operand_shorter
+
+pub faulty : (d : ℕ) (bs : Text) (f : Fault) → expr_at operand_at d bs ≡ Err f → IsFault d bs f
+faulty = fault_operators.faulty Operand IsOperand OperandFault operand_at operand_sound operand_shorter (λ d bs f none h. operand_faulty d bs f h)
+
+pub met : (d : ℕ) (bs : Text) (f : Fault) → IsFault d bs f → expr_at operand_at d bs ≡ Err f
+met = met_operators.met Operand IsOperand OperandFault operand_at (λ d bs rest o k none is deep. operand_again d bs rest o k is deep) operand_shorter (λ d bs f none h. operand_met d bs f h)
+
+pub unique : (bs : Text) (h k : ℕ) (e f : Expr Operand) → IsExpression h bs e → IsExpression k bs f → e ≡ f
+unique = complete_operators.unique Operand IsOperand operand_at (λ d bs rest o k none is deep. operand_again d bs rest o k is deep) operand_shorter
+
+-- The place of a fault lies within the text
+
+left_after : (bs after : Text) → length after ≤ length bs → left_of (marks.BadExpression (length (after_white after))) ≤ length bs
+left_after bs after h = omega (arith, after_white_no_longer after)
+
+mutual
+  expr_within : {d : ℕ} {bs : Text} {f : Fault} → ExprFault Operand IsOperand OperandFault d bs f → left_of f ≤ length bs
+  expr_within (in_condition h) = chain_within h
+  expr_within (deep_choice cs c after is row) = omega arith
+  expr_within (in_yes {d} {bs} {f} cs c h after is deep row fault) = omega (arith, row_no_longer Operand IsOperand operand_shorter _ bs after row, expr_within fault)
+  expr_within (no_colon {d} {bs} cs c h ys y i after is deep is' deep' row none) = left_after bs after (row_no_longer Operand IsOperand operand_shorter _ bs after row)
+  expr_within (in_no {d} {bs} {f} cs c h ys y i after is deep is' deep' row fault) = omega (arith, row_no_longer Operand IsOperand operand_shorter _ bs after row, expr_within fault)
+
+  chain_within : {d n : ℕ} {bs : Text} {f : Fault} → ChainFault Operand IsOperand OperandFault d n bs f → left_of f ≤ length bs
+  chain_within (in_operand {d} {n} {bs} none h) = omega (arith, after_white_no_longer bs, operand_within h)
+  chain_within (no_operand {d} {n} {bs} m after is none) = omega (arith, after_white_no_longer bs)
+  chain_within (deep_prefix m after is begins) = omega arith
+  chain_within (in_signed {d} {n} {bs} m u after is s h) = omega (arith, after_white_no_longer bs, mark_shorter (after_white bs) m after is, chain_within h)
+  chain_within (in_open {d} {n} {bs} after is h) = omega (arith, after_white_no_longer bs, mark_shorter (after_white bs) _ after is, expr_within h)
+  chain_within (no_close {d} {n} {bs} ts e h after is deep row none) = left_after bs after (row_no_longer Operand IsOperand operand_shorter _ bs after row)
+  chain_within (deep_operator i ls l after within is row) = omega arith
+  chain_within (in_right {d} {n} {bs} i ls l h after within is deep row fault) = omega (arith, row_no_longer Operand IsOperand operand_shorter _ bs after row, chain_within fault)
+
+fault_within : {d : ℕ} {bs : Text} {f : Fault} → IsFault d bs f → left_of f ≤ length bs
+fault_within (inside h) = expr_within h
+fault_within (left_over {d} {bs} ts e h after is deep row ends some) = left_after bs after (row_no_longer Operand IsOperand operand_shorter ts bs after row)
+
+pub within : (d : ℕ) (bs : Text) (f : Fault) → expr_at operand_at d bs ≡ Err f → left_of f ≤ length bs
+within d bs f h = fault_within (faulty d bs f h)
+
+-- The code's last step
+
+abbrev end_from : Tall Operand × Text → Result (Expr Operand) Fault
+end_from x = ended x.0.0 (after_white x.1)
+
+pub expr-fails : (d : ℕ) (bs text : Text) (e : ReadError) → text ≡ bs → Fails e (whole_at operand_at d (below_at operand_at d) text) → Fails e (expr_at operand_at d bs)
+unfolding expr_at
+expr-fails d bs text errors.Memory same h = tt
+expr-fails d bs text (errors.Fault f) same h = ap (λ r. r >>= end_from) (ap (whole_at operand_at d (below_at operand_at d)) (sym same) ∙ h)
+
+expr-step : (d : ℕ) (bs text : Text) (x : Tall Operand) (rest end : Text) → text ≡ bs → whole_at operand_at d (below_at operand_at d) text ≡ Ok (x, rest) → end ≡ after_white rest → expr_at operand_at d bs ≡ ended x.0 end
+unfolding expr_at
+expr-step d bs text x rest end same h e = ap (λ r. r >>= end_from) (ap (whole_at operand_at d (below_at operand_at d)) (sym same) ∙ h) ∙ ap (ended x.0) (sym e)
+
+pub expr-ends : (d : ℕ) (bs text : Text) (x : Tall Operand) (rest end : Text) → text ≡ bs → whole_at operand_at d (below_at operand_at d) text ≡ Ok (x, rest) → end ≡ after_white rest → length end ≡ 0 → expr_at operand_at d bs ≡ Ok x.0
+expr-ends d bs text x rest [] same h e n = expr-step d bs text x rest [] same h e
+expr-ends d bs text x rest (b ∷ end) same h e n = absurd (omega arith)
+
+pub expr-left : (d : ℕ) (bs text : Text) (x : Tall Operand) (rest end : Text) → text ≡ bs → whole_at operand_at d (below_at operand_at d) text ≡ Ok (x, rest) → end ≡ after_white rest → length end ≢ 0
+    → expr_at operand_at d bs ≡ Err (marks.BadExpression (length end))
+expr-left d bs text x rest [] same h e n = absurd (n refl)
+expr-left d bs text x rest (b ∷ end) same h e n = expr-step d bs text x rest (b ∷ end) same h e
