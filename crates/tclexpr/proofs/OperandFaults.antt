@@ -155,7 +155,7 @@ unfolding is_truth
 no_truth = refl
 
 -- a truth word is some bytes
-truth_some : (t : Text) → AllPass is_name t → is_truth t ≡ true → DoesBegin is_name t
+pub truth_some : (t : Text) → AllPass is_name t → is_truth t ≡ true → DoesBegin is_name t
 truth_some [] all h = absurd (true_false (no_truth ∙ h))
 truth_some (b ∷ t) all h = all.0
 

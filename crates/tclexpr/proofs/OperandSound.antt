@@ -145,7 +145,7 @@ brace_found d bs o rest (Some p) is h =
 
 -- Numbers and words
 
-digits_end : (k : Digits) (bs : Text) → IsEndOf bs (after_digits k bs)
+pub digits_end : (k : Digits) (bs : Text) → IsEndOf bs (after_digits k bs)
 unfolding after_digits
 digits_end k bs = back_end (is_digit k) bs
 
@@ -162,14 +162,14 @@ sign_end (b ∷ bs) = go (is_sign b) where
   go true = end_first b bs bs (end_here bs)
   go false = end_here (b ∷ bs)
 
-exponent_end : (bs : Text) → IsEndOf bs (after_exponent bs)
+pub exponent_end : (bs : Text) → IsEndOf bs (after_exponent bs)
 exponent_end [] = end_here []
 exponent_end (b ∷ bs) = go ((b == 101 || b == 69) && begins_digit Decimal (after_sign bs)) where
   go : (t : Bool) → IsEndOf (b ∷ bs) (cond t (after_digits Decimal (after_sign bs)) (b ∷ bs))
   go true = end_first b bs (after_digits Decimal (after_sign bs)) (end_through bs (after_sign bs) (after_digits Decimal (after_sign bs)) (sign_end bs) (digits_end Decimal (after_sign bs)))
   go false = end_here (b ∷ bs)
 
-fraction_end : (bs : Text) → IsEndOf bs (after_fraction bs)
+pub fraction_end : (bs : Text) → IsEndOf bs (after_fraction bs)
 fraction_end [] = end_here []
 fraction_end (b ∷ bs) = go (b == 46) where
   go : (t : Bool) → IsEndOf (b ∷ bs) (cond t (after_digits Decimal bs) (b ∷ bs))
@@ -185,7 +185,7 @@ decimal_end bs rest h = go (begins_digit Decimal bs || begins_point bs) h where
       subst (IsEndOf bs) same (end_through bs (after_fraction digits) (after_exponent (after_fraction digits)) (end_through bs digits (after_fraction digits) (digits_end Decimal bs) (fraction_end digits)) (exponent_end (after_fraction digits)))
   go false h = cc
 
-announced_end : (bs rest : Text) (found : Option Digits) → after_announced bs found ≡ Some rest → IsEndOf bs rest
+pub announced_end : (bs rest : Text) (found : Option Digits) → after_announced bs found ≡ Some rest → IsEndOf bs rest
 announced_end bs rest None h = cc
 announced_end bs rest (Some k) h = go (begins_digit k bs) h where
   go : (t : Bool) → cond t (Some (after_digits k bs)) None ≡ Some rest → IsEndOf bs rest
