@@ -13,3 +13,4 @@ pub mod Heights
 pub mod OperandSteps
 pub mod OperandFaults
 pub mod Whole
+pub mod Clauses

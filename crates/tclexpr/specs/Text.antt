@@ -18,6 +18,10 @@ use Rattle.tclexpr.specs.Reading.{expr_at}
 abbrev pub IsExpression : ℕ → Text → Expr Operand → Type 0
 IsExpression h bs e = IsExprText Operand IsOperand h bs e
 
+-- the text is an expression with this tree, within the limits
+abbrev pub IsWithin : Text → Expr Operand → Type 0
+IsWithin bs e = (h : ℕ) × IsExpression h bs e × (h ≤ max_nesting) × (length bs ≤ max_bytes)
+
 -- the first fault of a text, with the number of bytes from its mark on, where so many may nest
 abbrev pub IsFault : ℕ → Text → Fault → Type 0
 IsFault d bs f = ExprTextFault Operand IsOperand OperandFault d bs f

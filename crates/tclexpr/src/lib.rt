@@ -13,7 +13,7 @@ mod tests;
 mod text;
 mod tree;
 
-pub use laws::one_expression;
+pub use laws::{expr_of_grammar, one_expression, one_fault};
 pub use operators::{BinaryOperator, Infix, Mark, UnaryOperator};
 pub use text::{parse_expr, parse_expr_pieces};
 pub use tree::{Expr, Operand};

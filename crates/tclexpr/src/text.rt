@@ -1,13 +1,13 @@
-ghost use Rattle.std.specs.Prelude.{◌≡◌, ◌≤◌, ℕ, length, IfOk, IfErr, MatchResult};
+ghost use Rattle.std.specs.Prelude.{◌≡◌, IfOk, IfErr, MatchResult};
 ghost use Rattle.tclchars.specs.Reading.{Gives};
-ghost use Rattle.tclchars.specs.Faults.{max_bytes, max_nesting};
+ghost use Rattle.tclchars.specs.Faults.{max_nesting};
 ghost use Rattle.tclchars.specs.declared.fault.TextFault.TheVariants.{OutOfMemory};
 ghost use Rattle.tclscript.specs.Text.{Reads};
 ghost use Rattle.tclexpr.specs.Tree as tree;
 ghost use Rattle.tclexpr.specs.Operands as operands;
 ghost use Rattle.tclexpr.specs.Operands.{operand_at};
 ghost use Rattle.tclexpr.specs.Reading.{expr_at};
-ghost use Rattle.tclexpr.specs.Text.{IsExpression, IsTextFault, expr_of};
+ghost use Rattle.tclexpr.specs.Text.{IsWithin, IsTextFault, expr_of};
 ghost use Rattle.tclexpr.specs.View.{expr_view};
 
 use crate::marks::skip_white;
@@ -27,6 +27,15 @@ const MAX_NESTING: usize = 200;
 /// A text that is no expression is refused with the first fault in it and its place; a text of more than 1,048,576 bytes is
 /// `TooLong`, and `OutOfMemory` says nothing of the text.
 pub fn parse_expr(alloc: Global, text: &str) -> Result<Expr<&str>, TextFault>
+    // A tree that is returned is the text's, within the limits.
+    ensures found { IfOk result (λ e. IsWithin text.now (expr_view (λ piece. piece.now) e)) }
+
+    // A text that has a tree within the limits is read, unless memory runs out.
+    ensures only { (e : tree.Expr operands.Operand) → IsWithin text.now e → MatchResult result (λ t. expr_view (λ piece. piece.now) t ≡ e) (λ f. f ≡ OutOfMemory) }
+
+    // A fault is the text's first, at its place.
+    ensures fault { IfErr result (IsTextFault text.now) }
+
     // The tree or the fault is the one that the definition computes, unless memory runs out.
     ensures read { Reads (expr_view (λ piece. piece.now)) result (expr_of text.now) }
 {
