@@ -47,6 +47,9 @@ pub fn parse_expr_pieces<S: Source<P>, P: Drop>(
     alloc: Global,
     source: &S,
 ) -> Result<Expr<P>, TextFault>
+    ensures found { IfOk result (λ e. IsWithin (S.text source.now) (expr_view (S.shown source.now) e)) }
+    ensures only { (e : tree.Expr operands.Operand) → IsWithin (S.text source.now) e → MatchResult result (λ t. expr_view (S.shown source.now) t ≡ e) (λ f. f ≡ OutOfMemory) }
+    ensures fault { IfErr result (IsTextFault (S.text source.now)) }
     ensures read { Reads (expr_view (S.shown source.now)) result (expr_of (S.text source.now)) }
 {
     read_limited(alloc, source)
