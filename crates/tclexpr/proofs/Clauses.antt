@@ -13,8 +13,8 @@ use Rattle.tclscript.specs.Text.{at_place, Reads, FailsWith}
 use Rattle.tclexpr.specs.Tree.{Expr}
 use Rattle.tclexpr.specs.Operands.{Operand, operand_at}
 use Rattle.tclexpr.specs.Reading.{expr_at}
-use Rattle.tclexpr.specs.Text.{IsExpression, IsFault, IsFaultAt, IsTextFault, IsWithin, expr_of}
-use Rattle.tclexpr.proofs.Whole.{sound, complete, faulty, met, within, unique}
+use Rattle.tclexpr.specs.Text.{IsFault, IsFaultAt, IsTextFault, IsWithin, expr_of}
+use Rattle.tclexpr.proofs.Whole.{sound, complete, faulty, met, within}
 
 abbrev Answer : Type 0
 Answer = Result (Expr Operand) TextFault
@@ -77,7 +77,7 @@ found_fault bs (Err g) f h = (g, refl, fault_same (placed (length bs) g) f h)
 -- The tree that is computed is the text's, within the limits
 pub tree_is : (bs : Text) (e : Expr Operand) → expr_of bs ≡ Ok e → IsWithin bs e
 tree_is bs e h = elim (long_or_not bs) [
-  inl long ↦ absurd (fault_tree TooLong e (sym (too_long bs long) ∙ h))
+  | inl long ↦ absurd (fault_tree TooLong e (sym (too_long bs long) ∙ h))
   | inr short ↦ (let k = sound max_nesting bs e (found_tree bs (expr_at operand_at max_nesting bs) e (sym (not_long bs short) ∙ h)) in (k.0, k.2, k.1, short))
 ]
 
@@ -87,7 +87,7 @@ tree_met bs e is = not_long bs is.3 ∙ ap (at_place bs) (complete is.0 max_nest
 -- the fault that is computed is the text's
 pub fault_is : (bs : Text) (f : TextFault) → expr_of bs ≡ Err f → IsTextFault bs f × (f ≢ OutOfMemory)
 fault_is bs f h = elim (long_or_not bs) [
-  inl long ↦ (let same = fault_same TooLong f (sym (too_long bs long) ∙ h) in subst (λ f. IsTextFault bs f × (f ≢ OutOfMemory)) same (long, long_memory))
+  | inl long ↦ (let same = fault_same TooLong f (sym (too_long bs long) ∙ h) in subst (λ f. IsTextFault bs f × (f ≢ OutOfMemory)) same (long, long_memory))
   | inr short ↦ (
       let k = found_fault bs (expr_at operand_at max_nesting bs) f (sym (not_long bs short) ∙ h) in
       subst (λ f. IsTextFault bs f × (f ≢ OutOfMemory)) k.2 (placed_is bs k.0 short (within max_nesting bs k.0 k.1) (faulty max_nesting bs k.0 k.1), no_memory_placed (length bs) k.0)

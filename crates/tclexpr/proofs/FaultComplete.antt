@@ -1,5 +1,5 @@
 -- The first fault of a text is the one that is met.
-use Rattle.std.proofs.Common.{◌≡◌, ◌≢◌, ◌<◌, ◌≤◌, ◌-◌, ℕ, zero, suc, max, List, [], ◌∷◌, ◌++◌, length, Bool, true, false, cond, nat_lt, nat_le, if◌then◌else◌, Option, Some, None, Result, Ok, Err, refl, sym, ap, ap₂, subst, ◌∙◌, arith, append_assoc, ◌⊎◌, inl, inr}
+use Rattle.std.proofs.Common.{◌≡◌, ◌≢◌, ◌<◌, ◌≤◌, ◌-◌, ℕ, zero, suc, max, List, [], ◌∷◌, ◌++◌, length, Bool, true, false, nat_lt, Option, Some, None, Result, Ok, Err, refl, sym, ap, ◌∙◌, arith, inl, inr}
 use Rattle.tclchars.specs.Runs.{Text}
 use Rattle.tclchars.specs.declared.fault.Fault.{Fault}
 use Rattle.tclchars.specs.declared.fault.Fault.TheVariants.{TooDeep, BadExpression}
@@ -8,15 +8,15 @@ use Rattle.tclexpr.specs.declared.operators.UnaryOperator.{UnaryOperator}
 use Rattle.tclexpr.specs.declared.operators.Infix.{Infix}
 use Rattle.tclexpr.specs.declared.operators.Mark.{Mark}
 use Rattle.tclexpr.specs.declared.operators.Mark.TheVariants as marks
-use Rattle.tclexpr.specs.Tree.{Expr, operand, unary, choice, joined, Token, value, mark}
-use Rattle.tclexpr.specs.Grammar.{level, sign_of, IsExpr, simple, choosing, IsChain, single, in_parentheses, signed, joining}
+use Rattle.tclexpr.specs.Tree.{Expr, operand, unary, choice, Token, mark}
+use Rattle.tclexpr.specs.Grammar.{level, sign_of, IsChain}
 use Rattle.tclexpr.specs.Marks.{after_white, mark_at}
-use Rattle.tclexpr.specs.Row.{IsToken, IsRow, IsExprText}
-use Rattle.tclexpr.specs.Faults.{Follows, NextIsNot, GoesOn, GoesOnOr, Begins, bad_next, ExprFault, in_condition, deep_choice, in_yes, no_colon, in_no, ChainFault, in_operand, no_operand, deep_prefix, in_signed, in_open, no_close, deep_operator, in_right, ExprTextFault, inside, left_over}
-use Rattle.tclexpr.specs.Reading.{Extent, whole, chain, is_close, is_colon, is_question, is_open, infix_of, expected, expect, Tall, signed_at, enclosed_at, marked_at, begun_at, prefix_at, join, next_at, going_at, climb_at, chain_at, branches_at, choosing_at, whole_at, extent_at, below_at, ended, expr_at}
+use Rattle.tclexpr.specs.Row.{IsRow, IsExprText}
+use Rattle.tclexpr.specs.Faults.{NextIsNot, GoesOn, GoesOnOr, Begins, bad_next, ExprFault, in_condition, deep_choice, in_yes, no_colon, in_no, ChainFault, in_operand, no_operand, deep_prefix, in_signed, in_open, no_close, deep_operator, in_right, ExprTextFault, inside, left_over}
+use Rattle.tclexpr.specs.Reading.{Extent, whole, chain, is_close, is_colon, is_open, expected, expect, signed_at, enclosed_at, begun_at, prefix_at, join, climb_at, chain_at, branches_at, choosing_at, whole_at, below_at, ended, expr_at}
 use Rattle.tclexpr.proofs.Rows.{row_cut}
-use Rattle.tclexpr.proofs.Sound.{open_is, close_is, colon_is, true_false}
-use Rattle.tclexpr.proofs.Complete.{below_chain, below_whole, prefix_marked, marked_open, marked_other, marked_sign, climb_operator, climb_goes, choosing_goes, whole_from, no_operator, no_goes_on, ends_here, operator_follows, Reaches, reaches_end, chain_again, expr_again, complete, lt_false}
+use Rattle.tclexpr.proofs.Sound.{open_is, close_is, colon_is}
+use Rattle.tclexpr.proofs.Complete.{below_chain, below_whole, prefix_marked, marked_other, marked_sign, climb_operator, climb_goes, choosing_goes, whole_from, no_operator, no_goes_on, operator_follows, Reaches, reaches_end, chain_again, expr_again, complete, lt_false}
 
 marked_false : (test : Mark → Bool) (wanted : Mark) → ((m : Mark) → test m ≡ true → m ≡ wanted) → (m : Mark) → (m ≡ wanted → ⊥) → (t : Bool) → test m ≡ t → test m ≡ false
 marked_false test wanted only m other true is = absurd (other (only m is))

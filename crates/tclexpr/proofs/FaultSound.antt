@@ -1,22 +1,22 @@
 -- A fault that is met is the first in the text.
-use Rattle.std.proofs.Common.{◌≡◌, ◌≢◌, ◌<◌, ◌≤◌, ◌-◌, ℕ, zero, suc, max, List, [], ◌∷◌, ◌++◌, length, Bool, true, false, cond, nat_lt, nat_le, if◌then◌else◌, Option, Some, None, Result, Ok, Err, refl, sym, ap, ap₂, subst, ◌∙◌, arith, append_assoc, ◌⊎◌, inl, inr}
+use Rattle.std.proofs.Common.{◌≡◌, ◌≢◌, ◌<◌, ◌≤◌, ◌-◌, ℕ, zero, suc, max, [], ◌∷◌, ◌++◌, length, Bool, true, false, cond, nat_lt, nat_le, Option, Some, None, Result, Ok, Err, refl, sym, ap, subst, ◌∙◌, arith, inl, inr}
 use Rattle.tclchars.specs.Runs.{Text}
 use Rattle.tclchars.specs.declared.fault.Fault.{Fault}
 use Rattle.tclchars.specs.declared.fault.Fault.TheVariants.{TooDeep, BadExpression}
-use Rattle.tclchars.specs.Reading.{◌>>=◌, Read, read_map}
+use Rattle.tclchars.specs.Reading.{◌>>=◌, Read}
 use Rattle.tclexpr.specs.declared.operators.UnaryOperator.{UnaryOperator}
 use Rattle.tclexpr.specs.declared.operators.Infix.{Infix}
 use Rattle.tclexpr.specs.declared.operators.Mark.{Mark}
 use Rattle.tclexpr.specs.declared.operators.Mark.TheVariants as marks
-use Rattle.tclexpr.specs.Tree.{Expr, operand, unary, choice, joined, Token, value, mark}
-use Rattle.tclexpr.specs.Grammar.{level, sign_of, IsExpr, simple, choosing, IsChain, single, in_parentheses, signed, joining}
+use Rattle.tclexpr.specs.Tree.{Expr, operand, unary, choice, mark}
+use Rattle.tclexpr.specs.Grammar.{level, sign_of, IsChain}
 use Rattle.tclexpr.specs.Marks.{after_white, mark_at}
-use Rattle.tclexpr.specs.Row.{IsToken, IsRow, IsExprText}
-use Rattle.tclexpr.specs.Faults.{Follows, NextIsNot, GoesOn, GoesOnOr, Begins, bad_next, ExprFault, in_condition, deep_choice, in_yes, no_colon, in_no, ChainFault, in_operand, no_operand, deep_prefix, in_signed, in_open, no_close, deep_operator, in_right, ExprTextFault, inside, left_over}
-use Rattle.tclexpr.specs.Reading.{Extent, whole, chain, is_close, is_colon, is_question, is_open, infix_of, expected, expect, Tall, signed_at, enclosed_at, marked_at, begun_at, prefix_at, join, next_at, going_at, climb_at, chain_at, branches_at, choosing_at, whole_at, extent_at, below_at, ended, expr_at}
-use Rattle.tclexpr.proofs.Results.{bind_ok, bind_err, read_map_err, found_once, found_none, infix_once}
+use Rattle.tclexpr.specs.Row.{IsRow}
+use Rattle.tclexpr.specs.Faults.{NextIsNot, GoesOn, GoesOnOr, Begins, bad_next, ExprFault, in_condition, deep_choice, in_yes, no_colon, in_no, ChainFault, in_operand, no_operand, deep_prefix, in_signed, in_open, no_close, deep_operator, in_right, ExprTextFault, inside, left_over}
+use Rattle.tclexpr.specs.Reading.{Extent, whole, chain, is_close, is_colon, is_question, is_open, infix_of, expected, expect, signed_at, enclosed_at, begun_at, prefix_at, join, next_at, going_at, climb_at, chain_at, branches_at, choosing_at, whole_at, below_at, ended, expr_at}
+use Rattle.tclexpr.proofs.Results.{bind_err, read_map_err, found_once, found_none}
 use Rattle.tclexpr.proofs.Rows.{row_join, row_no_longer, after_white_no_longer, mark_shorter}
-use Rattle.tclexpr.proofs.Sound.{SoundBelow, Took, TookChain, TookWhole, TookPrefix, TookFront, front_more, prefix_front, prefix_sound, chain_sound, whole_sound, below_sound, chain_weaker, expected_ok, open_is, close_is, colon_is, question_is, infix_is, true_false, lt_is, lt_not, le_is}
+use Rattle.tclexpr.proofs.Sound.{SoundBelow, TookChain, TookWhole, TookFront, front_more, prefix_front, prefix_sound, chain_sound, whole_sound, below_sound, chain_weaker, expected_ok, open_is, colon_is, question_is, infix_is, true_false, lt_is, lt_not, le_is}
 
 no_ok : {A : Type 0} (x : A) (f : Fault) → (let ok : Result A Fault = Ok x in ok) ≡ Err f → ⊥
 no_ok x f h = cc

@@ -1,5 +1,5 @@
 -- How deep lists of parts, words and commands nest, one more at a time.
-use Rattle.std.proofs.Common.{◌≡◌, ◌<◌, ◌≤◌, ◌+◌, ℕ, zero, suc, max, List, [], ◌∷◌, ◌++◌, length, map, take, refl, sym, ap, ap₂, subst, ◌∙◌, arith, rules}
+use Rattle.std.proofs.Common.{◌≡◌, ◌≤◌, ℕ, max, List, [], ◌∷◌, ◌++◌, map, ap, ◌∙◌, arith, rules}
 use Rattle.tclchars.specs.Runs.{Text}
 use Rattle.std.proofs.lemmas.List.{map_push}
 use Rattle.tclscript.specs.View.{script_view, command_view, word_view, part_view, parts_view}
@@ -8,7 +8,7 @@ use Rattle.tclscript.specs.declared.tree.Word as rust_word
 use Rattle.tclscript.specs.declared.tree.Command as rust_command
 use Rattle.tclscript.specs.declared.tree.Script as rust_script
 use Rattle.tclexpr.specs.View.{words_view}
-use Rattle.tclscript.specs.Tree.{Commands, Words, Word, Parts, Part, nesting, words_nesting, word_nesting, parts_nesting, part_nesting, commands_of, words_of, parts_of}
+use Rattle.tclscript.specs.Tree.{Words, Word, Part, nesting, words_nesting, word_nesting, parts_nesting, part_nesting, commands_of, words_of, parts_of}
 
 max_last : (a b c : ℕ) → max a (max b c) ≡ max (max a b) c
 max_last a b c = omega arith

@@ -1,9 +1,9 @@
 -- Steps over white space, digits and marks.
-use Rattle.std.proofs.Common.{◌≡◌, ◌<◌, ◌≤◌, ℕ, suc, List, [], ◌∷◌, length, drop, get_or, Bool, true, false, cond, ◌||◌, ◌&&◌, ◌==◌, Option, Some, None, refl, sym, ap, ◌∙◌, arith}
+use Rattle.std.proofs.Common.{◌≡◌, ◌<◌, ℕ, [], ◌∷◌, length, drop, get_or, Bool, true, false, ◌||◌, ◌&&◌, ◌==◌, Some, None, refl, ap, arith}
 use Rattle.std.proofs.lemmas.Bool.Decides.{nat_tests}
 use Rattle.tclchars.specs.Runs.{Text, front, back, begins}
-use Rattle.tclchars.specs.Bytes.{is_space, is_blank, newline, backslash}
-use Rattle.tclchars.specs.Classes.{is_name, begins_in}
+use Rattle.tclchars.specs.Bytes.{is_space, newline, backslash}
+use Rattle.tclchars.specs.Classes.{is_name}
 use Rattle.tclchars.proofs.RunLemmas.{back-nil, back-cons_true, back-cons_false}
 use Rattle.tclexpr.specs.declared.operators.Mark.{Mark}
 use Rattle.tclexpr.specs.declared.numbers.Digits.{Digits}

@@ -1,13 +1,13 @@
 -- Where no operand begins, the fault that is met is the one that is there; and an operand that is there is read.
-use Rattle.std.proofs.Common.{◌≡◌, ◌≢◌, ℕ, zero, suc, ◌<◌, ◌≤◌, List, [], ◌∷◌, ◌++◌, length, take, Bool, true, false, cond, not, ◌||◌, ◌&&◌, ◌==◌, Option, Some, None, Result, Ok, Err, refl, sym, ap, ap₂, subst, ◌∙◌, arith, append_assoc, append-nil, length-append, ◌⊎◌, inl, inr}
+use Rattle.std.proofs.Common.{◌≡◌, ℕ, zero, suc, ◌≤◌, [], ◌∷◌, ◌++◌, length, take, Bool, true, false, cond, not, ◌||◌, ◌&&◌, ◌==◌, Option, Some, None, Result, Ok, Err, refl, sym, ap, ap₂, subst, ◌∙◌, arith, append_assoc, inl, inr}
 use Rattle.std.proofs.lemmas.Bool.Decides.{nat_tests}
 use Rattle.tclchars.specs.Runs.{Text, front, back, begins}
 use Rattle.tclchars.specs.Bytes.{AllPass, MayBegin, DoesBegin}
 use Rattle.tclchars.specs.Classes.{is_name, in_class}
-use Rattle.tclchars.specs.Braces.{Balanced, braced_at}
+use Rattle.tclchars.specs.Braces.{braced_at}
 use Rattle.tclchars.specs.Reading.{◌>>=◌, Read, read_map, left_of}
 use Rattle.tclchars.specs.declared.fault.Fault.{Fault}
-use Rattle.tclchars.specs.declared.fault.Fault.TheVariants.{OpenBrace, OpenQuote, BadExpression}
+use Rattle.tclchars.specs.declared.fault.Fault.TheVariants.{OpenBrace, BadExpression}
 use Rattle.tclchars.proofs.BraceClose.{close_sound, found_close, is_byte}
 use Rattle.tclscript.specs.declared.context.Context.TheVariants.{InQuotes}
 use Rattle.tclscript.specs.Tree as tree
@@ -16,8 +16,8 @@ use Rattle.tclscript.specs.Grammar as script_grammar
 use Rattle.tclscript.specs.Grammar.{IsPart, IsParts, IsDollar, IsRun, IsLongestName}
 use Rattle.tclscript.specs.Faults as script_faults
 use Rattle.tclscript.specs.Faults.{PartFault, PartsFault, NeverCloses, Expands}
-use Rattle.tclscript.specs.Ends.{parts_end, class_of}
-use Rattle.tclscript.specs.Reading.{inner_at, dollar_at, bracket_at, part_at, quotes_at, taken}
+use Rattle.tclscript.specs.Ends.{class_of}
+use Rattle.tclscript.specs.Reading.{inner_at, part_at, quotes_at, taken}
 use Rattle.tclscript.proofs.Ends.{end_length}
 use Rattle.tclscript.proofs.Exact.{bind_err, read_map_err, ok_err}
 use Rattle.tclscript.proofs.PartsExact.{part_sound, part_faulty, part_again, at_dollar, at_bracket}
@@ -27,12 +27,11 @@ use Rattle.tclscript.proofs.Dollars.{dollar_alone}
 use Rattle.tclscript.proofs.Whole as script_whole
 use Rattle.tclscript.proofs.Whole.{inner_exact}
 use Rattle.tclscript.proofs.Marks.{Without, run_taken, front_run, back_run, true_false}
-use Rattle.tclexpr.specs.declared.numbers.Digits.{Digits}
 use Rattle.tclexpr.specs.declared.numbers.Digits.TheVariants.{Decimal}
 use Rattle.tclexpr.specs.Operands.{Operand, number, word, variable, indexed, bracket, quoted, braced, is_digit, begins_digit, announced, after_announced, after_based, begins_point, after_exponent, after_fraction, after_digits, after_decimal, first_of_both, after_number, is_truth, operand_of, substituted, quoted_at, in_braces, word_at, numeric, operand_at}
 use Rattle.tclexpr.specs.OperandGrammar.{IsSubstitution, IsTruthWord, IsOperand, is_opening, OperandFault, in_substitution, lone_dollar, open_brace, in_quotes, open_quote, no_operand}
 use Rattle.tclexpr.proofs.OperandSteps.{word-read, word-false, word-called}
-use Rattle.tclexpr.proofs.OperandSound.{operand_dollar, operand_bracket, operand_quote, operand_brace, operand_other, Opening, dollar, square, quote, brace, other, opening, taken_whole, number_end}
+use Rattle.tclexpr.proofs.OperandSound.{operand_dollar, operand_bracket, operand_quote, operand_brace, operand_other, Opening, dollar, square, quote, brace, other, opening}
 
 abbrev script_run : ℕ → Bool
 script_run = in_class (class_of InQuotes)
@@ -85,7 +84,7 @@ quoted_again d bs rest ps k h deep =
     let xs = h.0 ++ 34 ∷ rest in
     let whole : (h.0 ++ 34 ∷ []) ++ rest ≡ xs = append_assoc h.0 (34 ∷ []) rest in
     let read : quotes_at (inner_at d) xs ≡ Ok (ps, rest) =
-        ap (quotes_at (inner_at d)) (sym whole) ∙ (quotes_exact d (inner_at d) (inner_exact d)).again ps (h.0 ++ 34 ∷ []) rest (h.0, refl, h.2, omega (arith, h.3))
+    ap (quotes_at (inner_at d)) (sym whole) ∙ (quotes_exact d (inner_at d) (inner_exact d)).again ps (h.0 ++ 34 ∷ []) rest (h.0, refl, h.2, omega (arith, h.3))
     in
     ap (operand_at d) h.1 ∙ operand_quote d xs ∙ ap (read_map (λ (ps : Parts). let made : Operand × ℕ = (quoted ps, parts_nesting ps) in made)) read ∙ ap (λ n. Ok ((quoted ps, n), rest)) (sym h.3)
 
@@ -260,29 +259,29 @@ square_substituted d xs rest taken (tree.bracket s) f e is h = absurd (ok_err ((
 dollar_faulty : (d : ℕ) (xs : Text) (f : Fault) → operand_at d (36 ∷ xs) ≡ Err f → OperandFault d (36 ∷ xs) f
 dollar_faulty d xs f h =
     let from : (part_at InQuotes (inner_at d) (36 ∷ xs) >>= substituted (suc (length xs))) ≡ Err f =
-        ap (λ r. r >>= substituted (suc (length xs))) (at_dollar d (inner_at d) (inner_exact d) InQuotes xs) ∙ sym (operand_dollar d xs) ∙ h
+    ap (λ r. r >>= substituted (suc (length xs))) (at_dollar d (inner_at d) (inner_exact d) InQuotes xs) ∙ sym (operand_dollar d xs) ∙ h
     in
     elim (bind_err (part_at InQuotes (inner_at d) (36 ∷ xs)) (substituted (suc (length xs))) f from) [
-      inl e ↦ in_substitution refl (part_faulty d (inner_at d) (inner_exact d) InQuotes (36 ∷ xs) f refl e)
-    | inr y ↦ (let t = part_sound d (inner_at d) (inner_exact d) InQuotes (36 ∷ xs) y.0.0 y.0.1 refl y.1 in dollar_substituted d xs y.0.1 t.taken y.0.0 f t.whole t.is.1.0 y.2)
+      | inl e ↦ in_substitution refl (part_faulty d (inner_at d) (inner_exact d) InQuotes (36 ∷ xs) f refl e)
+      | inr y ↦ (let t = part_sound d (inner_at d) (inner_exact d) InQuotes (36 ∷ xs) y.0.0 y.0.1 refl y.1 in dollar_substituted d xs y.0.1 t.taken y.0.0 f t.whole t.is.1.0 y.2)
     ]
 
 square_faulty : (d : ℕ) (xs : Text) (f : Fault) → operand_at d (91 ∷ xs) ≡ Err f → OperandFault d (91 ∷ xs) f
 square_faulty d xs f h =
     let from : (part_at InQuotes (inner_at d) (91 ∷ xs) >>= substituted (suc (length xs))) ≡ Err f =
-        ap (λ r. r >>= substituted (suc (length xs))) (at_bracket d (inner_at d) (inner_exact d) InQuotes xs) ∙ sym (operand_bracket d xs) ∙ h
+    ap (λ r. r >>= substituted (suc (length xs))) (at_bracket d (inner_at d) (inner_exact d) InQuotes xs) ∙ sym (operand_bracket d xs) ∙ h
     in
     elim (bind_err (part_at InQuotes (inner_at d) (91 ∷ xs)) (substituted (suc (length xs))) f from) [
-      inl e ↦ in_substitution refl (part_faulty d (inner_at d) (inner_exact d) InQuotes (91 ∷ xs) f refl e)
-    | inr y ↦ (let t = part_sound d (inner_at d) (inner_exact d) InQuotes (91 ∷ xs) y.0.0 y.0.1 refl y.1 in square_substituted d xs y.0.1 t.taken y.0.0 f t.whole t.is.1.0 y.2)
+      | inl e ↦ in_substitution refl (part_faulty d (inner_at d) (inner_exact d) InQuotes (91 ∷ xs) f refl e)
+      | inr y ↦ (let t = part_sound d (inner_at d) (inner_exact d) InQuotes (91 ∷ xs) y.0.0 y.0.1 refl y.1 in square_substituted d xs y.0.1 t.taken y.0.0 f t.whole t.is.1.0 y.2)
     ]
 
 quote_faulty : (d : ℕ) (xs : Text) (f : Fault) → quoted_at d xs ≡ Err f → OperandFault d (34 ∷ xs) f
 unfolding quoted_at
 quote_faulty d xs f h =
     elim ((quotes_exact d (inner_at d) (inner_exact d)).faulty xs f tt (read_map_err (λ (ps : Parts). let made : Operand × ℕ = (quoted ps, parts_nesting ps) in made) (quotes_at (inner_at d) xs) f h)) [
-      inl k ↦ in_quotes k
-    | inr k ↦ subst (OperandFault d (34 ∷ xs)) k.3 (open_quote k.0 k.1 k.2)
+      | inl k ↦ in_quotes k
+      | inr k ↦ subst (OperandFault d (34 ∷ xs)) k.3 (open_quote k.0 k.1 k.2)
     ]
 
 brace_faulty : (d : ℕ) (xs : Text) (f : Fault) (found : Option (Text × Text)) → braced_at false 0 xs ≡ found → in_braces (suc (length xs)) found ≡ Err f → OperandFault d (123 ∷ xs) f
@@ -374,28 +373,28 @@ operand_met d bs f (no_operand free none others) = at_other d bs free ∙ ap (nu
 script_fault : (d : ℕ) (b : ℕ) (xs : Text) (f : Fault) → (b == 36 || b == 91) ≡ true → PartFault d (b ∷ xs) f → left_of f ≤ length (b ∷ xs)
 script_fault d b xs f opens h =
     script_whole.within d (b ∷ xs) f (script_whole.met d (b ∷ xs) f
-      (script_faults.CommandsFault.first_command [] script_grammar.IsGap.nothing (no_hash b opens)
-        (script_faults.CommandFault.first_word (script_faults.WordFault.plain (no_expansion b opens)
-          (script_faults.PlainFault.in_bare (bare_byte b opens) (script_faults.PartsFault.first_part h)))))) where
-  no_hash : (b : ℕ) → (b == 36 || b == 91) ≡ true → not (b == 35) ≡ true
-  no_hash b h = grind (arith, nat_tests)
+    (script_faults.CommandsFault.first_command [] script_grammar.IsGap.nothing (no_hash b opens)
+    (script_faults.CommandFault.first_word (script_faults.WordFault.plain (no_expansion b opens)
+    (script_faults.PlainFault.in_bare (bare_byte b opens) (script_faults.PartsFault.first_part h)))))) where
+      no_hash : (b : ℕ) → (b == 36 || b == 91) ≡ true → not (b == 35) ≡ true
+      no_hash b h = grind (arith, nat_tests)
 
-  bare_byte : (b : ℕ) → (b == 36 || b == 91) ≡ true → not (b == 123 || b == 34) ≡ true
-  bare_byte b h = grind (arith, nat_tests)
+      bare_byte : (b : ℕ) → (b == 36 || b == 91) ≡ true → not (b == 123 || b == 34) ≡ true
+      bare_byte b h = grind (arith, nat_tests)
 
-  no_brace : (b : ℕ) → (b == 36 || b == 91) ≡ true → b ≡ 123 → ⊥
-  no_brace b h e = grind (arith, nat_tests)
+      no_brace : (b : ℕ) → (b == 36 || b == 91) ≡ true → b ≡ 123 → ⊥
+      no_brace b h e = grind (arith, nat_tests)
 
-  no_expansion : (b : ℕ) → (b == 36 || b == 91) ≡ true → Expands false (b ∷ xs) → ⊥
-  no_expansion b h e = no_brace b h (head_is b 123 xs (42 ∷ (125 ∷ e.0)) e.1)
+      no_expansion : (b : ℕ) → (b == 36 || b == 91) ≡ true → Expands false (b ∷ xs) → ⊥
+      no_expansion b h e = no_brace b h (head_is b 123 xs (42 ∷ (125 ∷ e.0)) e.1)
 
 quote_within : (d : ℕ) (xs : Text) (f : Fault) → PartsFault d InQuotes xs f → left_of f ≤ suc (length xs)
 quote_within d xs f h =
     script_whole.within d (34 ∷ xs) f (script_whole.met d (34 ∷ xs) f
-      (script_faults.CommandsFault.first_command [] script_grammar.IsGap.nothing refl
-        (script_faults.CommandFault.first_word (script_faults.WordFault.plain no_expansion (script_faults.PlainFault.in_quotes h))))) where
-  no_expansion : Expands false (34 ∷ xs) → ⊥
-  no_expansion e = apart 34 123 xs (42 ∷ (125 ∷ e.0)) e.1 (λ e. omega arith)
+    (script_faults.CommandsFault.first_command [] script_grammar.IsGap.nothing refl
+    (script_faults.CommandFault.first_word (script_faults.WordFault.plain no_expansion (script_faults.PlainFault.in_quotes h))))) where
+      no_expansion : Expands false (34 ∷ xs) → ⊥
+      no_expansion e = apart 34 123 xs (42 ∷ (125 ∷ e.0)) e.1 (λ e. omega arith)
 
 part_fault_within : (d : ℕ) (bs : Text) (f : Fault) → DoesBegin (λ b. b == 36 || b == 91) bs → PartFault d bs f → left_of f ≤ length bs
 part_fault_within d [] f opens h = absurd opens

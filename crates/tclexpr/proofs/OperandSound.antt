@@ -1,26 +1,22 @@
 -- An operand that is read is one.
-use Rattle.std.proofs.Common.{◌≡◌, ◌≢◌, ℕ, zero, suc, ◌+◌, ◌-◌, ◌<◌, ◌≤◌, List, [], ◌∷◌, ◌++◌, length, take, drop, Bool, true, false, cond, not, ◌||◌, ◌&&◌, ◌==◌, Option, Some, None, Result, Ok, Err, refl, sym, ap, ap₂, subst, ◌∙◌, arith, append_assoc, append-nil, length-append, ◌⊎◌, inl, inr}
-use Rattle.std.proofs.lemmas.Bool.Decides.{nat_tests}
+use Rattle.std.proofs.Common.{◌≡◌, ℕ, zero, suc, ◌≤◌, [], ◌∷◌, ◌++◌, length, take, Bool, true, false, cond, not, ◌||◌, ◌&&◌, ◌==◌, Option, Some, None, Ok, Err, refl, sym, ap, subst, ◌∙◌, arith, append_assoc, inl, inr}
 use Rattle.tclchars.specs.Runs.{Text, front, back, begins}
-use Rattle.tclchars.specs.Bytes.{AllPass, MayBegin, DoesBegin}
 use Rattle.tclchars.specs.Classes.{is_name}
-use Rattle.tclchars.specs.Braces.{Balanced, braced_at}
-use Rattle.tclchars.specs.Reading.{◌>>=◌, Read, read_map}
-use Rattle.tclchars.specs.declared.fault.Fault.{Fault}
-use Rattle.tclchars.specs.declared.fault.Fault.TheVariants.{OpenBrace, OpenQuote, BadExpression}
-use Rattle.tclchars.proofs.BraceClose.{close_sound, found_close}
+use Rattle.tclchars.specs.Braces.{braced_at}
+use Rattle.tclchars.specs.Reading.{◌>>=◌, Read}
+use Rattle.tclchars.specs.declared.fault.Fault.TheVariants.{OpenQuote, BadExpression}
+use Rattle.tclchars.proofs.BraceClose.{close_sound}
 use Rattle.tclscript.specs.declared.context.Context.TheVariants.{InQuotes}
 use Rattle.tclscript.specs.Tree as tree
 use Rattle.tclscript.specs.Tree.{Part, Parts, parts_nesting, part_nesting}
-use Rattle.tclscript.specs.Grammar.{IsPart, IsParts, IsDollar}
+use Rattle.tclscript.specs.Grammar.{IsPart, IsParts}
 use Rattle.tclscript.specs.Ends.{parts_end}
 use Rattle.tclscript.specs.Pieces.{IsEndOf}
 use Rattle.tclscript.specs.Reading.{on_mark, closed, inner_at, dollar_at, bracket_at, parts_with, part_at, quotes_at, taken}
 use Rattle.tclscript.proofs.Ends.{end_through, end_length}
 use Rattle.tclscript.proofs.Escapes.{back_end}
-use Rattle.tclscript.proofs.Exact.{Took, bind_ok, read_map_ok, ok_pair, ok_err}
-use Rattle.tclscript.proofs.Dollars.{DollarIs}
-use Rattle.tclscript.proofs.PartsExact.{PartIs, part_sound, at_dollar, at_bracket}
+use Rattle.tclscript.proofs.Exact.{bind_ok, read_map_ok, ok_pair}
+use Rattle.tclscript.proofs.PartsExact.{part_sound, at_dollar, at_bracket}
 use Rattle.tclscript.proofs.PartFaults.{parts_sound}
 use Rattle.tclscript.proofs.Whole.{inner_exact}
 use Rattle.tclscript.proofs.Marks as script_marks
@@ -28,7 +24,7 @@ use Rattle.tclscript.proofs.Marks.{Without, on_mark-at, on_mark-not, closed_ok, 
 use Rattle.tclexpr.specs.declared.numbers.Digits.{Digits}
 use Rattle.tclexpr.specs.declared.numbers.Digits.TheVariants.{Decimal}
 use Rattle.tclexpr.specs.Operands.{Operand, number, word, variable, indexed, bracket, quoted, braced, is_digit, begins_digit, after_digits, announced, after_announced, after_based, is_sign, after_sign, after_exponent, after_fraction, begins_point, after_decimal, first_of_both, after_number, is_truth, substituted, quoted_at, in_braces, braced_text_at, word_at, numeric, operand_at}
-use Rattle.tclexpr.specs.OperandGrammar.{IsSubstitution, IsTruthWord, IsOperand, is_opening}
+use Rattle.tclexpr.specs.OperandGrammar.{IsOperand}
 
 -- What is read at each first byte
 

@@ -1,5 +1,5 @@
 -- The steps of the reader of operands, as the code takes them.
-use Rattle.std.proofs.Common.{◌≡◌, ◌<◌, ◌≤◌, ◌&&◌, ℕ, suc, List, [], ◌∷◌, length, Bool, true, false, cond, not, Option, Some, None, Result, Ok, Err, Vec, refl, sym, ap, ap₂, subst, ◌∙◌, arith, rules}
+use Rattle.std.proofs.Common.{◌≡◌, ◌<◌, ◌≤◌, ◌&&◌, ℕ, suc, [], ◌∷◌, length, Bool, true, false, cond, not, Some, None, Result, Ok, Err, Vec, refl, sym, ap, ap₂, ◌∙◌, arith, rules}
 use Rattle.std.specs.declared.alloc.Global.{Global}
 use Rattle.tclchars.specs.Runs.{Text, front, back, begins}
 use Rattle.tclchars.specs.Classes.{is_name}

@@ -1,5 +1,5 @@
 -- A run and what follows it.
-use Rattle.std.proofs.Common.{◌≡◌, ℕ, List, [], ◌∷◌, ◌++◌, Bool, true, false, refl, ap}
+use Rattle.std.proofs.Common.{◌≡◌, ℕ, [], ◌∷◌, ◌++◌, Bool, true, false, refl, ap}
 use Rattle.tclchars.specs.Runs.{Text, front, back}
 use Rattle.tclchars.proofs.RunLemmas.{front-nil, back-nil, front-cons_true, front-cons_false, back-cons_true, back-cons_false}
 

@@ -1,25 +1,24 @@
 -- What is read is in the grammar.
-use Rattle.std.proofs.Common.{◌≡◌, ◌<◌, ◌≤◌, ◌-◌, ℕ, zero, suc, max, List, [], ◌∷◌, ◌++◌, length, Bool, true, false, cond, nat_lt, nat_le, Option, Some, None, Result, Ok, Err, refl, sym, ap, ap₂, subst, ◌∙◌, arith, append_assoc, ◌⊎◌, inl, inr}
+use Rattle.std.proofs.Common.{◌≡◌, ◌<◌, ◌≤◌, ◌-◌, ℕ, zero, suc, max, List, [], ◌∷◌, ◌++◌, length, Bool, true, false, cond, nat_lt, nat_le, Option, Some, None, Result, Ok, Err, refl, sym, ap, subst, ◌∙◌, arith}
 use Rattle.std.proofs.lemmas.Bool.Decides.{nat_tests}
 use Rattle.tclchars.specs.Runs.{Text}
 use Rattle.tclchars.specs.declared.fault.Fault.{Fault}
 use Rattle.tclchars.specs.declared.fault.Fault.TheVariants.{TooDeep, BadExpression}
-use Rattle.tclchars.specs.Reading.{◌>>=◌, Read, read_map}
+use Rattle.tclchars.specs.Reading.{◌>>=◌, Read}
 use Rattle.tclexpr.specs.declared.operators.UnaryOperator.{UnaryOperator}
-use Rattle.tclexpr.specs.declared.operators.BinaryOperator.{BinaryOperator}
 use Rattle.tclexpr.specs.declared.operators.BinaryOperator.TheVariants as operators
 use Rattle.tclexpr.specs.declared.operators.Infix.{Infix}
 use Rattle.tclexpr.specs.declared.operators.Infix.TheVariants as infixes
 use Rattle.tclexpr.specs.declared.operators.Mark.{Mark}
 use Rattle.tclexpr.specs.declared.operators.Mark.TheVariants as marks
-use Rattle.tclexpr.specs.Tree.{Expr, operand, unary, choice, joined, Token, value, mark}
-use Rattle.tclexpr.specs.Grammar.{operator_level, level, sign_of, IsExpr, simple, choosing, IsChain, single, in_parentheses, signed, joining}
+use Rattle.tclexpr.specs.Tree.{Expr, operand, unary, choice, Token, value, mark}
+use Rattle.tclexpr.specs.Grammar.{level, sign_of, IsExpr, simple, choosing, IsChain, single, in_parentheses, signed, joining}
 use Rattle.tclexpr.specs.Marks.{after_white, mark_at}
-use Rattle.tclexpr.specs.Row.{IsToken, IsRow, IsExprText}
+use Rattle.tclexpr.specs.Row.{IsRow, IsExprText}
 use Rattle.tclexpr.specs.Faults.{NextIsNot, GoesOn, Follows}
-use Rattle.tclexpr.specs.Reading.{Extent, whole, chain, is_close, is_colon, is_question, is_open, infix_of, expected, expect, Tall, signed_at, enclosed_at, marked_at, begun_at, prefix_at, join, next_at, going_at, climb_at, chain_at, branches_at, choosing_at, whole_at, extent_at, below_at, ended, expr_at}
+use Rattle.tclexpr.specs.Reading.{Extent, whole, chain, is_close, is_colon, is_question, is_open, infix_of, expected, expect, signed_at, enclosed_at, begun_at, prefix_at, join, next_at, going_at, climb_at, chain_at, branches_at, choosing_at, whole_at, below_at, ended, expr_at}
 use Rattle.tclexpr.proofs.Results.{bind_ok, ok_pair, read_map_ok, found_once, found_none, infix_once}
-use Rattle.tclexpr.proofs.Rows.{row_join, row_cut}
+use Rattle.tclexpr.proofs.Rows.{row_join}
 
 -- Marks by their tests
 pub open_is : (m : Mark) → is_open m ≡ true → m ≡ marks.Open

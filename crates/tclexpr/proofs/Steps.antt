@@ -1,5 +1,5 @@
 -- The steps of the readers of expressions, as the code takes them.
-use Rattle.std.proofs.Common.{◌≡◌, ◌<◌, ◌≤◌, ◌-◌, ℕ, zero, suc, max, List, [], ◌∷◌, length, Bool, true, false, cond, nat_lt, nat_le, if◌then◌else◌, Option, Some, None, Result, Ok, Err, refl, sym, ap, ap₂, subst, ◌∙◌, arith}
+use Rattle.std.proofs.Common.{◌≡◌, ◌<◌, ◌-◌, ℕ, suc, length, Bool, true, false, cond, nat_lt, if◌then◌else◌, Option, Some, None, Result, Ok, Err, refl, sym, ap, subst, ◌∙◌, arith}
 use Rattle.tclchars.specs.Runs.{Text}
 use Rattle.tclchars.specs.declared.fault.Fault.{Fault}
 use Rattle.tclchars.specs.declared.fault.Fault.TheVariants.{TooDeep, BadExpression}
@@ -7,16 +7,14 @@ use Rattle.tclchars.specs.declared.fault.ReadError.{ReadError}
 use Rattle.tclchars.specs.declared.fault.ReadError.TheVariants as errors
 use Rattle.tclchars.specs.Reading.{◌>>=◌, Read, read_map, Fails}
 use Rattle.tclexpr.specs.declared.operators.UnaryOperator.{UnaryOperator}
-use Rattle.tclexpr.specs.declared.operators.Infix.{Infix}
 use Rattle.tclexpr.specs.declared.operators.Mark.{Mark}
 use Rattle.tclexpr.specs.declared.operators.Mark.TheVariants as marks
-use Rattle.tclexpr.specs.Tree.{Expr, choice}
-use Rattle.tclexpr.specs.Grammar.{level, sign_of}
+use Rattle.tclexpr.specs.Grammar.{sign_of}
 use Rattle.tclexpr.specs.Marks.{after_white, mark_at}
 use Rattle.tclexpr.specs.Operands.{Operand, operand_at}
-use Rattle.tclexpr.specs.Reading.{Extent, whole, chain, Tall, join, leaf_of, unary_of, choice_of, expect, is_close, is_colon, is_open, is_question, enclosed_at, branches_at, begun_at, prefix_at, signed_at, choosing_at, chain_at, whole_at, below_at}
-use Rattle.tclexpr.proofs.Sound.{question_is, true_false}
-use Rattle.tclexpr.proofs.Complete.{below_chain, below_whole, prefix_marked, marked_other, marked_sign, whole_from, lt_true, lt_false}
+use Rattle.tclexpr.specs.Reading.{Extent, whole, chain, Tall, leaf_of, unary_of, choice_of, expect, is_close, is_colon, is_open, is_question, enclosed_at, branches_at, begun_at, prefix_at, signed_at, choosing_at, chain_at, whole_at, below_at}
+use Rattle.tclexpr.proofs.Sound.{question_is}
+use Rattle.tclexpr.proofs.Complete.{below_chain, below_whole, prefix_marked, marked_other, marked_sign, whole_from, lt_true}
 
 -- One level down
 

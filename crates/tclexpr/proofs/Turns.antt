@@ -1,31 +1,29 @@
 -- What readers of expressions leave, and the turns of the loop that reads a chain.
-use Rattle.std.proofs.Common.{◌≡◌, ◌<◌, ◌≤◌, ◌-◌, ℕ, zero, suc, max, List, [], ◌∷◌, ◌++◌, length, Bool, true, false, cond, nat_lt, nat_le, if◌then◌else◌, ◌&&◌, ◌==◌, ◌⊎◌, inl, inr, Option, Some, None, Result, Ok, Err, refl, sym, ap, ap₂, subst, ◌∙◌, arith, length-append}
-use Rattle.tclchars.specs.Runs.{Text, front, back, begins}
-use Rattle.tclchars.specs.Bytes.{is_space, newline, backslash}
+use Rattle.std.proofs.Common.{◌≡◌, ◌<◌, ◌≤◌, ◌-◌, ℕ, zero, suc, List, [], ◌∷◌, length, Bool, true, false, cond, nat_lt, if◌then◌else◌, ◌&&◌, ◌==◌, inl, inr, Some, None, Ok, Err, refl, sym, ap, subst, ◌∙◌, arith}
+use Rattle.tclchars.specs.Runs.{Text, front, back}
 use Rattle.tclchars.specs.Classes.{is_name}
 use Rattle.tclchars.specs.declared.fault.Fault.{Fault}
-use Rattle.tclchars.specs.declared.fault.Fault.TheVariants.{TooDeep, BadExpression}
+use Rattle.tclchars.specs.declared.fault.Fault.TheVariants.{TooDeep}
 use Rattle.tclchars.specs.declared.fault.ReadError.{ReadError}
 use Rattle.tclchars.specs.declared.fault.ReadError.TheVariants as errors
-use Rattle.tclchars.specs.Reading.{◌>>=◌, Read, read_map, Fails}
+use Rattle.tclchars.specs.Reading.{◌>>=◌, Read, Fails}
 use Rattle.tclscript.specs.Pieces.{IsEndOf}
 use Rattle.tclscript.proofs.Ends.{end_same, end_behind, end_through, end_no_longer}
 use Rattle.tclscript.proofs.Escapes.{back_end}
 use Rattle.tclexpr.specs.declared.operators.Infix.{Infix}
 use Rattle.tclexpr.specs.declared.operators.Mark.{Mark}
 use Rattle.tclexpr.specs.declared.operators.Mark.TheVariants as marks
-use Rattle.tclexpr.specs.Tree.{Expr, Token, value, mark}
+use Rattle.tclexpr.specs.Tree.{Token, value, mark}
 use Rattle.tclexpr.specs.Grammar.{level}
 use Rattle.tclexpr.specs.Marks.{begins_white, after_white, mark_at, before, longest, symbol_at, word_mark, one_byte, two_bytes}
-use Rattle.tclexpr.specs.Row.{IsToken, IsRow}
+use Rattle.tclexpr.specs.Row.{IsRow}
 use Rattle.tclexpr.specs.Faults.{Follows}
 use Rattle.tclexpr.specs.Operands.{Operand, operand_at}
 use Rattle.tclexpr.specs.OperandGrammar.{IsOperand}
-use Rattle.tclexpr.specs.Reading.{Extent, whole, chain, Tall, join, prefix_at, climb_at, chain_at, whole_at, below_at, expect, is_close, is_colon}
-use Rattle.tclexpr.proofs.Results.{found_once}
+use Rattle.tclexpr.specs.Reading.{chain, Tall, join, prefix_at, climb_at, chain_at, whole_at, below_at, expect}
 use Rattle.tclexpr.proofs.Rows.{before_found, longest_found, after_white_no_longer, mark_shorter}
-use Rattle.tclexpr.proofs.Sound.{Took, TookChain, TookWhole, TookPrefix, prefix_sound, chain_sound, whole_sound, below_sound, lt_is, lt_not, expected_ok}
-use Rattle.tclexpr.proofs.Complete.{climb_stops, climb_operator, chain_from, below_chain, below_whole}
+use Rattle.tclexpr.proofs.Sound.{prefix_sound, chain_sound, whole_sound, below_sound, lt_is, expected_ok}
+use Rattle.tclexpr.proofs.Complete.{climb_stops, climb_operator, chain_from, below_chain}
 use Rattle.tclexpr.proofs.OperandSound.{operand_sound, operand_end}
 
 -- Ends of texts

@@ -1,22 +1,15 @@
 -- The tree and the fault of a whole text.
-use Rattle.std.proofs.Common.{◌≡◌, ◌≢◌, ℕ, zero, suc, ◌+◌, ◌-◌, ◌<◌, ◌≤◌, max, List, [], ◌∷◌, ◌++◌, length, Bool, true, false, cond, ◌||◌, ◌&&◌, ◌==◌, nat_lt, Option, Some, None, Result, Ok, Err, refl, sym, ap, ap₂, subst, ◌∙◌, arith, length-append, ◌⊎◌, inl, inr}
-use Rattle.std.specs.Prelude.{MatchResult, IfOk, IfErr}
+use Rattle.std.proofs.Common.{◌≡◌, ◌≢◌, ℕ, ◌<◌, ◌≤◌, [], ◌∷◌, ◌++◌, length, Bool, true, false, cond, ◌||◌, ◌&&◌, ◌==◌, Option, Some, None, Result, Ok, Err, refl, sym, ap, subst, ◌∙◌, arith, length-append}
 use Rattle.tclchars.specs.Runs.{Text}
-use Rattle.tclchars.specs.Faults.{max_bytes, max_nesting}
-use Rattle.tclchars.specs.Reading.{◌>>=◌, Read, Fails, left_of, placed}
+use Rattle.tclchars.specs.Reading.{◌>>=◌, Fails, left_of}
 use Rattle.tclchars.specs.declared.fault.Fault.{Fault}
 use Rattle.tclchars.specs.declared.fault.Fault.TheVariants as marks
 use Rattle.tclchars.specs.declared.fault.ReadError.{ReadError}
 use Rattle.tclchars.specs.declared.fault.ReadError.TheVariants as errors
-use Rattle.tclchars.specs.declared.fault.TextFault.{TextFault}
-use Rattle.tclchars.specs.declared.fault.TextFault.TheVariants.{OutOfMemory, OpenBrace, OpenQuote, OpenBracket, JoinedToClose, TooDeep, BadCharacter, BadExpression, TooLong}
-use Rattle.tclscript.specs.Text.{at_place, Reads, FailsWith}
-use Rattle.tclexpr.specs.declared.operators.Mark.{Mark}
 use Rattle.tclexpr.specs.declared.operators.Mark.TheVariants as marks_of
-use Rattle.tclexpr.specs.Tree.{Expr, Token, mark}
-use Rattle.tclexpr.specs.Marks.{after_white, mark_at}
-use Rattle.tclexpr.specs.Row.{IsRow}
-use Rattle.tclexpr.specs.Faults.{ExprFault, in_condition, deep_choice, in_yes, no_colon, in_no, ChainFault, in_operand, no_operand, deep_prefix, in_signed, in_open, no_close, deep_operator, in_right, ExprTextFault, inside, left_over}
+use Rattle.tclexpr.specs.Tree.{Expr, mark}
+use Rattle.tclexpr.specs.Marks.{after_white}
+use Rattle.tclexpr.specs.Faults.{ExprFault, in_condition, deep_choice, in_yes, no_colon, in_no, ChainFault, in_operand, no_operand, deep_prefix, in_signed, in_open, no_close, deep_operator, in_right, inside, left_over}
 use Rattle.tclchars.specs.Bytes.{DoesBegin}
 use Rattle.tclchars.specs.Classes.{is_name}
 use Rattle.tclscript.specs.declared.context.Context.TheVariants.{InQuotes}
@@ -24,12 +17,12 @@ use Rattle.tclscript.specs.Tree as tree
 use Rattle.tclscript.proofs.Ends.{end_through, end_no_longer}
 use Rattle.tclscript.proofs.PartsExact.{part_some}
 use Rattle.tclexpr.specs.declared.numbers.Digits.TheVariants.{Decimal}
-use Rattle.tclexpr.specs.Operands.{Operand, number, word, variable, indexed, bracket, quoted, braced, operand_at, is_digit, begins_digit, begins_point, after_digits, after_exponent, after_fraction, after_decimal, announced, after_announced, after_based, after_number, first_of_both}
+use Rattle.tclexpr.specs.Operands.{Operand, number, word, variable, indexed, bracket, quoted, braced, operand_at, is_digit, begins_digit, after_digits, after_exponent, after_fraction, after_decimal, announced, after_announced, after_based, after_number, first_of_both}
 use Rattle.tclexpr.proofs.MarkLemmas.{digits_more}
 use Rattle.tclexpr.proofs.MarkLemmas as mark_lemmas
 use Rattle.tclexpr.specs.OperandGrammar.{IsOperand, OperandFault}
 use Rattle.tclexpr.specs.Reading.{Tall, whole_at, below_at, ended, expr_at}
-use Rattle.tclexpr.specs.Text.{IsExpression, IsFault, IsFaultAt, IsTextFault, expr_of}
+use Rattle.tclexpr.specs.Text.{IsExpression, IsFault}
 use Rattle.tclexpr.proofs.Rows.{row_no_longer, after_white_no_longer, mark_shorter}
 use Rattle.tclexpr.proofs.Sound as operators
 use Rattle.tclexpr.proofs.Complete as complete_operators
@@ -50,7 +43,7 @@ decimal_shorter b bs rest h = go (is_digit Decimal b) refl (b == 46) refl h wher
       let same : after_exponent (after_fraction (after_digits Decimal (b ∷ bs))) ≡ rest = cc in
       let on : after_digits Decimal (b ∷ bs) ≡ after_digits Decimal bs = digits_more Decimal (b ∷ bs) s in
       ends (after_fraction (after_digits Decimal bs)) (end_through bs (after_digits Decimal bs) (after_fraction (after_digits Decimal bs)) (digits_end Decimal bs) (fraction_end (after_digits Decimal bs)))
-        (ap (λ ys. after_exponent (after_fraction ys)) (sym on) ∙ same)
+      (ap (λ ys. after_exponent (after_fraction ys)) (sym on) ∙ same)
   go false s true t h = pointed (begins_digit Decimal bs) h where
     pointed : (u : Bool) → cond u (Some (after_exponent (after_fraction (after_digits Decimal (b ∷ bs))))) None ≡ Some rest → IsEndOf bs rest
     pointed true h =

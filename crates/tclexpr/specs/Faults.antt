@@ -7,7 +7,7 @@ use Rattle.tclexpr.specs.declared.operators.UnaryOperator.{UnaryOperator}
 use Rattle.tclexpr.specs.declared.operators.Infix.{Infix}
 use Rattle.tclexpr.specs.declared.operators.Mark.{Mark}
 use Rattle.tclexpr.specs.declared.operators.Mark.TheVariants as marks
-use Rattle.tclexpr.specs.Tree.{Expr, Token, value, mark}
+use Rattle.tclexpr.specs.Tree.{Expr, Token, mark}
 use Rattle.tclexpr.specs.Grammar.{level, sign_of, IsExpr, IsChain}
 use Rattle.tclexpr.specs.Marks.{after_white, mark_at}
 use Rattle.tclexpr.specs.Row.{IsRow}

@@ -1,5 +1,5 @@
 -- Operands of expressions: numbers, truth words, and the substitutions, quoted and braced texts of scripts.
-use Rattle.std.specs.Prelude.{ℕ, zero, suc, ◌+◌, List, [], ◌∷◌, length, Bool, true, false, not, ◌||◌, ◌&&◌, ◌==◌, nat_le, if◌then◌else◌, Option, Some, None, Result, Ok, Err}
+use Rattle.std.specs.Prelude.{ℕ, suc, ◌+◌, [], ◌∷◌, length, Bool, true, false, not, ◌||◌, ◌&&◌, ◌==◌, nat_le, if◌then◌else◌, Option, Some, None, Result, Ok, Err}
 use Rattle.tclchars.specs.Runs.{Text, front, back, begins}
 use Rattle.tclchars.specs.Classes.{is_name, begins_in}
 use Rattle.tclchars.specs.Braces.{braced_at}

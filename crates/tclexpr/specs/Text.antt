@@ -1,5 +1,5 @@
 -- The tree or the fault of a whole text.
-use Rattle.std.specs.Prelude.{◌≡◌, ◌≤◌, ◌<◌, ◌+◌, ℕ, length, nat_lt, if◌then◌else◌, Result, Ok, Err}
+use Rattle.std.specs.Prelude.{◌≡◌, ◌≤◌, ◌<◌, ◌+◌, ℕ, length, nat_lt, if◌then◌else◌, Result, Err}
 use Rattle.tclchars.specs.Runs.{Text}
 use Rattle.tclchars.specs.Faults.{max_bytes, max_nesting}
 use Rattle.tclchars.specs.declared.fault.Fault.{Fault}

@@ -1,4 +1,4 @@
-use Rattle.std.proofs.Common.{◌≡◌, Some, ap, sym, ◌∙◌}
+use Rattle.std.proofs.Common.{Some, ap, sym, ◌∙◌}
 use Rattle.tclexpr.specs.Marks.{word_mark}
 use Rattle.tclexpr.proofs.MarkLemmas.{mark_word, mark_symbol}
 use Rattle.tclexpr.proofs.marks.read_mark.Goals as goal

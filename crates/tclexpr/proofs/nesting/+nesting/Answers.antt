@@ -1,9 +1,8 @@
-use Rattle.std.proofs.Common.{◌≡◌, ◌<◌, ◌≤◌, ◌++◌, ◌∷◌, [], ◌+◌, max, List, take, map, length, sym, ap, subst, ◌∙◌, arith, rules}
+use Rattle.std.proofs.Common.{◌≡◌, ◌≤◌, ◌++◌, ◌∷◌, [], ◌+◌, take, map, length, sym, ap, subst, ◌∙◌, arith}
 use Rattle.std.proofs.Math.Seq.{take-length}
 use Rattle.std.proofs.lemmas.List.{take_more}
-use Rattle.tclchars.specs.Runs.{Text}
 use Rattle.tclscript.specs.Tree.{nesting, words_nesting, word_nesting, parts_nesting, part_nesting, commands_of}
-use Rattle.tclscript.specs.View.{script_view, command_view, word_view, part_view, parts_view}
+use Rattle.tclscript.specs.View.{command_view, word_view, part_view, parts_view}
 use Rattle.tclexpr.specs.View.{words_view}
 use Rattle.tclexpr.proofs.Heights.{Tallest, tallest_more, parts_step, words_step, commands_step, words_of_command, word_height, script_height}
 use Rattle.tclexpr.proofs.nesting.+nesting.Goals as goal

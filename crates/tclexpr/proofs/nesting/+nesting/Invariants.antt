@@ -1,4 +1,4 @@
-use Rattle.std.proofs.Common.{◌≡◌, ◌<◌, map, take}
+use Rattle.std.proofs.Common.{map, take}
 use Rattle.tclchars.specs.Runs.{Text}
 use Rattle.tclscript.specs.Tree.{nesting, words_nesting, parts_nesting, commands_of}
 use Rattle.tclscript.specs.View.{command_view, parts_view}

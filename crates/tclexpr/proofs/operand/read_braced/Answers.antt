@@ -1,5 +1,4 @@
-use Rattle.std.proofs.Common.{◌≡◌, Ok, Err, Some, None, sym, ap, ◌∙◌, ◌∷◌, false, suc, length, arith, rules}
-use Rattle.tclchars.specs.declared.fault.Fault.TheVariants.{OpenBrace}
+use Rattle.std.proofs.Common.{◌≡◌, sym, ◌∷◌, false, suc, length}
 use Rattle.tclchars.proofs.BraceClose.{close_sound}
 use Rattle.tclexpr.proofs.OperandSteps.{braced-read, braced-open}
 use Rattle.tclexpr.proofs.operand.read_braced.Goals as goal

@@ -1,4 +1,4 @@
-use Rattle.std.proofs.Common.{◌≡◌, sym, subst}
+use Rattle.std.proofs.Common.{sym, subst}
 use Rattle.tclchars.specs.Reading.{Gives}
 use Rattle.tclscript.proofs.Ends.{end_through, end_mark}
 use Rattle.tclexpr.specs.View.{operand_view}

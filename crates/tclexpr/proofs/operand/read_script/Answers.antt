@@ -1,6 +1,5 @@
-use Rattle.std.proofs.Common.{◌≡◌, ◌≤◌, length, sym, ap, ◌∙◌, arith, rules}
+use Rattle.std.proofs.Common.{◌≤◌, length, arith}
 use Rattle.std.proofs.lemmas.Result.{err_from_is_err_and}
-use Rattle.tclscript.specs.Pieces.{IsEndOf}
 use Rattle.tclscript.specs.Tree.{part_nesting}
 use Rattle.tclscript.specs.View.{part_view}
 use Rattle.tclscript.specs.Reading.{inner_at, bracket_at}

@@ -1,10 +1,8 @@
-use Rattle.std.proofs.Common.{◌≡◌, ◌≤◌, length, sym, ap, ◌∙◌, arith, rules}
+use Rattle.std.proofs.Common.{◌≤◌, length, arith}
 use Rattle.std.proofs.lemmas.Result.{err_from_is_err_and}
-use Rattle.tclscript.specs.Pieces.{IsEndOf}
 use Rattle.tclscript.specs.Tree.{part_nesting}
 use Rattle.tclscript.specs.View.{part_view}
 use Rattle.tclscript.specs.Reading.{inner_at, dollar_at}
-use Rattle.tclscript.proofs.Ends.{end_through, end_mark}
 use Rattle.tclexpr.specs.View.{operand_view}
 use Rattle.tclexpr.proofs.OperandSteps.{substituted-read, substituted-fails, dollar_deep}
 use Rattle.tclexpr.proofs.operand.read_variable.Goals as goal

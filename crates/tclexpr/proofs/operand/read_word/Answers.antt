@@ -1,5 +1,5 @@
-use Rattle.std.proofs.Common.{◌≡◌, ◌++◌, true, false, ap, sym, ◌∙◌}
-use Rattle.tclchars.specs.Runs.{front, back}
+use Rattle.std.proofs.Common.{◌++◌, ap, sym, ◌∙◌}
+use Rattle.tclchars.specs.Runs.{back}
 use Rattle.tclchars.specs.Classes.{is_name}
 use Rattle.tclexpr.specs.Operands.{is_truth}
 use Rattle.tclexpr.proofs.Runs.{front_back}

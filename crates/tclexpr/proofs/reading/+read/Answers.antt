@@ -1,15 +1,14 @@
-use Rattle.std.proofs.Common.{◌≡◌, ◌<◌, ◌≤◌, ◌-◌, ℕ, List, Option, Some, None, Result, Ok, Err, true, false, length, suc, sym, ap, ap₂, subst, ◌∙◌, refl, arith, rules}
+use Rattle.std.proofs.Common.{◌≡◌, ◌<◌, ◌≤◌, ◌-◌, Some, None, Ok, true, false, sym, ap, subst, ◌∙◌, arith, rules}
 use Rattle.std.proofs.lemmas.Result.{err_from_is_err_and}
-use Rattle.tclchars.specs.Runs.{Text}
 use Rattle.tclchars.specs.Reading.{Gives}
 use Rattle.tclscript.specs.Pieces.{IsEndOf}
 use Rattle.tclscript.proofs.Ends.{end_through}
 use Rattle.tclexpr.specs.declared.operators.Mark.TheVariants as marks
 use Rattle.tclexpr.specs.Grammar.{level}
-use Rattle.tclexpr.specs.Marks.{mark_at, after_white}
-use Rattle.tclexpr.specs.Reading.{join, choice_of, unary_of, is_colon, is_close, is_open, is_question, chain_at, below_at}
+use Rattle.tclexpr.specs.Marks.{mark_at}
+use Rattle.tclexpr.specs.Reading.{is_colon, is_open, is_question, chain_at, below_at}
 use Rattle.tclexpr.specs.Operands.{operand_at}
-use Rattle.tclexpr.specs.View.{tall_view, expr_view}
+use Rattle.tclexpr.specs.View.{tall_view}
 use Rattle.tclexpr.proofs.Results.{found_once, found_none}
 use Rattle.tclexpr.proofs.Sound.{open_is, question_is, true_false}
 use Rattle.tclexpr.proofs.Turns.{white_end, mark_end, expect_end, whole_leaves, chain_leaves, right_leaves, chain-first, chain-end, chain-starts, chain-fails, chain-shorter, chain-more}

@@ -8,6 +8,6 @@ pub place-requires : goal.place-requires
 place-requires g c =
     let e : length c.as_str-len.result.now ≡ length (g.S.Source.text c.args.source.now) = ap length c.as_str-len.ensures in
     let le : left_of c.in-Err-Fault.fault ≤ length (g.S.Source.text c.args.source.now) =
-        within max_nesting (g.S.Source.text c.args.source.now) c.in-Err-Fault.fault (rw c.in-Err-Fault.field-0-is at c.in-Err-Fault.ensures)
+    within max_nesting (g.S.Source.text c.args.source.now) c.in-Err-Fault.fault (rw c.in-Err-Fault.field-0-is at c.in-Err-Fault.ensures)
     in
     omega arith
