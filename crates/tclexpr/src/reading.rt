@@ -67,6 +67,13 @@ fn read_infix(text: &str, limit: usize) -> Option<(Infix, &str)>
     }
 }
 
+// The highest level of operators in a right operand: operators of one level group to the left.
+fn right_level(between: Infix) -> usize
+    ensures { result ≡ level between - 1 }
+{
+    level(between) - 1
+}
+
 // An operator and its operand.
 fn unary<P: Drop>(
     alloc: Global,
@@ -222,7 +229,7 @@ fn read_right<'a, S: Source<P>, P: Drop>(
     if height >= depth {
         return Err(ReadError::Fault(Fault::TooDeep));
     }
-    read_chain(alloc, source, text, depth - 1, level(between) - 1)
+    read_chain(alloc, source, text, depth - 1, right_level(between))
 }
 
 // An operand, with the operators before it, or an expression in parentheses.

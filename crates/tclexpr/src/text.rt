@@ -15,11 +15,7 @@ use crate::reading::read_whole;
 use crate::tree::Expr;
 use std::alloc::Global;
 use tclchars::{Fault, ReadError, TextFault, place};
-use tclscript::Source;
-
-const MAX_BYTES: usize = 1_048_576;
-
-const MAX_NESTING: usize = 200;
+use tclscript::{MAX_BYTES, MAX_NESTING, Source};
 
 /// The tree of an expression (expr(n)), whose pieces are slices of the text. Takes time and memory in proportion to the text's
 /// length, and copies no text.

@@ -164,7 +164,7 @@ pub read_right-returns : goal.read_right-returns
 read_right-returns g t c =
     let lower : c.args.height < c.args.depth = omega arith in
     subst (λ r. Gives (λ x. (tall_view (g.S.Source.shown c.args.source.now) x.0, x.1.now)) c.read_chain.result r)
-    (sym (right-chain c.args.depth c.args.height (level c.args.between - 1) c.args.text.now lower ∙ ap (λ k. chain_at operand_at (c.args.depth - 1) (below_at operand_at (c.args.depth - 1)) (k - 1) c.args.text.now) (sym c.level.ensures))) c.read_chain.ensures
+    (sym (right-chain c.args.depth c.args.height (level c.args.between - 1) c.args.text.now lower ∙ ap (λ k. chain_at operand_at (c.args.depth - 1) (below_at operand_at (c.args.depth - 1)) k c.args.text.now) (sym c.right_level.ensures))) c.read_chain.ensures
 
 pub read_signed-returns-then-depth-eq0 : goal.read_signed-returns-then-depth-eq0
 read_signed-returns-then-depth-eq0 g t c = signed-deep c.args.depth c.args.operator c.args.text.now (omega arith)
