@@ -1,0 +1,16 @@
+pub mod Results
+pub mod Runs
+pub mod Rows
+pub mod MarkLemmas
+pub mod Sound
+pub mod Complete
+pub mod FaultSound
+pub mod FaultComplete
+pub mod OperandSound
+pub mod Turns
+pub mod Steps
+pub mod Heights
+pub mod OperandSteps
+pub mod OperandFaults
+pub mod Whole
+pub mod Clauses

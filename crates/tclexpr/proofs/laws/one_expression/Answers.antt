@@ -1,0 +1,5 @@
+use Rattle.tclexpr.proofs.Whole.{unique}
+use Rattle.tclexpr.proofs.laws.one_expression.Goals as goal
+
+pub returns : goal.returns
+returns c = unique

@@ -1,0 +1,16 @@
+use Rattle.std.proofs.Common.{map, take}
+use Rattle.tclchars.specs.Runs.{Text}
+use Rattle.tclscript.specs.Tree.{nesting, words_nesting, parts_nesting, commands_of}
+use Rattle.tclscript.specs.View.{command_view, parts_view}
+use Rattle.tclexpr.specs.View.{words_view}
+use Rattle.tclexpr.proofs.Heights.{Tallest}
+use Rattle.tclexpr.proofs.nesting.+nesting.Given as goal
+
+abbrev pub invariant-parts_nesting-loop-part : goal.invariant-parts_nesting-loop-part
+invariant-parts_nesting-loop-part g l = (shown : g.row.P.Denot → Text) → Tallest 18446744073709551615 l.height (parts_nesting (parts_view shown (take l.part-index l.part-items)))
+
+abbrev pub invariant-script_nesting-loop-command : goal.invariant-script_nesting-loop-command
+invariant-script_nesting-loop-command g l = (shown : g.row.P.Denot → Text) → Tallest 18446744073709551615 l.height (nesting (commands_of (map (command_view shown) (take l.command-index l.command-items))))
+
+abbrev pub invariant-words_nesting-loop-word : goal.invariant-words_nesting-loop-word
+invariant-words_nesting-loop-word g l = (shown : g.row.P.Denot → Text) → Tallest 18446744073709551615 l.height (words_nesting (words_view shown (take l.word-index l.word-items)))

@@ -1,0 +1,24 @@
+use Rattle.std.proofs.Common.{◌++◌, ap, sym, ◌∙◌}
+use Rattle.tclchars.specs.Runs.{back}
+use Rattle.tclchars.specs.Classes.{is_name}
+use Rattle.tclexpr.specs.Operands.{is_truth}
+use Rattle.tclexpr.proofs.Runs.{front_back}
+use Rattle.tclexpr.proofs.OperandSteps.{word-read, word-false, word-called}
+use Rattle.tclexpr.proofs.operand.read_word.Goals as goal
+
+pub cut-requires-clause-front : goal.cut-requires-clause-front
+cut-requires-clause-front g c = (back is_name c.args.text.now, front_back is_name c.args.text.now ∙ ap (λ w. w ++ back is_name c.args.text.now) (sym c.split_front.ensures.run))
+
+pub returns-then-not-is_truth : goal.returns-then-not-is_truth
+returns-then-not-is_truth g c =
+    word-false c.args.text.now c.split_front.result.0.now c.split_front.ensures.run (ap is_truth (sym c.as_bytes.ensures.value) ∙ sym c.if-not-is_truth.ensures)
+
+pub returns-in-None : goal.returns-in-None
+returns-in-None g c =
+    word-read c.args.text.now c.split_front.result.0.now c.split_front.result.1.now (g.S.Source.shown c.args.source.now c.cut.result) c.split_front.ensures.run c.split_front.ensures.rest
+    (ap is_truth (sym c.as_bytes.ensures.value) ∙ sym c.if-not-is_truth.ensures) c.in-None.ensures c.cut.ensures
+
+pub returns-in-Some : goal.returns-in-Some
+returns-in-Some g c =
+    word-called c.args.text.now c.split_front.result.0.now c.split_front.result.1.now c.in-Some.field-0.now c.split_front.ensures.run c.split_front.ensures.rest
+    (ap is_truth (sym c.as_bytes.ensures.value) ∙ sym c.if-not-is_truth.ensures) c.in-Some.ensures

@@ -1,0 +1,21 @@
+use Rattle.std.proofs.Common.{arith}
+use Rattle.std.proofs.lemmas.Result.{err_from_is_err_and}
+use Rattle.tclchars.specs.Faults.{max_nesting}
+use Rattle.tclexpr.specs.View.{tall_view}
+use Rattle.tclexpr.proofs.Whole.{expr-fails, expr-ends, expr-left}
+use Rattle.tclexpr.proofs.text.read_source.Goals as goal
+
+pub returns-in_err-expression : goal.returns-in_err-expression
+returns-in_err-expression g c =
+    let p = err_from_is_err_and c.from_residual.result c.from_residual.ensures.1 in
+    rw (p.1, p.2) (expr-fails max_nesting (g.S.Source.text c.args.source.now) c.as_str.result.now c.in_err-expression.field-0.0 c.as_str.ensures c.in_err-expression.ensures)
+
+pub returns-then-left-eq0 : goal.returns-then-left-eq0
+returns-then-left-eq0 g c =
+    expr-ends max_nesting (g.S.Source.text c.args.source.now) c.as_str.result.now (tall_view (g.S.Source.shown c.args.source.now) c.in_ok-expression.expression) c.in_ok-expression.rest.now c.skip_white-left.result.now
+    c.as_str.ensures c.in_ok-expression.ensures c.skip_white-left.ensures (omega arith)
+
+pub returns-else-left-eq0 : goal.returns-else-left-eq0
+returns-else-left-eq0 g c =
+    expr-left max_nesting (g.S.Source.text c.args.source.now) c.as_str.result.now (tall_view (g.S.Source.shown c.args.source.now) c.in_ok-expression.expression) c.in_ok-expression.rest.now c.skip_white-left.result.now
+    c.as_str.ensures c.in_ok-expression.ensures c.skip_white-left.ensures (omega arith)

@@ -1,0 +1,26 @@
+ghost use Rattle.std.specs.Prelude.{◌≡◌, ◌≢◌, ◌↔◌, ℕ, Ok, Err};
+ghost use Rattle.tclchars.specs.Runs.{Text};
+ghost use Rattle.tclchars.specs.declared.fault.TextFault.{TextFault};
+ghost use Rattle.tclchars.specs.declared.fault.TextFault.TheVariants.{OutOfMemory};
+ghost use Rattle.tclexpr.specs.Tree.{Expr};
+ghost use Rattle.tclexpr.specs.Operands.{Operand};
+ghost use Rattle.tclexpr.specs.Text.{IsExpression, IsWithin, IsTextFault, expr_of};
+
+/// A text is an expression with one tree at most, however deep it nests.
+pub fn one_expression()
+    ensures { (bs : Text) (h k : ℕ) (e f : Expr Operand) → IsExpression h bs e → IsExpression k bs f → e ≡ f }
+{}
+
+/// A text has one fault at most, and then no tree within the limits.
+pub fn one_fault()
+    ensures one { (bs : Text) (f g : TextFault) → f ≢ OutOfMemory → g ≢ OutOfMemory → IsTextFault bs f → IsTextFault bs g → f ≡ g }
+    ensures no_tree { (bs : Text) (f : TextFault) (e : Expr Operand) → f ≢ OutOfMemory → IsTextFault bs f → IsWithin bs e → ⊥ }
+{}
+
+/// `expr_of` gives a tree exactly where the grammar has it within the limits, and a fault exactly where that is the text's; want of
+/// memory never.
+pub fn expr_of_grammar()
+    ensures tree { (bs : Text) (e : Expr Operand) → (expr_of bs ≡ Ok e) ↔ IsWithin bs e }
+    ensures fault { (bs : Text) (f : TextFault) → f ≢ OutOfMemory → (expr_of bs ≡ Err f) ↔ IsTextFault bs f }
+    ensures no_memory { (bs : Text) → expr_of bs ≢ Err OutOfMemory }
+{}

@@ -1,0 +1,19 @@
+//! Expressions of Tcl (expr(n)): operators, trees and what is wrong with a text that has none.
+#![tactic(auto)]
+
+mod laws;
+mod marks;
+mod nesting;
+mod numbers;
+mod operand;
+mod operators;
+mod reading;
+#[cfg(test)]
+mod tests;
+mod text;
+mod tree;
+
+pub use laws::{expr_of_grammar, one_expression, one_fault};
+pub use operators::{BinaryOperator, Infix, Mark, UnaryOperator};
+pub use text::{parse_expr, parse_expr_pieces};
+pub use tree::{Expr, Operand};

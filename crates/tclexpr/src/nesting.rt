@@ -1,0 +1,61 @@
+ghost use Rattle.std.specs.Prelude.{◌≡◌, ◌≤◌, max};
+ghost use Rattle.tclchars.specs.Runs.{Text};
+ghost use Rattle.tclscript.specs.Tree.{nesting, words_nesting, word_nesting, parts_nesting, part_nesting};
+ghost use Rattle.tclscript.specs.View.{script_view, word_view, part_view, parts_view};
+ghost use Rattle.tclexpr.specs.View.{words_view};
+
+use tclscript::{Command, Part, Script, Word};
+
+fn larger(a: usize, b: usize) -> usize
+    ensures { result ≡ max a b }
+{
+    if a < b { b } else { a }
+}
+
+/// How deep brackets and the parentheses of indexes nest in a script. A number that is no `usize` is cut.
+#[cycle(nesting)]
+pub(crate) fn script_nesting<P: Drop>(script: &Script<P>) -> usize
+    ensures { (shown : P → Text) → nesting (script_view shown script.now) ≤ usize.MAX → result ≡ nesting (script_view shown script.now) }
+{
+    let mut height = 0;
+    for command in &script.commands {
+        height = larger(height, words_nesting(&command.words));
+    }
+    height
+}
+
+// The same in words.
+#[cycle(nesting)]
+fn words_nesting<P: Drop>(words: &Vec<Word<P>>) -> usize
+    ensures { (shown : P → Text) → words_nesting (words_view shown words.now.items) ≤ usize.MAX → result ≡ words_nesting (words_view shown words.now.items) }
+{
+    let mut height = 0;
+    for word in words {
+        height = larger(height, parts_nesting(&word.parts));
+    }
+    height
+}
+
+/// The same in parts.
+#[cycle(nesting)]
+pub(crate) fn parts_nesting<P: Drop>(parts: &Vec<Part<P>>) -> usize
+    ensures { (shown : P → Text) → parts_nesting (parts_view shown parts.now.items) ≤ usize.MAX → result ≡ parts_nesting (parts_view shown parts.now.items) }
+{
+    let mut height = 0;
+    for part in parts {
+        height = larger(height, part_nesting(part));
+    }
+    height
+}
+
+// The same in a part.
+#[cycle(nesting)]
+fn part_nesting<P: Drop>(part: &Part<P>) -> usize
+    ensures { (shown : P → Text) → part_nesting (part_view shown part.now) ≤ usize.MAX → result ≡ part_nesting (part_view shown part.now) }
+{
+    match part {
+        Part::Indexed(_, parts) => parts_nesting(parts).saturating_add(1),
+        Part::Bracket(script) => script_nesting(script).saturating_add(1),
+        _ => 0,
+    }
+}

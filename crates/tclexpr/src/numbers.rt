@@ -1,0 +1,138 @@
+ghost use Rattle.std.specs.Prelude.{◌≡◌, ◌<◌, ◌∷◌, option_map, IfSome};
+ghost use Rattle.tclexpr.specs.Operands.{is_digit, begins_digit, after_digits, announced, after_based, is_sign, after_sign, after_exponent, after_fraction, begins_point, after_decimal, after_number};
+
+use crate::marks::after_first;
+
+/// The digits of a base.
+#[derive(Clone, Copy, Debug, PartialEq, Eq)]
+pub(crate) enum Digits {
+    Binary,
+    Octal,
+    Decimal,
+    Hexadecimal,
+}
+
+fn is_digit(digits: Digits, b: u8) -> bool
+    ensures { result ≡ is_digit digits b }
+{
+    match digits {
+        Digits::Binary => matches!(b, b'0'..=b'1'),
+        Digits::Octal => matches!(b, b'0'..=b'7'),
+        Digits::Decimal => matches!(b, b'0'..=b'9'),
+        Digits::Hexadecimal => matches!(b, b'0'..=b'9')
+            || matches!(b, b'A'..=b'F')
+            || matches!(b, b'a'..=b'f'),
+    }
+}
+
+fn begins_digit(text: &str, digits: Digits) -> bool
+    ensures { result ≡ begins_digit digits text.now }
+{
+    match text.as_bytes() {
+        [] => false,
+        [b, ..] => is_digit(digits, *b),
+    }
+}
+
+fn after_digits(text: &str, digits: Digits) -> &str
+    ensures { result.now ≡ after_digits digits text.now }
+{
+    let mut rest = text;
+    while begins_digit(rest, digits) {
+        rest = after_first(rest);
+    }
+    rest
+}
+
+// The digits that a letter behind a leading 0 announces.
+fn announced(b: u8) -> Option<Digits>
+    ensures { result ≡ announced b }
+{
+    match b {
+        b'x' | b'X' => Some(Digits::Hexadecimal),
+        b'o' | b'O' => Some(Digits::Octal),
+        b'b' | b'B' => Some(Digits::Binary),
+        _ => None,
+    }
+}
+
+// What follows a number of another base than ten.
+fn after_based(text: &str) -> Option<&str>
+    ensures { option_map (λ rest. rest.now) result ≡ after_based text.now }
+{
+    let [b'0', c, ..] = text.as_bytes() else {
+        return None;
+    };
+    let digits = announced(*c)?;
+    let behind = after_first(after_first(text));
+    if begins_digit(behind, digits) {
+        Some(after_digits(behind, digits))
+    } else {
+        None
+    }
+}
+
+fn after_sign(text: &str) -> &str
+    ensures { result.now ≡ after_sign text.now }
+{
+    match text.as_bytes() {
+        [b'+' | b'-', ..] => after_first(text),
+        _ => text,
+    }
+}
+
+// What follows an exponent, if there is one.
+fn after_exponent(text: &str) -> &str
+    ensures { result.now ≡ after_exponent text.now }
+{
+    let [b'e' | b'E', ..] = text.as_bytes() else {
+        return text;
+    };
+    let digits = after_sign(after_first(text));
+    if begins_digit(digits, Digits::Decimal) {
+        after_digits(digits, Digits::Decimal)
+    } else {
+        text
+    }
+}
+
+// What follows a point and its digits, if there is a point.
+fn after_fraction(text: &str) -> &str
+    ensures { result.now ≡ after_fraction text.now }
+{
+    match text.as_bytes() {
+        [b'.', ..] => after_digits(after_first(text), Digits::Decimal),
+        _ => text,
+    }
+}
+
+// What follows a decimal number.
+fn after_decimal(text: &str) -> Option<&str>
+    ensures { option_map (λ rest. rest.now) result ≡ after_decimal text.now }
+{
+    if begins_digit(text, Digits::Decimal) || begins_point(text) {
+        Some(after_exponent(after_fraction(after_digits(text, Digits::Decimal))))
+    } else {
+        None
+    }
+}
+
+// Whether a point and a digit stand in front.
+fn begins_point(text: &str) -> bool
+    ensures { result ≡ begins_point text.now }
+{
+    match text.as_bytes() {
+        [b'.', b, ..] => is_digit(Digits::Decimal, *b),
+        _ => false,
+    }
+}
+
+/// What follows the longest number at the front.
+pub(crate) fn after_number(text: &str) -> Option<&str>
+    ensures { option_map (λ rest. rest.now) result ≡ after_number text.now }
+{
+    match after_based(text) {
+        Some(rest) => Some(rest),
+        None => after_decimal(text),
+    }
+}

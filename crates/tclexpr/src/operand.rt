@@ -1,0 +1,219 @@
+ghost use Rattle.std.specs.Prelude.{◌≡◌, ◌≤◌, ◌<◌, ◌∷◌, length, suc};
+ghost use Rattle.tclchars.specs.Runs.{Text};
+ghost use Rattle.tclchars.specs.Reading.{Gives};
+ghost use Rattle.tclscript.specs.Pieces.{IsEndOf};
+ghost use Rattle.tclscript.specs.Tree.{part_nesting};
+ghost use Rattle.tclscript.specs.Reading.{taken};
+ghost use Rattle.tclscript.specs.View.{part_view};
+ghost use Rattle.tclexpr.specs.Operands.{after_number, lower, is_front, begins_truth, begins_switch, is_truth, operand_of, variable_at, script_at, quoted_at, braced_text_at, word_at, numeric, operand_at};
+ghost use Rattle.tclexpr.specs.View.{operand_view};
+
+use crate::nesting::{parts_nesting, script_nesting};
+use crate::numbers::after_number;
+use crate::tree::Operand;
+use std::alloc::Global;
+use tclchars::{Class, Fault, ReadError, after_mark, split_close, split_front};
+use tclscript::{Part, Source, read_bracket, read_dollar, read_quotes};
+
+fn lower(b: u8) -> u8
+    ensures { result ≡ lower b }
+{
+    if matches!(b, b'A'..=b'Z') { b + 32 } else { b }
+}
+
+// Whether the word, in small letters, is a front of the other.
+fn is_front(word: &[u8], whole: &[u8]) -> bool
+    ensures { result ≡ is_front word.now whole.now }
+{
+    match word {
+        [] => true,
+        [a, word @ ..] => match whole {
+            [] => false,
+            [b, whole @ ..] => lower(*a) == *b && is_front(word, whole),
+        },
+    }
+}
+
+fn begins_truth(word: &[u8]) -> bool
+    ensures { result ≡ begins_truth word.now }
+{
+    is_front(word, b"true")
+        || is_front(word, b"false")
+        || is_front(word, b"yes")
+        || is_front(word, b"no")
+}
+
+fn begins_switch(word: &[u8]) -> bool
+    ensures { result ≡ begins_switch word.now }
+{
+    is_front(word, b"on") || is_front(word, b"off")
+}
+
+// Whether a word is a front of true, false, yes or no, or on, of or off, in any case.
+#[tactic(auto, unfolding(crate::specs::Operands::is_truth))]
+fn is_truth(word: &[u8]) -> bool
+    ensures { result ≡ is_truth word.now }
+{
+    (word.len() >= 1 && begins_truth(word)) || (word.len() >= 2 && begins_switch(word))
+}
+
+// How many bytes there are from a mark on, with what stands behind it.
+fn left_with_mark(behind: &str) -> usize
+    ensures { result ≡ suc (length behind.now) }
+{
+    behind.len() + 1
+}
+
+// What was read of the text before that rest.
+fn taken<'a, S: Source<P>, P: Drop>(source: &S, text: &'a str, rest: &'a str) -> P
+    requires text { IsEndOf (S.text source.now) text.now }
+    requires rest { IsEndOf text.now rest.now }
+    ensures { S.shown source.now result ≡ taken text.now rest.now }
+{
+    source.cut(text, text.split_at(text.len() - rest.len()).0)
+}
+
+fn one_more(height: usize) -> usize
+    ensures { height < usize.MAX → result ≡ suc height }
+{
+    height.saturating_add(1)
+}
+
+// A substitution as an operand, with how deep it nests; a dollar that is itself is none.
+fn operand_of<P: Drop>(part: Part<P>, left: usize) -> Result<(Operand<P>, usize), ReadError>
+    ensures { (shown : P → Text) → part_nesting (part_view shown part) ≤ usize.MAX
+        → Gives (λ x. (operand_view shown x.0, x.1)) result (operand_of left (part_view shown part)) }
+{
+    match part {
+        Part::Variable(name) => Ok((Operand::Variable(name), 0)),
+        Part::Indexed(name, parts) => {
+            let height = one_more(parts_nesting(&parts));
+            Ok((Operand::Indexed(name, parts), height))
+        }
+        Part::Bracket(script) => {
+            let height = one_more(script_nesting(&script));
+            Ok((Operand::Bracket(script), height))
+        }
+        _ => Err(ReadError::Fault(Fault::BadExpression(left))),
+    }
+}
+
+// A variable, behind its dollar, which stands in front of the text.
+fn read_variable<'a, S: Source<P>, P: Drop>(
+    alloc: Global,
+    source: &S,
+    text: &'a str,
+    behind: &'a str,
+    depth: usize,
+) -> Result<(Operand<P>, usize, &'a str), ReadError>
+    requires text { IsEndOf (S.text source.now) text.now }
+    requires dollar { text.now ≡ 36 ∷ behind.now }
+    ensures { Gives (λ x. ((operand_view (S.shown source.now) x.0, x.1), x.2.now)) result (variable_at depth (length text.now) behind.now) }
+{
+    let (part, rest) = read_dollar(alloc, source, text, behind, depth)?;
+    let (operand, height) = operand_of(part, text.len())?;
+    Ok((operand, height, rest))
+}
+
+// A script in brackets, behind the first, which stands in front of the text.
+fn read_script<'a, S: Source<P>, P: Drop>(
+    alloc: Global,
+    source: &S,
+    text: &'a str,
+    behind: &'a str,
+    depth: usize,
+) -> Result<(Operand<P>, usize, &'a str), ReadError>
+    requires text { IsEndOf (S.text source.now) text.now }
+    requires bracket { text.now ≡ 91 ∷ behind.now }
+    ensures { Gives (λ x. ((operand_view (S.shown source.now) x.0, x.1), x.2.now)) result (script_at depth (length text.now) behind.now) }
+{
+    let (part, rest) = read_bracket(alloc, source, behind, depth)?;
+    let (operand, height) = operand_of(part, text.len())?;
+    Ok((operand, height, rest))
+}
+
+// A quoted text, behind its first quote.
+fn read_quoted<'a, S: Source<P>, P: Drop>(
+    alloc: Global,
+    source: &S,
+    text: &'a str,
+    depth: usize,
+) -> Result<(Operand<P>, usize, &'a str), ReadError>
+    requires { IsEndOf (S.text source.now) text.now }
+    ensures { Gives (λ x. ((operand_view (S.shown source.now) x.0, x.1), x.2.now)) result (quoted_at depth text.now) }
+{
+    let (parts, rest) = read_quotes(alloc, source, text, depth)?;
+    let height = parts_nesting(&parts);
+    Ok((Operand::Quoted(parts), height, rest))
+}
+
+// A text in braces, behind the first.
+fn read_braced<'a, S: Source<P>, P: Drop>(
+    source: &S,
+    text: &'a str,
+) -> Result<(Operand<P>, usize, &'a str), ReadError>
+    requires { IsEndOf (S.text source.now) text.now }
+    ensures { Gives (λ x. ((operand_view (S.shown source.now) x.0, x.1), x.2.now)) result (braced_text_at text.now) }
+{
+    match split_close(text) {
+        Some((inner, rest)) => Ok((Operand::Braced(source.cut(text, inner)), 0, rest)),
+        None => Err(ReadError::Fault(Fault::OpenBrace(left_with_mark(text)))),
+    }
+}
+
+// A truth word that no parenthesis follows directly.
+fn read_word<'a, S: Source<P>, P: Drop>(
+    source: &S,
+    text: &'a str,
+) -> Result<(Operand<P>, usize, &'a str), ReadError>
+    requires { IsEndOf (S.text source.now) text.now }
+    ensures { Gives (λ x. ((operand_view (S.shown source.now) x.0, x.1), x.2.now)) result (word_at text.now) }
+{
+    let (word, rest) = split_front(text, Class::Name);
+    if !is_truth(word.as_bytes()) {
+        return Err(ReadError::Fault(Fault::BadExpression(text.len())));
+    }
+    match after_mark(rest, b'(') {
+        None => Ok((Operand::Word(source.cut(text, word)), 0, rest)),
+        Some(_) => Err(ReadError::Fault(Fault::BadExpression(text.len()))),
+    }
+}
+
+// A number or a word.
+fn read_numeric<'a, S: Source<P>, P: Drop>(
+    source: &S,
+    text: &'a str,
+) -> Result<(Operand<P>, usize, &'a str), ReadError>
+    requires { IsEndOf (S.text source.now) text.now }
+    ensures { Gives (λ x. ((operand_view (S.shown source.now) x.0, x.1), x.2.now)) result (numeric text.now (after_number text.now)) }
+{
+    match after_number(text) {
+        Some(rest) => Ok((Operand::Number(taken(source, text, rest)), 0, rest)),
+        None => read_word(source, text),
+    }
+}
+
+/// The operand at the front, with how deep brackets and parentheses nest in it, and what follows it.
+pub(crate) fn read_operand<'a, S: Source<P>, P: Drop>(
+    alloc: Global,
+    source: &S,
+    text: &'a str,
+    depth: usize,
+) -> Result<(Operand<P>, usize, &'a str), ReadError>
+    requires { IsEndOf (S.text source.now) text.now }
+    ensures { Gives (λ x. ((operand_view (S.shown source.now) x.0, x.1), x.2.now)) result (operand_at depth text.now) }
+{
+    if let Some(behind) = after_mark(text, b'$') {
+        return read_variable(alloc, source, text, behind, depth);
+    }
+    if let Some(behind) = after_mark(text, b'[') {
+        return read_script(alloc, source, text, behind, depth);
+    }
+    if let Some(behind) = after_mark(text, b'"') {
+        return read_quoted(alloc, source, behind, depth);
+    }
+    match after_mark(text, b'{') {
+        Some(behind) => read_braced(source, behind),
+        None => read_numeric(source, text),
+    }
+}

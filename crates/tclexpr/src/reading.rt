@@ -1,0 +1,315 @@
+ghost use Rattle.std.specs.Prelude.{◌≡◌, ◌≤◌, ◌<◌, suc, nat_lt, if◌then◌else◌, ◌-◌, Some, Err, IfOk, MatchOption};
+ghost use Rattle.tclchars.specs.Runs.{Text};
+ghost use Rattle.tclchars.specs.Reading.{Gives, read_map};
+ghost use Rattle.tclchars.specs.declared.fault.Fault.TheVariants.{TooDeep};
+ghost use Rattle.tclscript.specs.Pieces.{IsEndOf};
+ghost use Rattle.tclexpr.specs.declared.operators.Mark.TheVariants as marks;
+ghost use Rattle.tclexpr.specs.Grammar.{level};
+ghost use Rattle.tclexpr.specs.Marks.{mark_at, after_white};
+ghost use Rattle.tclexpr.specs.Faults.{Follows};
+ghost use Rattle.tclexpr.specs.Operands.{operand_at};
+ghost use Rattle.tclexpr.specs.Reading.{whole, chain, is_close, is_colon, is_open, is_question, expect, join, prefix_at, leaf_of, unary_of, choice_of, enclosed_at, branches_at, chain_at, whole_at, below_at, expr_at};
+ghost use Rattle.tclexpr.specs.View.{tall_view, expr_view};
+
+use crate::marks::{level, read_mark, sign_of, skip_white};
+use crate::operand::read_operand;
+use crate::operators::{Infix, Mark, UnaryOperator};
+use crate::tree::{Expr, Tall};
+use std::alloc::{AllocError, Global};
+use tclchars::{Fault, ReadError};
+use tclscript::Source;
+
+// The level of the operators that bind the least, but for the choice.
+const LOOSEST: usize = 13;
+
+// What follows the parenthesis that closes, which must come next.
+fn after_close(text: &str) -> Result<&str, ReadError>
+    ensures { Gives (λ rest. rest.now) result (expect is_close text.now) }
+{
+    let start = skip_white(text);
+    match read_mark(start) {
+        Some((Mark::Close, rest)) => Ok(rest),
+        _ => Err(ReadError::Fault(Fault::BadExpression(start.len()))),
+    }
+}
+
+// What follows the colon, which must come next.
+fn after_colon(text: &str) -> Result<&str, ReadError>
+    ensures { Gives (λ rest. rest.now) result (expect is_colon text.now) }
+{
+    let start = skip_white(text);
+    match read_mark(start) {
+        Some((Mark::Colon, rest)) => Ok(rest),
+        _ => Err(ReadError::Fault(Fault::BadExpression(start.len()))),
+    }
+}
+
+fn is_open(mark: Mark) -> bool
+    ensures { result ≡ is_open mark }
+{
+    matches!(mark, Mark::Open)
+}
+
+fn is_question(mark: Mark) -> bool
+    ensures { result ≡ is_question mark }
+{
+    matches!(mark, Mark::Question)
+}
+
+// The operator that comes next between two operands, where it is of that level at most.
+fn read_infix(text: &str, limit: usize) -> Option<(Infix, &str)>
+    ensures { MatchOption result (Follows (suc limit) text.now)
+        (λ p. (mark_at (after_white text.now) ≡ Some (marks.Infix p.0, p.1.now)) × (level p.0 ≤ limit)) }
+{
+    match read_mark(skip_white(text)) {
+        Some((Mark::Infix(between), rest)) if level(between) <= limit => Some((between, rest)),
+        _ => None,
+    }
+}
+
+// The highest level of operators in a right operand: operators of one level group to the left.
+fn right_level(between: Infix) -> usize
+    ensures { result ≡ level between - 1 }
+{
+    level(between) - 1
+}
+
+// An operator and its operand.
+fn unary<P: Drop>(
+    alloc: Global,
+    operator: UnaryOperator,
+    operand: Tall<P>,
+) -> Result<Tall<P>, AllocError>
+    requires { operand.height < usize.MAX }
+    ensures { (shown : P → Text) → IfOk result (λ t. tall_view shown t ≡ unary_of operator (tall_view shown operand)) }
+{
+    let height = operand.height + 1;
+    Ok(Tall {
+        tree: Expr::Unary(operator, Box::new(alloc, operand.tree)?),
+        height,
+    })
+}
+
+// Two expressions, joined.
+fn join<P: Drop>(
+    alloc: Global,
+    between: Infix,
+    left: Tall<P>,
+    right: Tall<P>,
+) -> Result<Tall<P>, AllocError>
+    requires left { left.height < usize.MAX }
+    requires right { right.height < usize.MAX }
+    ensures { (shown : P → Text) → IfOk result (λ t. tall_view shown t ≡ join between (tall_view shown left) (tall_view shown right)) }
+{
+    let height = left.height.max(right.height) + 1;
+    let left = Box::new(alloc, left.tree)?;
+    let right = Box::new(alloc, right.tree)?;
+    let tree = match between {
+        Infix::Operator(operator) => Expr::Binary(operator, left, right),
+        Infix::And => Expr::And(left, right),
+        Infix::Or => Expr::Or(left, right),
+    };
+    Ok(Tall { tree, height })
+}
+
+// A condition and the two expressions that it chooses from.
+fn choice<P: Drop>(
+    alloc: Global,
+    condition: Tall<P>,
+    yes: Tall<P>,
+    no: Tall<P>,
+) -> Result<Tall<P>, AllocError>
+    requires condition { condition.height < usize.MAX }
+    requires positive { yes.height < usize.MAX }
+    requires negative { no.height < usize.MAX }
+    ensures { (shown : P → Text) → IfOk result (λ t. tall_view shown t ≡ choice_of (tall_view shown condition) (tall_view shown yes) (tall_view shown no)) }
+{
+    let height = condition.height.max(yes.height.max(no.height)) + 1;
+    let condition = Box::new(alloc, condition.tree)?;
+    let yes = Box::new(alloc, yes.tree)?;
+    let no = Box::new(alloc, no.tree)?;
+    Ok(Tall {
+        tree: Expr::Choice(condition, yes, no),
+        height,
+    })
+}
+
+// An expression in parentheses, as high as those make it.
+fn enclosed<P: Drop>(inner: Tall<P>) -> Tall<P>
+    requires { inner.height < usize.MAX }
+    ensures { (shown : P → Text) → tall_view shown result ≡ (expr_view shown inner.tree, suc inner.height) }
+{
+    Tall {
+        tree: inner.tree,
+        height: inner.height + 1,
+    }
+}
+
+/// An expression at the front, where so many operators, parentheses and brackets may nest, and what follows it.
+#[cycle(read)]
+pub(crate) fn read_whole<'a, S: Source<P>, P: Drop>(
+    alloc: Global,
+    source: &S,
+    text: &'a str,
+    depth: usize,
+) -> Result<(Tall<P>, &'a str), ReadError>
+    requires { IsEndOf (S.text source.now) text.now }
+    ensures { Gives (λ x. (tall_view (S.shown source.now) x.0, x.1.now)) result (whole_at operand_at depth (below_at operand_at depth) text.now) }
+{
+    let (condition, rest) = read_chain(alloc, source, text, depth, LOOSEST)?;
+    let Some((mark, behind)) = read_mark(skip_white(rest)) else {
+        return Ok((condition, rest));
+    };
+    if is_question(mark) {
+        read_branches(alloc, source, condition, behind, depth)
+    } else {
+        Ok((condition, rest))
+    }
+}
+
+// The two branches of a choice, behind its question mark.
+#[cycle(read)]
+fn read_branches<'a, S: Source<P>, P: Drop>(
+    alloc: Global,
+    source: &S,
+    condition: Tall<P>,
+    text: &'a str,
+    depth: usize,
+) -> Result<(Tall<P>, &'a str), ReadError>
+    requires { IsEndOf (S.text source.now) text.now }
+    ensures { Gives (λ x. (tall_view (S.shown source.now) x.0, x.1.now)) result
+        (if nat_lt condition.height depth then branches_at operand_at (below_at operand_at depth) (tall_view (S.shown source.now) condition) text.now else Err TooDeep) }
+{
+    if condition.height >= depth {
+        return Err(ReadError::Fault(Fault::TooDeep));
+    }
+    let (yes, rest) = read_whole(alloc, source, text, depth - 1)?;
+    let behind = after_colon(rest)?;
+    let (no, end) = read_whole(alloc, source, behind, depth - 1)?;
+    Ok((choice(alloc, condition, yes, no)?, end))
+}
+
+// Operands, with operators of that level at most between them.
+#[cycle(read)]
+fn read_chain<'a, S: Source<P>, P: Drop>(
+    alloc: Global,
+    source: &S,
+    text: &'a str,
+    depth: usize,
+    limit: usize,
+) -> Result<(Tall<P>, &'a str), ReadError>
+    requires { IsEndOf (S.text source.now) text.now }
+    ensures { Gives (λ x. (tall_view (S.shown source.now) x.0, x.1.now)) result (chain_at operand_at depth (below_at operand_at depth) limit text.now) }
+{
+    let (mut left, mut rest) = read_prefix(alloc, source, text, depth)?;
+    loop {
+        let Some((between, behind)) = read_infix(rest, limit) else {
+            return Ok((left, rest));
+        };
+        let (right, end) = read_right(alloc, source, behind, depth, left.height, between)?;
+        left = join(alloc, between, left, right)?;
+        rest = end;
+    }
+}
+
+// The right operand of an operator, whose left one nests so deep.
+#[cycle(read)]
+fn read_right<'a, S: Source<P>, P: Drop>(
+    alloc: Global,
+    source: &S,
+    text: &'a str,
+    depth: usize,
+    height: usize,
+    between: Infix,
+) -> Result<(Tall<P>, &'a str), ReadError>
+    requires { IsEndOf (S.text source.now) text.now }
+    ensures { Gives (λ x. (tall_view (S.shown source.now) x.0, x.1.now)) result
+        (if nat_lt height depth then below_at operand_at depth (chain (level between - 1)) text.now else Err TooDeep) }
+{
+    if height >= depth {
+        return Err(ReadError::Fault(Fault::TooDeep));
+    }
+    read_chain(alloc, source, text, depth - 1, right_level(between))
+}
+
+// An operand, with the operators before it, or an expression in parentheses.
+#[cycle(read)]
+fn read_prefix<'a, S: Source<P>, P: Drop>(
+    alloc: Global,
+    source: &S,
+    text: &'a str,
+    depth: usize,
+) -> Result<(Tall<P>, &'a str), ReadError>
+    requires { IsEndOf (S.text source.now) text.now }
+    ensures { Gives (λ x. (tall_view (S.shown source.now) x.0, x.1.now)) result (prefix_at operand_at depth (below_at operand_at depth) text.now) }
+{
+    let start = skip_white(text);
+    let Some((mark, behind)) = read_mark(start) else {
+        return read_leaf(alloc, source, start, depth);
+    };
+    if is_open(mark) {
+        return read_enclosed(alloc, source, behind, depth);
+    }
+    match sign_of(mark) {
+        Some(operator) => read_signed(alloc, source, operator, behind, depth),
+        None => Err(ReadError::Fault(Fault::BadExpression(start.len()))),
+    }
+}
+
+// An operand as an expression.
+fn read_leaf<'a, S: Source<P>, P: Drop>(
+    alloc: Global,
+    source: &S,
+    text: &'a str,
+    depth: usize,
+) -> Result<(Tall<P>, &'a str), ReadError>
+    requires { IsEndOf (S.text source.now) text.now }
+    ensures { Gives (λ x. (tall_view (S.shown source.now) x.0, x.1.now)) result (read_map leaf_of (operand_at depth text.now)) }
+{
+    let (operand, height, rest) = read_operand(alloc, source, text, depth)?;
+    Ok((
+        Tall {
+            tree: Expr::Operand(operand),
+            height,
+        },
+        rest,
+    ))
+}
+
+// An expression behind its opening parenthesis.
+#[cycle(read)]
+fn read_enclosed<'a, S: Source<P>, P: Drop>(
+    alloc: Global,
+    source: &S,
+    text: &'a str,
+    depth: usize,
+) -> Result<(Tall<P>, &'a str), ReadError>
+    requires { IsEndOf (S.text source.now) text.now }
+    ensures { Gives (λ x. (tall_view (S.shown source.now) x.0, x.1.now)) result (enclosed_at operand_at (below_at operand_at depth) text.now) }
+{
+    if depth == 0 {
+        return Err(ReadError::Fault(Fault::TooDeep));
+    }
+    let (inner, rest) = read_whole(alloc, source, text, depth - 1)?;
+    let behind = after_close(rest)?;
+    Ok((enclosed(inner), behind))
+}
+
+// The operand of an operator before it.
+#[cycle(read)]
+fn read_signed<'a, S: Source<P>, P: Drop>(
+    alloc: Global,
+    source: &S,
+    operator: UnaryOperator,
+    text: &'a str,
+    depth: usize,
+) -> Result<(Tall<P>, &'a str), ReadError>
+    requires { IsEndOf (S.text source.now) text.now }
+    ensures { Gives (λ x. (tall_view (S.shown source.now) x.0, x.1.now)) result (read_map (unary_of operator) (below_at operand_at depth (chain 1) text.now)) }
+{
+    if depth == 0 {
+        return Err(ReadError::Fault(Fault::TooDeep));
+    }
+    let (operand, rest) = read_chain(alloc, source, text, depth - 1, 1)?;
+    Ok((unary(alloc, operator, operand)?, rest))
+}

@@ -1,0 +1,80 @@
+ghost use Rattle.std.specs.Prelude.{◌≡◌, IfOk, IfErr, MatchResult};
+ghost use Rattle.tclchars.specs.Reading.{Gives};
+ghost use Rattle.tclchars.specs.Faults.{max_nesting};
+ghost use Rattle.tclchars.specs.declared.fault.TextFault.TheVariants.{OutOfMemory};
+ghost use Rattle.tclscript.specs.Text.{Reads};
+ghost use Rattle.tclexpr.specs.Tree as tree;
+ghost use Rattle.tclexpr.specs.Operands as operands;
+ghost use Rattle.tclexpr.specs.Operands.{operand_at};
+ghost use Rattle.tclexpr.specs.Reading.{expr_at};
+ghost use Rattle.tclexpr.specs.Text.{IsWithin, IsTextFault, expr_of};
+ghost use Rattle.tclexpr.specs.View.{expr_view};
+
+use crate::marks::skip_white;
+use crate::reading::read_whole;
+use crate::tree::Expr;
+use std::alloc::Global;
+use tclchars::{Fault, ReadError, TextFault, place};
+use tclscript::{MAX_BYTES, MAX_NESTING, Source};
+
+/// The tree of an expression (expr(n)), whose pieces are slices of the text. Takes time and memory in proportion to the text's
+/// length, and copies no text.
+///
+/// A text that is no expression is refused with the first fault in it and its place; a text of more than 1,048,576 bytes is
+/// `TooLong`, and `OutOfMemory` says nothing of the text.
+pub fn parse_expr(alloc: Global, text: &str) -> Result<Expr<&str>, TextFault>
+    // A tree that is returned is the text's, within the limits.
+    ensures found { IfOk result (λ e. IsWithin text.now (expr_view (λ piece. piece.now) e)) }
+
+    // A text that has a tree within the limits is read, unless memory runs out.
+    ensures only { (e : tree.Expr operands.Operand) → IsWithin text.now e → MatchResult result (λ t. expr_view (λ piece. piece.now) t ≡ e) (λ f. f ≡ OutOfMemory) }
+
+    // A fault is the text's first, at its place.
+    ensures fault { IfErr result (IsTextFault text.now) }
+
+    // The tree or the fault is the one that the definition computes, unless memory runs out.
+    ensures read { Reads (expr_view (λ piece. piece.now)) result (expr_of text.now) }
+{
+    read_limited(alloc, &text)
+}
+
+/// The tree of an expression, as `parse_expr` gives it, with pieces of any kind.
+pub fn parse_expr_pieces<S: Source<P>, P: Drop>(
+    alloc: Global,
+    source: &S,
+) -> Result<Expr<P>, TextFault>
+    ensures found { IfOk result (λ e. IsWithin (S.text source.now) (expr_view (S.shown source.now) e)) }
+    ensures only { (e : tree.Expr operands.Operand) → IsWithin (S.text source.now) e → MatchResult result (λ t. expr_view (S.shown source.now) t ≡ e) (λ f. f ≡ OutOfMemory) }
+    ensures fault { IfErr result (IsTextFault (S.text source.now)) }
+    ensures read { Reads (expr_view (S.shown source.now)) result (expr_of (S.text source.now)) }
+{
+    read_limited(alloc, source)
+}
+
+// The tree of a source within the limits, or its fault.
+fn read_limited<S: Source<P>, P: Drop>(alloc: Global, source: &S) -> Result<Expr<P>, TextFault>
+    ensures { Reads (expr_view (S.shown source.now)) result (expr_of (S.text source.now)) }
+{
+    let len = source.as_str().len();
+    if len > MAX_BYTES {
+        return Err(TextFault::TooLong);
+    }
+    match read_source(alloc, source) {
+        Ok(expression) => Ok(expression),
+        Err(ReadError::Memory) => Err(TextFault::OutOfMemory),
+        Err(ReadError::Fault(fault)) => Err(place(fault, len)),
+    }
+}
+
+// The tree of a source, with nothing but white space behind it.
+fn read_source<S: Source<P>, P: Drop>(alloc: Global, source: &S) -> Result<Expr<P>, ReadError>
+    ensures { Gives (expr_view (S.shown source.now)) result (expr_at operand_at max_nesting (S.text source.now)) }
+{
+    let (expression, rest) = read_whole(alloc, source, source.as_str(), MAX_NESTING)?;
+    let left = skip_white(rest).len();
+    if left == 0 {
+        Ok(expression.tree)
+    } else {
+        Err(ReadError::Fault(Fault::BadExpression(left)))
+    }
+}

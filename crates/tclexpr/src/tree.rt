@@ -1,0 +1,45 @@
+use crate::operators::{BinaryOperator, UnaryOperator};
+use tclscript::{Part, Script};
+
+/// An operand, made of pieces of the expression's text.
+#[derive(Debug, Drop)]
+pub enum Operand<P> {
+    /// A number, as it is spelled.
+    Number(P),
+    /// A truth word, as it is spelled.
+    Word(P),
+    /// The name of a variable.
+    Variable(P),
+    /// The name of an array, and the parts of an index.
+    Indexed(P, Vec<Part<P>>),
+    /// A script that stands for its result.
+    Bracket(Script<P>),
+    /// The parts between quotes.
+    Quoted(Vec<Part<P>>),
+    /// What stands between braces, as it is.
+    Braced(P),
+}
+
+/// An expression. Parentheses leave no node.
+#[derive(Debug, Drop)]
+pub enum Expr<P> {
+    /// An operand.
+    Operand(Operand<P>),
+    /// An operator before its operand.
+    Unary(UnaryOperator, Box<Expr<P>>),
+    /// An operator between its operands, both of which are evaluated.
+    Binary(BinaryOperator, Box<Expr<P>>, Box<Expr<P>>),
+    /// `&&`
+    And(Box<Expr<P>>, Box<Expr<P>>),
+    /// `||`
+    Or(Box<Expr<P>>, Box<Expr<P>>),
+    /// `? :`
+    Choice(Box<Expr<P>>, Box<Expr<P>>, Box<Expr<P>>),
+}
+
+/// An expression, with how deep operators, parentheses and brackets nest in it.
+#[derive(Debug, Drop)]
+pub(crate) struct Tall<P> {
+    pub tree: Expr<P>,
+    pub height: usize,
+}
