@@ -1,5 +1,4 @@
 pub mod Numerals
-pub mod Symbols
 pub use Rattle.tcllist.specs.ListGrammar
 pub use Rattle.tcllist.specs.ListFaults
 pub use Rattle.tcllist.specs.ListReading

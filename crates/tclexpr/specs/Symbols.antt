@@ -1,10 +1,10 @@
 -- How the operators of expressions are spelled (expr(n)).
 use Rattle.std.specs.Prelude.{codes}
 use Rattle.tclchars.specs.Runs.{Text}
-use Rattle.tcltext.specs.declared.operator.UnaryOperator.{UnaryOperator}
-use Rattle.tcltext.specs.declared.operator.UnaryOperator.TheVariants.{Minus, Plus, Complement, Not}
-use Rattle.tcltext.specs.declared.operator.BinaryOperator.{BinaryOperator}
-use Rattle.tcltext.specs.declared.operator.BinaryOperator.TheVariants as binary
+use Rattle.tclexpr.specs.declared.operators.UnaryOperator.{UnaryOperator}
+use Rattle.tclexpr.specs.declared.operators.UnaryOperator.TheVariants.{Minus, Plus, Complement, Not}
+use Rattle.tclexpr.specs.declared.operators.BinaryOperator.{BinaryOperator}
+use Rattle.tclexpr.specs.declared.operators.BinaryOperator.TheVariants as binary
 
 abbrev pub unary_symbol : UnaryOperator → Text
 unary_symbol Minus = codes "-"
