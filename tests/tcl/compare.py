@@ -1,6 +1,6 @@
-"""Compares the calls of tcltext and tclvalue with a real tclsh over generated texts.
+"""Compares the calls of tcltext with a real tclsh over generated texts.
 
-The program `text_calls` and answers.tcl read the same calls from standard input, a line each, and write an answer a line.
+The program `tcltext_cases` and answers.tcl read the same calls from standard input, a line each, and write an answer a line.
 Each known difference stands in DIFFERENCES with the rule of the profile (docs/DEFINITIONS.md) that means it."""
 
 import random

@@ -22,7 +22,7 @@ use place::{Outcome, Place, read_to_star};
 /// may be `]`. At the first item that holds the character the set matches, and the pattern goes on behind the next `]` after it,
 /// or is at its end. So what follows a set hangs on the character, and a star may have several next ones.
 ///
-/// Takes no memory, and answers for every pattern and text. The stars that a match can come to next are kept in a table of 32, which
+/// Takes no memory, and answers for every pattern and text. The stars that a match can come to next are kept in a table of 1,024, which
 /// only sets with a range up to a `]` can fill with more than one; while it suffices, the time is at most about that of the product
 /// of the number of stars and the lengths of pattern and text. A pattern that would overfill it is searched without a table, in a
 /// time that grows as a power of the length with the logarithm of the length as exponent.
