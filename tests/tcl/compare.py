@@ -23,10 +23,10 @@ def made(draw, alphabet, longest):
     return "".join(draw.choice(alphabet) for _ in range(draw.randint(0, longest)))
 
 
-LIST = list("aab {}{}\"\\ \n\t") + ["\\x41", "\\u00e9", "\\101", "\\n", "é", "]", "$", ";", "#", "\\\n "]
+LIST = list("aab {}{}\"\\ \n\t\r\v\f") + ["\\x41", "\\x4", "\\u00e9", "\\101", "\\400", "\\n", "é", "]", "$", ";", "#", "\\\n "]
 PATTERN = list("**??ab[]-\\") + ["[ab]", "[a-c]", "[c-a]", "[b-]", "é", "*a", "b*", "[^"]
 PATTERN_TEXT = list("aabb]-^\\é")
-SCRIPT = list("aab {}\"\\ \n;#") + ["\\x41", "\\u00e9", "\\n", "{a b}", "\"a b\"", "\\\n ", "é"]
+SCRIPT = list("aab {}]\"\\ \n\r\v\f;#") + ["\\x41", "\\x4", "\\400", "\\u00e9", "\\n", "{a b}", "\"a b\"", "\\\n ", "é"]
 
 
 def list_call(draw):
@@ -70,7 +70,7 @@ def agree(call, ours, theirs):
     if not (ours.startswith("fault ") and theirs.startswith("error")):
         return False
     if call.startswith("script "):
-        return theirs[6:].startswith(FAULTS.get(ours.split()[1], "no such message"))
+        return bytes.fromhex(theirs[6:]).decode().startswith(FAULTS.get(ours.split()[1], "no such message"))
     return True
 
 
