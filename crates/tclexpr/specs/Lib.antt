@@ -8,3 +8,4 @@ pub mod Operands
 pub mod OperandGrammar
 pub mod Text
 pub mod View
+pub mod Symbols

@@ -1,3 +1,6 @@
+ghost use Rattle.std.specs.Prelude.{◌≡◌};
+ghost use Rattle.tclexpr.specs.Symbols.{unary_symbol, binary_symbol};
+
 /// An operator before its one operand.
 #[derive(Clone, Copy, Debug, PartialEq, Eq)]
 pub enum UnaryOperator {
@@ -54,6 +57,50 @@ pub enum BinaryOperator {
     BitXor,
     /// `|`
     BitOr,
+}
+
+impl UnaryOperator {
+    /// How the operator is spelled.
+    pub fn symbol(self) -> &'static str
+        ensures { result.now ≡ unary_symbol self }
+    {
+        match self {
+            UnaryOperator::Minus => "-",
+            UnaryOperator::Plus => "+",
+            UnaryOperator::Complement => "~",
+            UnaryOperator::Not => "!",
+        }
+    }
+}
+
+impl BinaryOperator {
+    /// How the operator is spelled.
+    pub fn symbol(self) -> &'static str
+        ensures { result.now ≡ binary_symbol self }
+    {
+        match self {
+            BinaryOperator::Multiply => "*",
+            BinaryOperator::Divide => "/",
+            BinaryOperator::Remainder => "%",
+            BinaryOperator::Add => "+",
+            BinaryOperator::Subtract => "-",
+            BinaryOperator::ShiftLeft => "<<",
+            BinaryOperator::ShiftRight => ">>",
+            BinaryOperator::Less => "<",
+            BinaryOperator::Greater => ">",
+            BinaryOperator::LessEqual => "<=",
+            BinaryOperator::GreaterEqual => ">=",
+            BinaryOperator::Equal => "==",
+            BinaryOperator::NotEqual => "!=",
+            BinaryOperator::TextEqual => "eq",
+            BinaryOperator::TextNotEqual => "ne",
+            BinaryOperator::In => "in",
+            BinaryOperator::NotIn => "ni",
+            BinaryOperator::BitAnd => "&",
+            BinaryOperator::BitXor => "^",
+            BinaryOperator::BitOr => "|",
+        }
+    }
 }
 
 /// What may stand between two operands.
