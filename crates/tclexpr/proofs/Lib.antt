@@ -14,3 +14,4 @@ pub mod OperandSteps
 pub mod OperandFaults
 pub mod Whole
 pub mod Clauses
+pub mod Examples
