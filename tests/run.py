@@ -35,6 +35,10 @@ def main():
     commands = [["rt", "ci"]]
     for name in ("program", "memory", "allocations", "shells"):
         commands.append([sys.executable, "-B", os.path.join(HERE, name + ".py"), program])
+    for name, compare in (("tcltext_cases", "compare.py"), ("tclvalue_cases", "values.py")):
+        subprocess.run(["sh", os.path.join(TOP, "tools", "cases.sh"), name], cwd=TOP, check=False)
+        commands.append([sys.executable, "-B", os.path.join(HERE, "tcl", compare), os.path.join(TOP, "build", "bin", name)])
+    commands.append([sys.executable, "-B", os.path.join(HERE, "tcl", "memory.py"), os.path.join(TOP, "build", "bin")])
     passed, failed = 0, 0 if build.returncode == 0 else 1
     for command in commands:
         more = counted(command)

@@ -27,6 +27,7 @@ case $1 in
         need ksh93u+m ksh93
         need mksh mksh
         need zsh zsh
+        need tcl tclsh
         need gcc cc
         need libc6-dev /usr/include/stdlib.h
         ;;

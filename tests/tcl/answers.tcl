@@ -46,7 +46,7 @@ proc record {args} {
 proc answer_script {text} {
     set ::commands {}
     if {[catch {interp eval words $text} message]} {
-        return "error $message"
+        return "error [shown $message]"
     }
     return "ok [join $::commands {;}]"
 }

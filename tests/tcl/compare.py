@@ -1,6 +1,6 @@
-"""Compares the calls of tcltext and tclvalue with a real tclsh over generated texts.
+"""Compares the calls of tcltext with a real tclsh over generated texts.
 
-The program `text_calls` and answers.tcl read the same calls from standard input, a line each, and write an answer a line.
+The program `tcltext_cases` and answers.tcl read the same calls from standard input, a line each, and write an answer a line.
 Each known difference stands in DIFFERENCES with the rule of the profile (docs/DEFINITIONS.md) that means it."""
 
 import random
@@ -23,10 +23,10 @@ def made(draw, alphabet, longest):
     return "".join(draw.choice(alphabet) for _ in range(draw.randint(0, longest)))
 
 
-LIST = list("aab {}{}\"\\ \n\t") + ["\\x41", "\\u00e9", "\\101", "\\n", "é", "]", "$", ";", "#", "\\\n "]
-PATTERN = list("*?[]-\\abc") + ["[a-c]", "[c-a]", "é", "*a", "[^"]
-PATTERN_TEXT = list("abc]-^\\é")
-SCRIPT = list("aab {}\"\\ \n;#") + ["\\x41", "\\u00e9", "\\n", "{a b}", "\"a b\"", "\\\n ", "é"]
+LIST = list("aab {}{}\"\\ \n\t\r\v\f") + ["\\x41", "\\x4", "\\u00e9", "\\101", "\\400", "\\n", "é", "]", "$", ";", "#", "\\\n "]
+PATTERN = list("**??ab[]-\\") + ["[ab]", "[a-c]", "[c-a]", "[b-]", "é", "*a", "b*", "[^"]
+PATTERN_TEXT = list("aabb]-^\\é")
+SCRIPT = list("aab {}]\"\\ \n\r\v\f;#") + ["\\x41", "\\x4", "\\400", "\\u00e9", "\\n", "{a b}", "\"a b\"", "\\\n ", "é"]
 
 
 def list_call(draw):
@@ -70,7 +70,7 @@ def agree(call, ours, theirs):
     if not (ours.startswith("fault ") and theirs.startswith("error")):
         return False
     if call.startswith("script "):
-        return theirs[6:].startswith(FAULTS.get(ours.split()[1], "no such message"))
+        return bytes.fromhex(theirs[6:]).decode().startswith(FAULTS.get(ours.split()[1], "no such message"))
     return True
 
 

@@ -1,6 +1,7 @@
 use crate::edits::Edit::{Load, Set, Unload};
 use crate::edits::{Module, make, walk};
 use envstate::{Env, conflicts_of, loaded, prereqs_of};
+use std::alloc::{AllocError, Global};
 use std::test::Fail;
 
 /// A module that conflicts with none and needs none.
@@ -54,31 +55,55 @@ fn entries_come_and_go(rt: HostRuntime) -> Result<(), Fail> {
     )
 }
 
-#[test]
-fn words_of_an_entry(rt: HostRuntime) -> Result<(), Fail> {
-    let module = Module {
+/// A module with repeated conflicts, and with two names of which it needs one.
+fn worded() -> Module<'static> {
+    Module {
         name: "n/1",
         path: "/m/n/1",
         conflicts: &["k", "k"],
         group: &["gcc", "icc"],
-    };
+    }
+}
+
+#[test]
+fn words_of_an_entry(rt: HostRuntime) -> Result<(), Fail> {
     let texts =
         "LOADEDMODULES=n/1 _LMFILES_=/m/n/1 __MODULES_LMCONFLICT=n/1&k __MODULES_LMPREREQ=n/1&gcc|icc";
-    walk(&rt, rt.alloc(), &[(Load(module), 0, texts)])?;
+    walk(&rt, rt.alloc(), &[(Load(worded()), 0, texts)])
+}
+
+/// The texts with a comma between them.
+fn listed(alloc: Global, texts: &[String]) -> Result<String, AllocError> {
+    let mut list = String::new(alloc);
+    for text in texts {
+        if !list.is_empty() {
+            list.push(',')?;
+        }
+        list.push_str(text.as_str())?;
+    }
+    Ok(list)
+}
+
+#[test]
+fn an_entry_is_read_again(rt: HostRuntime) -> Result<(), Fail> {
     let alloc = rt.alloc();
     let mut env = Env::new(alloc);
-    make(alloc, &mut env, Load(module))?;
+    make(alloc, &mut env, Load(worded()))?;
     let entries = loaded(alloc, &env)?;
     assert_eq!(rt; entries.len(), 1);
-    assert_eq!(rt; entries[0].name.as_str(), "n/1");
-    assert_eq!(rt; entries[0].path.as_str(), "/m/n/1");
+    for entry in &entries {
+        assert_eq!(rt; entry.name.as_str(), "n/1");
+        assert_eq!(rt; entry.path.as_str(), "/m/n/1");
+    }
     let conflicts = conflicts_of(alloc, &env, "n/1")?;
-    assert_eq!(rt; conflicts.len(), 1);
-    assert_eq!(rt; conflicts[0].as_str(), "k");
-    let prereqs = prereqs_of(alloc, &env, "n/1")?;
-    assert_eq!(rt; prereqs.len(), 1);
-    assert_eq!(rt; prereqs[0].len(), 2);
-    assert_eq!(rt; prereqs[0][1].as_str(), "icc");
+    let conflicts = listed(alloc, conflicts.as_slice())?;
+    assert_eq!(rt; conflicts.as_str(), "k");
+    let groups = prereqs_of(alloc, &env, "n/1")?;
+    assert_eq!(rt; groups.len(), 1);
+    for group in &groups {
+        let names = listed(alloc, group.as_slice())?;
+        assert_eq!(rt; names.as_str(), "gcc,icc");
+    }
     Ok(())
 }
 

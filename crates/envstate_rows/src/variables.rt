@@ -1,6 +1,7 @@
 use crate::edits::Edit::{Set, Unset};
 use crate::edits::walk;
-use envstate::{Env, changes, is_plain_value, is_protected, is_variable_name, share_name};
+use envstate::{Change, Env, changes, is_plain_value, is_protected, is_variable_name, share_name};
+use std::alloc::{AllocError, Global};
 use std::test::Fail;
 
 #[test]
@@ -18,6 +19,23 @@ fn variables_are_set_and_unset(rt: HostRuntime) -> Result<(), Fail> {
     )
 }
 
+/// The changes as `A=1 B-`, where B is unset.
+fn listed(alloc: Global, changes: &[Change]) -> Result<String, AllocError> {
+    let mut list = String::new(alloc);
+    for change in changes {
+        list.push_str(change.name.as_str())?;
+        match &change.value {
+            Some(value) => {
+                list.push('=')?;
+                list.push_str(value.as_str())?;
+            }
+            None => list.push('-')?,
+        }
+        list.push(' ')?;
+    }
+    Ok(list)
+}
+
 #[test]
 fn what_differs(rt: HostRuntime) -> Result<(), Fail> {
     let alloc = rt.alloc();
@@ -29,19 +47,9 @@ fn what_differs(rt: HostRuntime) -> Result<(), Fail> {
     new.unset("A");
     new.set("B", "")?;
     new.set("__MODULES_SHARE_P", "/a:3")?;
-    let mut text = String::new(alloc);
-    for change in &changes(alloc, &old, &new)? {
-        text.push_str(change.name.as_str())?;
-        match &change.value {
-            Some(value) => {
-                text.push('=')?;
-                text.push_str(value.as_str())?;
-            }
-            None => text.push('-')?,
-        }
-        text.push(' ')?;
-    }
-    assert_eq!(rt; text.as_str(), "A- B= __MODULES_SHARE_P=/a:3 ");
+    let made = changes(alloc, &old, &new)?;
+    let made = listed(alloc, made.as_slice())?;
+    assert_eq!(rt; made.as_str(), "A- B= __MODULES_SHARE_P=/a:3 ");
     Ok(())
 }
 

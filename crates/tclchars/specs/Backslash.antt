@@ -1,4 +1,4 @@
--- What backslashes stand for (Tcl(n), rule 8).
+-- What backslashes stand for (Tcl(n), rule 9).
 use Rattle.std.specs.Prelude.{ℕ, zero, suc, ◌+◌, ◌*◌, [], ◌∷◌, Bool, false, ◌||◌, ◌&&◌, ◌==◌, nat_lt, nat_le, if◌then◌else◌, Option, Some, None, encode_utf8}
 use Rattle.std.specs.Char.{digit_value}
 use Rattle.tclchars.specs.Bytes.{newline, is_continuation}

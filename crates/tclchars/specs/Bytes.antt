@@ -25,17 +25,13 @@ is_end b = b == newline || b == semicolon
 abbrev pub is_gap : ℕ → Bool
 is_gap b = is_blank b || is_end b
 
--- what has no meaning as itself outside a comment: " $ [ ] { } \
+-- what has a meaning of its own somewhere in a script: " $ [ ] { } \
 abbrev pub is_special : ℕ → Bool
 is_special b = b == 34 || b == 36 || b == 91 || b == 93 || b == 123 || b == 125 || b == backslash
 
--- what a bare word is made of
+-- what has none anywhere
 abbrev pub is_plain : ℕ → Bool
 is_plain b = not (is_gap b || is_special b)
-
--- what a command may begin with: a plain byte that begins no comment
-abbrev pub is_first : ℕ → Bool
-is_first b = not (is_gap b || is_special b || b == hash)
 
 abbrev pub AllPass : (ℕ → Bool) → List ℕ → Type 0
 AllPass p [] = Unit {0}

@@ -4,7 +4,7 @@ ghost use Rattle.tclchars.specs.Backslash.{after_backslash, letter_value, is_oct
 
 use crate::runs::{Class, split_front};
 
-/// The character that a backslash and what stands behind it stand for (Tcl(n), rule 8), and what follows, of a text behind a
+/// The character that a backslash and what stands behind it stand for (Tcl(n), rule 9), and what follows, of a text behind a
 /// backslash. None at the text's end, at a code of half a pair of UTF-16, and at `U` before a hexadecimal digit. Takes no
 /// memory.
 pub fn read_backslash(text: &str) -> Option<(char, &str)>

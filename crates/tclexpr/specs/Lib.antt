@@ -1,3 +1,4 @@
+pub mod Symbols
 pub mod Tree
 pub mod Grammar
 pub mod Marks

@@ -8,4 +8,7 @@ pub mod ReadLemmas
 pub mod PieceTurns
 pub mod ListTurns
 pub mod ListAnswers
+pub mod Cuts
+pub mod Nothing
+pub mod FaultCuts
 pub mod RoundTrip

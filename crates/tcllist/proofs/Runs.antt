@@ -54,6 +54,11 @@ pub back_no_longer : (p : ℕ → Bool) (bs : List ℕ) → length (back p bs) �
 back_no_longer p [] = omega arith
 back_no_longer p (b ∷ bs) = back_no_longer-cons p b bs (p b) refl (back_no_longer p bs)
 
+pub front_run : (p : ℕ → Bool) (xs ys : Text) → AllPass p xs → MayBegin (λ b. not (p b)) ys → front p (xs ++ ys) ≡ xs
+front_run p [] [] h k = refl
+front_run p [] (y ∷ ys) h k = front-cons_false p y ys (not_true (p y) k)
+front_run p (x ∷ xs) ys h k = front-cons_true p x (xs ++ ys) h.0 ∙ ap (λ zs. x ∷ zs) (front_run p xs ys h.1 k)
+
 pub back_run : (p : ℕ → Bool) (xs ys : Text) → AllPass p xs → MayBegin (λ b. not (p b)) ys → back p (xs ++ ys) ≡ ys
 back_run p [] [] h k = refl
 back_run p [] (y ∷ ys) h k = back-cons_false p y ys (not_true (p y) k) where

@@ -1,8 +1,8 @@
-ghost use Rattle.std.specs.Prelude.{◌≡◌, ◌≢◌, ◌↔◌, ◌≤◌, List, length, Ok, Err};
+ghost use Rattle.std.specs.Prelude.{◌≡◌, ◌≢◌, ◌↔◌, ◌≤◌, ◌+◌, ◌++◌, ℕ, List, length, take, Ok, Err};
 ghost use Rattle.tclchars.specs.Runs.{Text};
 ghost use Rattle.tclchars.specs.Faults.{max_bytes};
 ghost use Rattle.tclchars.specs.declared.fault.TextFault.{TextFault};
-ghost use Rattle.tclchars.specs.declared.fault.TextFault.TheVariants.{OutOfMemory};
+ghost use Rattle.tclchars.specs.declared.fault.TextFault.TheVariants.{OutOfMemory, JoinedToClose, BadCharacter};
 ghost use Rattle.tcllist.specs.ListGrammar.{IsList};
 ghost use Rattle.tcllist.specs.ListFaults.{IsListFault};
 ghost use Rattle.tcllist.specs.ListReading.{list_of};
@@ -26,6 +26,13 @@ pub fn list_of_grammar()
     ensures elements { (bs : Text) (es : List Text) → length bs ≤ max_bytes → (list_of bs ≡ Ok es) ↔ IsList bs es }
     ensures fault { (bs : Text) (f : TextFault) → f ≢ OutOfMemory → (list_of bs ≡ Err f) ↔ IsListFault bs f }
     ensures no_memory { (bs : Text) → list_of bs ≢ Err OutOfMemory }
+{}
+
+/// No list begins with a text up to and with the character that is joined to a closing brace or quote, and none with a text
+/// that has a backslash that stands for nothing.
+pub fn no_list_begins_so()
+    ensures joined { (bs more : Text) (at : ℕ) (es : List Text) → IsListFault bs (JoinedToClose at) → IsList (take (at + 1) bs ++ more) es → ⊥ }
+    ensures bad { (bs more : Text) (at : ℕ) (es : List Text) → IsListFault bs (BadCharacter at) → IsList (bs ++ more) es → ⊥ }
 {}
 
 /// The text of a list is a list with the same elements.

@@ -10,7 +10,7 @@ use crate::reading::split_char;
 use arrayvec::ArrayVec;
 
 /// How many stars can be pending at once.
-const CAPACITY: usize = 32;
+const CAPACITY: usize = 1024;
 
 /// Whether the pattern matches from that star on.
 pub(crate) fn matches_from(first: Place<'_>) -> bool

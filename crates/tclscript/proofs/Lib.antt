@@ -20,6 +20,7 @@ pub mod WordsExact
 pub mod ScriptExact
 pub mod Whole
 pub mod Clauses
+pub mod Ranges
 pub mod Examples
 pub mod NextByte
 pub mod Firm
@@ -28,3 +29,5 @@ pub mod Operands
 pub mod Prefixes
 pub mod Viable
 pub mod BadEscapes
+pub mod LastByte
+pub mod Unfinished

@@ -10,7 +10,7 @@ use Rattle.tclscript.specs.Pieces.{IsEndOf}
 use Rattle.tclscript.proofs.Ends.{end_no_longer}
 use Rattle.tclscript.proofs.Escapes.{either, back_end, octal_end, hexadecimal_end, LeavesSome, character_leaves, code_leaves, wide_leaves}
 
-both_ways : {A : Type 0} (P : A → A → Type 0) (t : Bool) (x y x' y' : A) → P x x' → P y y' → P (if t then x else y) (if t then x' else y')
+pub both_ways : {A : Type 0} (P : A → A → Type 0) (t : Bool) (x y x' y' : A) → P x x' → P y y' → P (if t then x else y) (if t then x' else y')
 both_ways P true x y x' y' here there = here
 both_ways P false x y x' y' here there = there
 
@@ -21,7 +21,7 @@ none_some : {A : Type 0} (x : A) → None ≡ Some x → ⊥
 none_some x h = cc
 
 -- what a backslash stands for, by what is known of the first byte behind it
-abbrev escape_of : ℕ → Bool → Bool → Bool → Bool → Bool → Bool → Text → Option (Text × Text)
+abbrev pub escape_of : ℕ → Bool → Bool → Bool → Bool → Bool → Bool → Text → Option (Text × Text)
 escape_of b t u v w x y bs =
     if t then Some (32 ∷ [], back is_blank_or_tab bs)
     else if u then character (octal_at 3 0 (b ∷ bs))

@@ -2,43 +2,60 @@
 use Rattle.std.proofs.Common.{◌≡◌, ◌≢◌, ℕ, suc, [], ◌∷◌, ◌++◌, length, Bool, true, false, not, ◌||◌, ◌==◌, Some, None, refl, sym, ap, subst, ◌∙◌, arith, append_assoc, append-nil, length-append, ◌⊎◌, inl, inr}
 use Rattle.std.proofs.lemmas.Bool.Decides.{nat_tests}
 use Rattle.tclchars.specs.Runs.{Text, begins}
-use Rattle.tclchars.specs.Bytes.{newline, hash, DoesBegin}
+use Rattle.tclchars.specs.Bytes.{newline, hash, AllPass, DoesBegin}
+use Rattle.tclchars.specs.Classes.{in_class}
 use Rattle.tclchars.specs.Backslash.{begins_hexadecimal, after_backslash}
-use Rattle.tclchars.specs.Braces.{Balanced}
+use Rattle.tclchars.specs.Braces.{Balanced, braced_at}
+use Rattle.tclchars.specs.Reading.{left_of}
+use Rattle.tclchars.specs.declared.runs.Class.TheVariants.{InName}
 use Rattle.tclchars.specs.declared.fault.Fault.{Fault}
-use Rattle.tclchars.specs.declared.fault.Fault.TheVariants.{OpenBrace, OpenQuote, OpenBracket, JoinedToClose, TooDeep, BadCharacter}
+use Rattle.tclchars.specs.declared.fault.Fault.TheVariants.{OpenBrace, OpenQuote, OpenBracket, JoinedToClose, TooDeep, BadCharacter, BadExpression}
 use Rattle.tclscript.specs.declared.context.Context.{Context}
 use Rattle.tclscript.specs.declared.context.Context.TheVariants.{InScript, InBracket, InIndex, InQuotes}
 use Rattle.tclscript.specs.Tree as tree
-use Rattle.tclscript.specs.Tree.{Commands, no_commands, command, Words, no_words, word, Word, word_of, Parts, no_parts, part, Part, braced, indexed, bracket}
+use Rattle.tclscript.specs.Tree.{Commands, no_commands, command, Words, no_words, word, Word, word_of, Parts, no_parts, part, Part, braced, variable, indexed, bracket}
 use Rattle.tclscript.specs.Ends.{script_ends, command_ends, word_ends, parts_end, bare}
 use Rattle.tclscript.specs.Grammar as grammar
 use Rattle.tclscript.specs.Grammar.{Split, IsBlanks, IsGap, IsName, IsPlainWord, IsCommands, IsCommand, IsWords, IsWord, IsParts, IsPart, IsScript}
 use Rattle.tclscript.specs.Faults as faults
-use Rattle.tclscript.specs.Faults.{CommandsFault, CommandFault, WordsFault, WordFault, PlainFault, PartsFault, PartFault, IsFault}
+use Rattle.tclscript.specs.Offending.{GoesOn, IsOpenMark}
+use Rattle.tclscript.specs.Faults.{NeverCloses, CommandsFault, CommandFault, WordsFault, WordFault, PlainFault, PartsFault, PartFault, IsFault}
 use Rattle.tclscript.proofs.Firm.{Firm, firm_before, firm_some, does_begin-firm, gap-any, command-firm, word-firm, part-firm, parts_end-firm}
+use Rattle.tclscript.proofs.PassedOver.{is_no_byte}
 use Rattle.tclscript.proofs.PartsExact.{part_byte, backslash_goes_on}
-use Rattle.tclscript.proofs.WordsExact.{bare_end, plain_goes_on}
-use Rattle.tclscript.proofs.Offending.{Kind, joined, escape, mark, IsOther, not_other, long_firm, same_cut, parts_before_quote}
+use Rattle.tclscript.proofs.WordsExact.{bare_end, plain_goes_on, none_found}
+use Rattle.tclscript.proofs.Offending.{long_firm, same_cut, parts_before_quote}
+use Rattle.tclscript.proofs.Unfinished.{parts_finish, commands_finish, brace_finish}
 use Rattle.tclscript.proofs.Prefixes.{escape_letter}
 
+-- what is kept is all that is left, where a mark is open
+abbrev pub IsWhole : Fault → Text → Text → Type 0
+IsWhole (OpenBrace n) keep rest = rest ≡ []
+IsWhole (OpenQuote n) keep rest = rest ≡ []
+IsWhole (OpenBracket n) keep rest = rest ≡ []
+IsWhole (BadCharacter n) keep rest = begins 40 (keep ++ rest) ≡ true → rest ≡ []
+IsWhole (JoinedToClose n) keep rest = Unit {0}
+IsWhole (BadExpression n) keep rest = Unit {0}
+IsWhole TooDeep keep rest = Unit {0}
+
 -- What stands before the mark, and what is kept at it, go on to a whole.
-pub record Completes {X : Type 0} (Ends : Text → Type 0) (Is : X → Text → Text → Type 0) (bs : Text) (left : ℕ) : Type 0 where
+pub record Completes {X : Type 0} (Ends : Text → Type 0) (Is : X → Text → Text → Type 0) (bs : Text) (fault : Fault) : Type 0 where
   pub value : X
   pub before : Text
   pub keep : Text
   pub rest : Text
   pub more : Text
   pub whole : bs ≡ before ++ (keep ++ rest)
-  pub long : length (keep ++ rest) ≡ left
+  pub long : length (keep ++ rest) ≡ left_of fault
+  pub all : IsWhole fault keep rest
   pub firm : Firm (before ++ keep)
   pub is : (after : Text) → Ends after → Is value (before ++ (keep ++ more)) after
 
 -- with a text before it and one behind it
-between : {X Y : Type 0} (Ends Ends' : Text → Type 0) (Is : X → Text → Text → Type 0) (Is' : Y → Text → Text → Type 0) (make : X → Text → Y) (x y bs : Text) (left : ℕ)
+between : {X Y : Type 0} (Ends Ends' : Text → Type 0) (Is : X → Text → Text → Type 0) (Is' : Y → Text → Text → Type 0) (make : X → Text → Y) (x y bs : Text) (fault : Fault)
     → ((v : X) (p s t : Text) → Firm p → bs ≡ p ++ s → ((after : Text) → Ends after → Is v (p ++ t) after) → (after : Text) → Ends' after → Is' (make v (p ++ t)) (x ++ ((p ++ t) ++ y)) after)
-    → Completes Ends Is bs left → Completes Ends' Is' (x ++ bs) left
-between Ends Ends' Is Is' make x y bs left step m =
+    → Completes Ends Is bs fault → Completes Ends' Is' (x ++ bs) fault
+between Ends Ends' Is Is' make x y bs fault step m =
     let p = m.before ++ m.keep in
     let back : (t : Text) → p ++ t ≡ m.before ++ (m.keep ++ t) = append_assoc m.before m.keep in
     record {
@@ -49,6 +66,7 @@ between Ends Ends' Is Is' make x y bs left step m =
       more = m.more ++ y;
       whole = ap (λ ys. x ++ ys) m.whole ∙ sym (append_assoc x m.before (m.keep ++ m.rest));
       long = m.long;
+      all = m.all;
       firm = subst Firm (sym (append_assoc x m.before m.keep)) (firm_before x p m.firm);
       is = λ after ends.
           subst (λ ys. Is' (make m.value (p ++ m.more)) ys after)
@@ -56,11 +74,11 @@ between Ends Ends' Is Is' make x y bs left step m =
           (step m.value p m.rest m.more m.firm (m.whole ∙ sym (back m.rest)) (λ after ends. subst (λ ys. Is m.value ys after) (sym (back m.more)) (m.is after ends)) after ends);
     }
 
-behind : {X Y : Type 0} (Ends Ends' : Text → Type 0) (Is : X → Text → Text → Type 0) (Is' : Y → Text → Text → Type 0) (make : X → Text → Y) (x bs : Text) (left : ℕ)
+behind : {X Y : Type 0} (Ends Ends' : Text → Type 0) (Is : X → Text → Text → Type 0) (Is' : Y → Text → Text → Type 0) (make : X → Text → Y) (x bs : Text) (fault : Fault)
     → ((v : X) (p s t : Text) → Firm p → bs ≡ p ++ s → ((after : Text) → Ends after → Is v (p ++ t) after) → (after : Text) → Ends' after → Is' (make v (p ++ t)) (x ++ (p ++ t)) after)
-    → Completes Ends Is bs left → Completes Ends' Is' (x ++ bs) left
-behind Ends Ends' Is Is' make x bs left step m =
-    between Ends Ends' Is Is' make x [] bs left (λ v p s t firm same is after ends. subst (λ ys. Is' (make v (p ++ t)) (x ++ ys) after) (sym (append-nil (p ++ t))) (step v p s t firm same is after ends)) m
+    → Completes Ends Is bs fault → Completes Ends' Is' (x ++ bs) fault
+behind Ends Ends' Is Is' make x bs fault step m =
+    between Ends Ends' Is Is' make x [] bs fault (λ v p s t firm same is after ends. subst (λ ys. Is' (make v (p ++ t)) (x ++ ys) after) (sym (append-nil (p ++ t))) (step v p s t firm same is after ends)) m
 
 -- ends
 
@@ -94,30 +112,30 @@ no_newline b r (inr e) = rw e refl
 
 -- what is completed
 
-abbrev pub CommandsTo : Bool → Text → ℕ → Type 0
-CommandsTo nested bs left = Completes (λ r. script_ends nested r ≡ true) (λ s t r. IsCommands nested s t r) bs left
+abbrev pub CommandsTo : Bool → Text → Fault → Type 0
+CommandsTo nested bs fault = Completes (λ r. script_ends nested r ≡ true) (λ s t r. IsCommands nested s t r) bs fault
 
-abbrev pub CommandTo : Bool → Text → ℕ → Type 0
-CommandTo nested bs left = Completes (λ r. command_ends nested r ≡ true) (λ (c : Text × Words) t r. IsCommand nested c.0 c.1 t r) bs left
+abbrev pub CommandTo : Bool → Text → Fault → Type 0
+CommandTo nested bs fault = Completes (λ r. command_ends nested r ≡ true) (λ (c : Text × Words) t r. IsCommand nested c.0 c.1 t r) bs fault
 
-abbrev pub WordsTo : Bool → Text → ℕ → Type 0
-WordsTo nested bs left = Completes (λ r. command_ends nested r ≡ true) (λ ws t r. IsWords nested ws t r) bs left
+abbrev pub WordsTo : Bool → Text → Fault → Type 0
+WordsTo nested bs fault = Completes (λ r. command_ends nested r ≡ true) (λ ws t r. IsWords nested ws t r) bs fault
 
-abbrev pub WordTo : Bool → Text → ℕ → Type 0
-WordTo nested bs left = Completes (λ r. word_ends nested r ≡ true) (λ w t r. IsWord nested w t r) bs left
+abbrev pub WordTo : Bool → Text → Fault → Type 0
+WordTo nested bs fault = Completes (λ r. word_ends nested r ≡ true) (λ w t r. IsWord nested w t r) bs fault
 
-abbrev pub PlainTo : Bool → Text → ℕ → Type 0
-PlainTo nested bs left = Completes (λ r. word_ends nested r ≡ true) (λ ps t r. IsPlainWord nested ps (λ c inside more. IsParts c ps inside more) t r) bs left
+abbrev pub PlainTo : Bool → Text → Fault → Type 0
+PlainTo nested bs fault = Completes (λ r. word_ends nested r ≡ true) (λ ps t r. IsPlainWord nested ps (λ c inside more. IsParts c ps inside more) t r) bs fault
 
-abbrev pub PartsTo : Context → Text → ℕ → Type 0
-PartsTo c bs left = Completes (λ r. parts_end c r ≡ true) (λ ps t r. IsParts c ps t r) bs left
+abbrev pub PartsTo : Context → Text → Fault → Type 0
+PartsTo c bs fault = Completes (λ r. parts_end c r ≡ true) (λ ps t r. IsParts c ps t r) bs fault
 
-abbrev pub PartTo : Context → Text → ℕ → Type 0
-PartTo c bs left = Completes (λ r. parts_end c r ≡ true) (λ q t r. (parts_end c (t ++ r) ≡ false) × IsPart c q t r) bs left
+abbrev pub PartTo : Context → Text → Fault → Type 0
+PartTo c bs fault = Completes (λ r. parts_end c r ≡ true) (λ q t r. (parts_end c (t ++ r) ≡ false) × IsPart c q t r) bs fault
 
-first_command_to : (nested : Bool) (gap body : Text) (left : ℕ) → IsGap gap body → DoesBegin (λ b. not (b == hash)) body → CommandTo nested body left → CommandsTo nested (gap ++ body) left
-first_command_to nested gap body left h free m =
-    behind (λ r. command_ends nested r ≡ true) (λ r. script_ends nested r ≡ true) (λ (c : Text × Words) t r. IsCommand nested c.0 c.1 t r) (λ s t r. IsCommands nested s t r) (λ c u. command c.0 c.1 no_commands) gap body left
+first_command_to : (nested : Bool) (gap body : Text) (fault : Fault) → IsGap gap body → DoesBegin (λ b. not (b == hash)) body → CommandTo nested body fault → CommandsTo nested (gap ++ body) fault
+first_command_to nested gap body fault h free m =
+    behind (λ r. command_ends nested r ≡ true) (λ r. script_ends nested r ≡ true) (λ (c : Text × Words) t r. IsCommand nested c.0 c.1 t r) (λ s t r. IsCommands nested s t r) (λ c u. command c.0 c.1 no_commands) gap body fault
     (λ v p s t firm same is after ends.
     record {
       first = gap;
@@ -134,11 +152,11 @@ first_command_to nested gap body left h free m =
     })
     m
 
-later_command_to : (nested : Bool) (gap source body : Text) (ws : Words) (rest : Text) (left : ℕ) → IsGap gap (body ++ rest) → DoesBegin (λ b. not (b == hash)) body → IsCommand nested source ws body rest → CommandsTo nested rest left
-    → CommandsTo nested (gap ++ (body ++ rest)) left
-later_command_to nested gap source body ws rest left h free k m =
-    subst (λ ys. CommandsTo nested ys left) (append_assoc gap body rest)
-    (behind (λ r. script_ends nested r ≡ true) (λ r. script_ends nested r ≡ true) (λ s t r. IsCommands nested s t r) (λ s t r. IsCommands nested s t r) (λ cs u. command source ws cs) (gap ++ body) rest left
+later_command_to : (nested : Bool) (gap source body : Text) (ws : Words) (rest : Text) (fault : Fault) → IsGap gap (body ++ rest) → DoesBegin (λ b. not (b == hash)) body → IsCommand nested source ws body rest → CommandsTo nested rest fault
+    → CommandsTo nested (gap ++ (body ++ rest)) fault
+later_command_to nested gap source body ws rest fault h free k m =
+    subst (λ ys. CommandsTo nested ys fault) (append_assoc gap body rest)
+    (behind (λ r. script_ends nested r ≡ true) (λ r. script_ends nested r ≡ true) (λ s t r. IsCommands nested s t r) (λ s t r. IsCommands nested s t r) (λ cs u. command source ws cs) (gap ++ body) rest fault
     (λ v p s t firm same is after ends.
     record {
       first = gap;
@@ -158,14 +176,14 @@ later_command_to nested gap source body ws rest left h free k m =
     })
     m)
 
-first_word_to : (nested : Bool) (bs : Text) (left : ℕ) → WordTo nested bs left → CommandTo nested bs left
-first_word_to nested bs left m =
-    behind (λ r. word_ends nested r ≡ true) (λ r. command_ends nested r ≡ true) (λ w t r. IsWord nested w t r) (λ (c : Text × Words) t r. IsCommand nested c.0 c.1 t r) (λ w u. (u, word w no_words)) [] bs left
+first_word_to : (nested : Bool) (bs : Text) (fault : Fault) → WordTo nested bs fault → CommandTo nested bs fault
+first_word_to nested bs fault m =
+    behind (λ r. word_ends nested r ≡ true) (λ r. command_ends nested r ≡ true) (λ w t r. IsWord nested w t r) (λ (c : Text × Words) t r. IsCommand nested c.0 c.1 t r) (λ w u. (u, word w no_words)) [] bs fault
     (λ v p s t firm same is after ends. ([], sym (append-nil (p ++ t)), is after (command_word nested after ends), (grammar.IsBlanks.nothing, ends))) m
 
-later_word_to : (nested : Bool) (body : Text) (w : Word) (rest : Text) (left : ℕ) → IsWord nested w body rest → WordsTo nested rest left → CommandTo nested (body ++ rest) left
-later_word_to nested body w rest left h m =
-    behind (λ r. command_ends nested r ≡ true) (λ r. command_ends nested r ≡ true) (λ ws t r. IsWords nested ws t r) (λ (c : Text × Words) t r. IsCommand nested c.0 c.1 t r) (λ ws u. (body, word w ws)) body rest left
+later_word_to : (nested : Bool) (body : Text) (w : Word) (rest : Text) (fault : Fault) → IsWord nested w body rest → WordsTo nested rest fault → CommandTo nested (body ++ rest) fault
+later_word_to nested body w rest fault h m =
+    behind (λ r. command_ends nested r ≡ true) (λ r. command_ends nested r ≡ true) (λ ws t r. IsWords nested ws t r) (λ (c : Text × Words) t r. IsCommand nested c.0 c.1 t r) (λ ws u. (body, word w ws)) body rest fault
     (λ v p s t firm same is after ends. (
       p ++ t,
       refl,
@@ -174,9 +192,9 @@ later_word_to nested body w rest left h m =
     ))
     m
 
-next_word_to : (nested : Bool) (blanks body : Text) (left : ℕ) → IsBlanks blanks → WordTo nested body left → WordsTo nested (blanks ++ body) left
-next_word_to nested blanks body left h m =
-    behind (λ r. word_ends nested r ≡ true) (λ r. command_ends nested r ≡ true) (λ w t r. IsWord nested w t r) (λ ws t r. IsWords nested ws t r) (λ w u. word w no_words) blanks body left
+next_word_to : (nested : Bool) (blanks body : Text) (fault : Fault) → IsBlanks blanks → WordTo nested body fault → WordsTo nested (blanks ++ body) fault
+next_word_to nested blanks body fault h m =
+    behind (λ r. word_ends nested r ≡ true) (λ r. command_ends nested r ≡ true) (λ w t r. IsWord nested w t r) (λ ws t r. IsWords nested ws t r) (λ w u. word w no_words) blanks body fault
     (λ v p s t firm same is after ends.
     record {
       first = blanks;
@@ -187,10 +205,10 @@ next_word_to nested blanks body left h m =
     })
     m
 
-word_after_to : (nested : Bool) (blanks body : Text) (w : Word) (rest : Text) (left : ℕ) → IsBlanks blanks → IsWord nested w body rest → WordsTo nested rest left → WordsTo nested (blanks ++ (body ++ rest)) left
-word_after_to nested blanks body w rest left h k m =
-    subst (λ ys. WordsTo nested ys left) (append_assoc blanks body rest)
-    (behind (λ r. command_ends nested r ≡ true) (λ r. command_ends nested r ≡ true) (λ ws t r. IsWords nested ws t r) (λ ws t r. IsWords nested ws t r) (λ ws u. word w ws) (blanks ++ body) rest left
+word_after_to : (nested : Bool) (blanks body : Text) (w : Word) (rest : Text) (fault : Fault) → IsBlanks blanks → IsWord nested w body rest → WordsTo nested rest fault → WordsTo nested (blanks ++ (body ++ rest)) fault
+word_after_to nested blanks body w rest fault h k m =
+    subst (λ ys. WordsTo nested ys fault) (append_assoc blanks body rest)
+    (behind (λ r. command_ends nested r ≡ true) (λ r. command_ends nested r ≡ true) (λ ws t r. IsWords nested ws t r) (λ ws t r. IsWords nested ws t r) (λ ws u. word w ws) (blanks ++ body) rest fault
     (λ v p s t firm same is after ends.
     record {
       first = blanks;
@@ -207,28 +225,28 @@ word_after_to nested blanks body w rest left h k m =
     })
     m)
 
-plain_to : (nested : Bool) (bs : Text) (left : ℕ) → PlainTo nested bs left → WordTo nested bs left
-plain_to nested bs left m =
-    behind (λ r. word_ends nested r ≡ true) (λ r. word_ends nested r ≡ true) (λ ps t r. IsPlainWord nested ps (λ c inside more. IsParts c ps inside more) t r) (λ w t r. IsWord nested w t r) (λ ps u. word_of false ps) [] bs left
+plain_to : (nested : Bool) (bs : Text) (fault : Fault) → PlainTo nested bs fault → WordTo nested bs fault
+plain_to nested bs fault m =
+    behind (λ r. word_ends nested r ≡ true) (λ r. word_ends nested r ≡ true) (λ ps t r. IsPlainWord nested ps (λ c inside more. IsParts c ps inside more) t r) (λ w t r. IsWord nested w t r) (λ ps u. word_of false ps) [] bs fault
     (λ v p s t firm same is after ends. is after ends) m
 
-expanding_to : (nested : Bool) (bs : Text) (left : ℕ) → PlainTo nested bs left → WordTo nested (123 ∷ (42 ∷ (125 ∷ bs))) left
-expanding_to nested bs left m =
-    behind (λ r. word_ends nested r ≡ true) (λ r. word_ends nested r ≡ true) (λ ps t r. IsPlainWord nested ps (λ c inside more. IsParts c ps inside more) t r) (λ w t r. IsWord nested w t r) (λ ps u. word_of true ps) (123 ∷ (42 ∷ (125 ∷ []))) bs left
+expanding_to : (nested : Bool) (bs : Text) (fault : Fault) → PlainTo nested bs fault → WordTo nested (123 ∷ (42 ∷ (125 ∷ bs))) fault
+expanding_to nested bs fault m =
+    behind (λ r. word_ends nested r ≡ true) (λ r. word_ends nested r ≡ true) (λ ps t r. IsPlainWord nested ps (λ c inside more. IsParts c ps inside more) t r) (λ w t r. IsWord nested w t r) (λ ps u. word_of true ps) (123 ∷ (42 ∷ (125 ∷ []))) bs fault
     (λ v p s t firm same is after ends. (p ++ t, refl, plain_goes_on nested v (p ++ t) after (is after ends), is after ends)) m
 
-quotes_to : (nested : Bool) (bs : Text) (left : ℕ) → PartsTo InQuotes bs left → PlainTo nested (34 ∷ bs) left
-quotes_to nested bs left m =
-    between (λ r. parts_end InQuotes r ≡ true) (λ r. word_ends nested r ≡ true) (λ ps t r. IsParts InQuotes ps t r) (λ ps t r. IsPlainWord nested ps (λ c inside more. IsParts c ps inside more) t r) (λ ps u. ps) (34 ∷ []) (34 ∷ []) bs left
+quotes_to : (nested : Bool) (bs : Text) (fault : Fault) → PartsTo InQuotes bs fault → PlainTo nested (34 ∷ bs) fault
+quotes_to nested bs fault m =
+    between (λ r. parts_end InQuotes r ≡ true) (λ r. word_ends nested r ≡ true) (λ ps t r. IsParts InQuotes ps t r) (λ ps t r. IsPlainWord nested ps (λ c inside more. IsParts c ps inside more) t r) (λ ps u. ps) (34 ∷ []) (34 ∷ []) bs fault
     (λ v p s t firm same is after ends. (ends, inr (inl (p ++ t, refl, is (34 ∷ after) refl)))) m
 
-bare_to : (nested : Bool) (bs : Text) (left : ℕ) → DoesBegin (λ b. not (b == 123 || b == 34)) bs → PartsTo (bare nested) bs left → PlainTo nested bs left
-bare_to nested bs left h m =
-    behind (λ r. parts_end (bare nested) r ≡ true) (λ r. word_ends nested r ≡ true) (λ ps t r. IsParts (bare nested) ps t r) (λ ps t r. IsPlainWord nested ps (λ c inside more. IsParts c ps inside more) t r) (λ ps u. ps) [] bs left
+bare_to : (nested : Bool) (bs : Text) (fault : Fault) → DoesBegin (λ b. not (b == 123 || b == 34)) bs → PartsTo (bare nested) bs fault → PlainTo nested bs fault
+bare_to nested bs fault h m =
+    behind (λ r. parts_end (bare nested) r ≡ true) (λ r. word_ends nested r ≡ true) (λ ps t r. IsParts (bare nested) ps t r) (λ ps t r. IsPlainWord nested ps (λ c inside more. IsParts c ps inside more) t r) (λ ps u. ps) [] bs fault
     (λ v p s t firm same is after ends. (ends, inr (inr (does_begin-firm (λ b. not (b == 123 || b == 34)) p s t firm (subst (λ ys. DoesBegin (λ b. not (b == 123 || b == 34)) ys) same h), is after (bare_end nested after ∙ ends))))) m
 
-brace_to : (nested : Bool) (inside rest : Text) (left : ℕ) → Balanced inside → length rest ≡ left → PlainTo nested (123 ∷ (inside ++ 125 ∷ rest)) left
-brace_to nested inside rest left h e =
+brace_to : (nested : Bool) (inside rest : Text) → Balanced inside → PlainTo nested (123 ∷ (inside ++ 125 ∷ rest)) (JoinedToClose (length rest))
+brace_to nested inside rest h =
     let closed = 123 ∷ (inside ++ 125 ∷ []) in
     record {
       value = part (braced inside) no_parts;
@@ -237,13 +255,14 @@ brace_to nested inside rest left h e =
       rest = rest;
       more = [];
       whole = ap (λ ys. 123 ∷ ys) (sym (append_assoc inside (125 ∷ []) rest));
-      long = e;
+      long = refl;
+      all = tt;
       firm = subst Firm (sym (append-nil closed)) (long_firm closed (omega (arith, length-append inside (125 ∷ []))));
       is = λ after ends. (ends, inl (inside, refl, append-nil closed, h));
     }
 
-quote_to : (nested : Bool) (inside rest : Text) (ps : Parts) (left : ℕ) → ((r : Text) → IsParts InQuotes ps inside (34 ∷ r)) → length rest ≡ left → PlainTo nested (34 ∷ (inside ++ 34 ∷ rest)) left
-quote_to nested inside rest ps left h e =
+quote_to : (nested : Bool) (inside rest : Text) (ps : Parts) → ((r : Text) → IsParts InQuotes ps inside (34 ∷ r)) → PlainTo nested (34 ∷ (inside ++ 34 ∷ rest)) (JoinedToClose (length rest))
+quote_to nested inside rest ps h =
     let closed = 34 ∷ (inside ++ 34 ∷ []) in
     record {
       value = ps;
@@ -252,19 +271,20 @@ quote_to nested inside rest ps left h e =
       rest = rest;
       more = [];
       whole = ap (λ ys. 34 ∷ ys) (sym (append_assoc inside (34 ∷ []) rest));
-      long = e;
+      long = refl;
+      all = tt;
       firm = subst Firm (sym (append-nil closed)) (long_firm closed (omega (arith, length-append inside (34 ∷ []))));
       is = λ after ends. (ends, inr (inl (inside, append-nil closed, h after)));
     }
 
-first_part_to : (c : Context) (bs : Text) (left : ℕ) → PartTo c bs left → PartsTo c bs left
-first_part_to c bs left m =
-    behind (λ r. parts_end c r ≡ true) (λ r. parts_end c r ≡ true) (λ q t r. (parts_end c (t ++ r) ≡ false) × IsPart c q t r) (λ ps t r. IsParts c ps t r) (λ q u. part q no_parts) [] bs left
+first_part_to : (c : Context) (bs : Text) (fault : Fault) → PartTo c bs fault → PartsTo c bs fault
+first_part_to c bs fault m =
+    behind (λ r. parts_end c r ≡ true) (λ r. parts_end c r ≡ true) (λ q t r. (parts_end c (t ++ r) ≡ false) × IsPart c q t r) (λ ps t r. IsParts c ps t r) (λ q u. part q no_parts) [] bs fault
     (λ v p s t firm same is after ends. record { first = p ++ t; second = []; whole = sym (append-nil (p ++ t)); is_first = is after ends; is_second = (refl, ends) }) m
 
-later_part_to : (c : Context) (body : Text) (q : Part) (rest : Text) (left : ℕ) → parts_end c (body ++ rest) ≡ false → IsPart c q body rest → PartsTo c rest left → PartsTo c (body ++ rest) left
-later_part_to c body q rest left goes h m =
-    behind (λ r. parts_end c r ≡ true) (λ r. parts_end c r ≡ true) (λ ps t r. IsParts c ps t r) (λ ps t r. IsParts c ps t r) (λ ps u. part q ps) body rest left
+later_part_to : (c : Context) (body : Text) (q : Part) (rest : Text) (fault : Fault) → parts_end c (body ++ rest) ≡ false → IsPart c q body rest → PartsTo c rest fault → PartsTo c (body ++ rest) fault
+later_part_to c body q rest fault goes h m =
+    behind (λ r. parts_end c r ≡ true) (λ r. parts_end c r ≡ true) (λ ps t r. IsParts c ps t r) (λ ps t r. IsParts c ps t r) (λ ps u. part q ps) body rest fault
     (λ v p s t firm same is after ends.
     record {
       first = body;
@@ -279,23 +299,26 @@ later_part_to c body q rest left goes h m =
     })
     m
 
-bracket_to : (c : Context) (bs : Text) (left : ℕ) → CommandsTo true bs left → PartTo c (91 ∷ bs) left
-bracket_to c bs left m =
-    between (λ r. script_ends true r ≡ true) (λ r. parts_end c r ≡ true) (λ s t r. IsCommands true s t r) (λ q t r. (parts_end c (t ++ r) ≡ false) × IsPart c q t r) (λ s u. bracket s) (91 ∷ []) (93 ∷ []) bs left
+bracket_to : (c : Context) (bs : Text) (fault : Fault) → CommandsTo true bs fault → PartTo c (91 ∷ bs) fault
+bracket_to c bs fault m =
+    between (λ r. script_ends true r ≡ true) (λ r. parts_end c r ≡ true) (λ s t r. IsCommands true s t r) (λ q t r. (parts_end c (t ++ r) ≡ false) × IsPart c q t r) (λ s u. bracket s) (91 ∷ []) (93 ∷ []) bs fault
     (λ v p s t firm same is after ends. (part_byte c 91 (((p ++ t) ++ 93 ∷ []) ++ after) (inr refl), (p ++ t, refl, is (93 ∷ after) refl))) m
 
-index_to : (c : Context) (name bs : Text) (left : ℕ) → IsName name → PartsTo InIndex bs left → PartTo c (36 ∷ (name ++ 40 ∷ bs)) left
-index_to c name bs left h m =
-    subst (λ ys. PartTo c (36 ∷ ys) left) (append_assoc name (40 ∷ []) bs)
-    (between (λ r. parts_end InIndex r ≡ true) (λ r. parts_end c r ≡ true) (λ ps t r. IsParts InIndex ps t r) (λ q t r. (parts_end c (t ++ r) ≡ false) × IsPart c q t r) (λ ps u. indexed name ps) (36 ∷ (name ++ 40 ∷ [])) (41 ∷ []) bs left
+index_to : (c : Context) (name bs : Text) (fault : Fault) → IsName name → PartsTo InIndex bs fault → PartTo c (36 ∷ (name ++ 40 ∷ bs)) fault
+index_to c name bs fault h m =
+    subst (λ ys. PartTo c (36 ∷ ys) fault) (append_assoc name (40 ∷ []) bs)
+    (between (λ r. parts_end InIndex r ≡ true) (λ r. parts_end c r ≡ true) (λ ps t r. IsParts InIndex ps t r) (λ q t r. (parts_end c (t ++ r) ≡ false) × IsPart c q t r) (λ ps u. indexed name ps) (36 ∷ (name ++ 40 ∷ [])) (41 ∷ []) bs fault
     (λ v p s t firm same is after ends. (
       part_byte c 36 (((name ++ 40 ∷ []) ++ ((p ++ t) ++ 41 ∷ [])) ++ after) (inl refl),
       (p ++ t, ap (λ ys. 36 ∷ ys) (append_assoc name (40 ∷ []) ((p ++ t) ++ 41 ∷ [])), h, is (41 ∷ after) refl),
     ))
     m)
 
-escape_to : (c : Context) (b : ℕ) (bs : Text) (left : ℕ) → after_backslash (b ∷ bs) ≡ None → suc (suc (length bs)) ≡ left → PartTo c (92 ∷ (b ∷ bs)) left
-escape_to c b bs left h e =
+false_true : false ≡ true → ⊥
+false_true h = cc
+
+escape_to : (c : Context) (b : ℕ) (bs : Text) → after_backslash (b ∷ bs) ≡ None → PartTo c (92 ∷ (b ∷ bs)) (BadCharacter (suc (suc (length bs))))
+escape_to c b bs h =
     let is = escape_letter b bs h in
     record {
       value = tree.backslash (b ∷ []);
@@ -304,100 +327,174 @@ escape_to c b bs left h e =
       rest = bs;
       more = [];
       whole = refl;
-      long = e;
+      long = refl;
+      all = λ e. absurd (false_true e);
       firm = tt;
       is = λ after ends. (backslash_goes_on c (b ∷ after) (no_newline b after is), (b ∷ [], refl, letter_alone b after is (no_digit c after ends)));
     }
 
--- a fault of another kind
-other : {Goal : Type 0} (kind : Kind) (f : Fault) (left : ℕ) → f ≡ mark kind left → IsOther f → Goal
-other kind f left e h = absurd (not_other kind left (subst IsOther e h))
+bad_escape_to : (c : Context) (bs : Text) → bs ≢ [] → after_backslash bs ≡ None → PartTo c (92 ∷ bs) (BadCharacter (suc (length bs)))
+bad_escape_to c [] some h = absurd (some refl)
+bad_escape_to c (b ∷ bs) some h = escape_to c b bs h
 
--- how much is left behind what closes
-joined_left : (kind : Kind) (n left : ℕ) → JoinedToClose n ≡ mark kind left → n ≡ left
-joined_left joined n left e = cc
-joined_left escape n left e = absurd (apart e) where
-  apart : JoinedToClose n ≡ BadCharacter left → ⊥
-  apart e = cc
+-- open marks
 
-escape_left : (kind : Kind) (n left : ℕ) → BadCharacter n ≡ mark kind left → n ≡ left
-escape_left escape n left e = cc
-escape_left joined n left e = absurd (apart e) where
-  apart : BadCharacter n ≡ JoinedToClose left → ⊥
-  apart e = cc
+mark_firm : (b : ℕ) (bs : Text) → (b == 92) ≡ false → (b == 58) ≡ false → Firm (b ∷ bs)
+mark_firm b [] h k = (is_no_byte b 92 h, is_no_byte b 58 k)
+mark_firm b (c ∷ bs) h k = tt
 
-bad_escape_to : (c : Context) (kind : Kind) (bs : Text) (left : ℕ) → bs ≢ [] → after_backslash bs ≡ None → BadCharacter (suc (length bs)) ≡ mark kind left → PartTo c (92 ∷ bs) left
-bad_escape_to c kind [] left some h e = absurd (some refl)
-bad_escape_to c kind (b ∷ bs) left some h e = escape_to c b bs left h (escape_left kind (suc (suc (length bs))) left e)
+all_left : (b : ℕ) (bs : Text) → length ((b ∷ bs) ++ []) ≡ suc (length bs)
+all_left b bs = ap length (append-nil (b ∷ bs))
 
--- Of the marks at which a character is bad, one is a parenthesis: there the parts behind it are complete, and only their end is missing.
-abbrev pub IsAtMark : Kind → Text → ℕ → Type 0
-IsAtMark joined bs left = Unit {0}
-IsAtMark escape bs left = (before rest : Text) → bs ≡ before ++ 40 ∷ rest → suc (length rest) ≡ left → ⊥
+open_brace_to : (nested : Bool) (bs : Text) → NeverCloses bs → PlainTo nested (123 ∷ bs) (OpenBrace (suc (length bs)))
+open_brace_to nested bs h =
+    let m = brace_finish bs (none_found bs (braced_at false 0 bs) refl h) in
+    record {
+      value = part (braced m.1) no_parts;
+      before = [];
+      keep = 123 ∷ bs;
+      rest = [];
+      more = m.0;
+      whole = sym (append-nil (123 ∷ bs));
+      long = all_left 123 bs;
+      all = refl;
+      firm = mark_firm 123 bs refl refl;
+      is = λ after ends. (ends, inl (m.1, refl, ap (λ ys. 123 ∷ ys) m.2, m.3));
+    }
 
-at_mark_behind : (kind : Kind) (x bs : Text) (left : ℕ) → IsAtMark kind (x ++ bs) left → IsAtMark kind bs left
-at_mark_behind joined x bs left h = tt
-at_mark_behind escape x bs left h = λ before rest e long. h (x ++ before) rest (ap (λ ys. x ++ ys) e ∙ sym (append_assoc x before (40 ∷ rest))) long
+open_quote_to : (nested : Bool) (bs : Text) (ps : Parts) → IsParts InQuotes ps bs [] → PlainTo nested (34 ∷ bs) (OpenQuote (suc (length bs)))
+open_quote_to nested bs ps h =
+    let m = parts_finish InQuotes ps bs h in
+    record {
+      value = m.value;
+      before = [];
+      keep = 34 ∷ bs;
+      rest = [];
+      more = m.more ++ 34 ∷ [];
+      whole = sym (append-nil (34 ∷ bs));
+      long = all_left 34 bs;
+      all = refl;
+      firm = mark_firm 34 bs refl refl;
+      is = λ after ends. (ends, inr (inl (bs ++ m.more, ap (λ ys. 34 ∷ ys) (sym (append_assoc bs m.more (34 ∷ []))), m.is after)));
+    }
 
-no_parenthesis : {Goal : Type 0} (kind : Kind) (name bs : Text) (left : ℕ) → IsAtMark kind (36 ∷ (name ++ 40 ∷ bs)) left → BadCharacter (suc (length bs)) ≡ mark kind left → Goal
-no_parenthesis joined name bs left h e = absurd (apart e) where
-  apart : BadCharacter (suc (length bs)) ≡ JoinedToClose left → ⊥
-  apart e = cc
-no_parenthesis escape name bs left h e = absurd (h (36 ∷ name) bs refl (escape_left escape (suc (length bs)) left e))
+open_name_to : (c : Context) (bs : Text) → AllPass (in_class InName) bs → PartTo c (36 ∷ (123 ∷ bs)) (OpenBrace (suc (length bs)))
+open_name_to c bs h = record {
+  value = variable bs;
+  before = 36 ∷ [];
+  keep = 123 ∷ bs;
+  rest = [];
+  more = 125 ∷ [];
+  whole = ap (λ ys. 36 ∷ ys) (sym (append-nil (123 ∷ bs)));
+  long = all_left 123 bs;
+  all = refl;
+  firm = tt;
+  is = λ after ends. (part_byte c 36 ((123 ∷ (bs ++ 125 ∷ [])) ++ after) (inl refl), inr (refl, h));
+}
+
+open_bracket_to : (c : Context) (bs : Text) (s : Commands) → IsCommands true s bs [] → PartTo c (91 ∷ bs) (OpenBracket (suc (length bs)))
+open_bracket_to c bs s h =
+    let m = commands_finish s bs h in
+    record {
+      value = bracket m.value;
+      before = [];
+      keep = 91 ∷ bs;
+      rest = [];
+      more = m.more ++ 93 ∷ [];
+      whole = sym (append-nil (91 ∷ bs));
+      long = all_left 91 bs;
+      all = refl;
+      firm = mark_firm 91 bs refl refl;
+      is = λ after ends. (
+        part_byte c 91 ((bs ++ (m.more ++ 93 ∷ [])) ++ after) (inr refl),
+        (bs ++ m.more, ap (λ ys. 91 ∷ ys) (sym (append_assoc bs m.more (93 ∷ []))), m.is after),
+      );
+    }
+
+open_index_to : (c : Context) (name bs : Text) (ps : Parts) → IsName name → IsParts InIndex ps bs [] → PartTo c (36 ∷ (name ++ 40 ∷ bs)) (BadCharacter (suc (length bs)))
+open_index_to c name bs ps h k =
+    let m = parts_finish InIndex ps bs k in
+    record {
+      value = indexed name m.value;
+      before = 36 ∷ name;
+      keep = 40 ∷ bs;
+      rest = [];
+      more = m.more ++ 41 ∷ [];
+      whole = ap (λ ys. 36 ∷ (name ++ ys)) (sym (append-nil (40 ∷ bs)));
+      long = all_left 40 bs;
+      all = λ e. refl;
+      firm = long_firm ((36 ∷ name) ++ 40 ∷ bs) (omega (arith, length-append name (40 ∷ bs)));
+      is = λ after ends. (
+        part_byte c 36 ((name ++ (40 ∷ (bs ++ (m.more ++ 41 ∷ [])))) ++ after) (inl refl),
+        (bs ++ m.more, ap (λ ys. 36 ∷ (name ++ 40 ∷ ys)) (sym (append_assoc bs m.more (41 ∷ []))), h, m.is after),
+      );
+    }
 
 mutual
-  pub commands_viable : (kind : Kind) {d : ℕ} {nested : Bool} {bs : Text} {f : Fault} → CommandsFault d nested bs f → (left : ℕ) → f ≡ mark kind left → IsAtMark kind bs left → CommandsTo nested bs left
-  commands_viable kind (faults.CommandsFault.first_command {d} {nested} gap {body} h free k) left e at = first_command_to nested gap body left h free (command_viable kind k left e (at_mark_behind kind gap body left at))
-  commands_viable kind (faults.CommandsFault.later_command {d} {nested} gap source body ws {rest} h free k deep l) left e at =
-      later_command_to nested gap source body ws rest left h free k (commands_viable kind l left e (at_mark_behind kind body rest left (at_mark_behind kind gap (body ++ rest) left at)))
+  pub commands_viable : {d : ℕ} {nested : Bool} {bs : Text} {f : Fault} → CommandsFault d nested bs f → f ≢ TooDeep → CommandsTo nested bs f
+  commands_viable (faults.CommandsFault.first_command {d} {nested} gap {body} {f} h free k) some = first_command_to nested gap body f h free (command_viable k some)
+  commands_viable (faults.CommandsFault.later_command {d} {nested} gap source body ws {rest} {f} h free k deep l) some = later_command_to nested gap source body ws rest f h free k (commands_viable l some)
 
-  command_viable : (kind : Kind) {d : ℕ} {nested : Bool} {bs : Text} {f : Fault} → CommandFault d nested bs f → (left : ℕ) → f ≡ mark kind left → IsAtMark kind bs left → CommandTo nested bs left
-  command_viable kind (faults.CommandFault.first_word {d} {nested} {bs} h) left e at = first_word_to nested bs left (word_viable kind h left e at)
-  command_viable kind (faults.CommandFault.later_word {d} {nested} body w {rest} h deep k) left e at = later_word_to nested body w rest left h (words_viable kind k left e (at_mark_behind kind body rest left at))
+  command_viable : {d : ℕ} {nested : Bool} {bs : Text} {f : Fault} → CommandFault d nested bs f → f ≢ TooDeep → CommandTo nested bs f
+  command_viable (faults.CommandFault.first_word {d} {nested} {bs} {f} h) some = first_word_to nested bs f (word_viable h some)
+  command_viable (faults.CommandFault.later_word {d} {nested} body w {rest} {f} h deep k) some = later_word_to nested body w rest f h (words_viable k some)
 
-  words_viable : (kind : Kind) {d : ℕ} {nested : Bool} {bs : Text} {f : Fault} → WordsFault d nested bs f → (left : ℕ) → f ≡ mark kind left → IsAtMark kind bs left → WordsTo nested bs left
-  words_viable kind (faults.WordsFault.next_word {d} {nested} blanks {body} h k) left e at = next_word_to nested blanks body left h (word_viable kind k left e (at_mark_behind kind blanks body left at))
-  words_viable kind (faults.WordsFault.word_after {d} {nested} blanks body w {rest} h k deep l) left e at =
-      word_after_to nested blanks body w rest left h k (words_viable kind l left e (at_mark_behind kind body rest left (at_mark_behind kind blanks (body ++ rest) left at)))
+  words_viable : {d : ℕ} {nested : Bool} {bs : Text} {f : Fault} → WordsFault d nested bs f → f ≢ TooDeep → WordsTo nested bs f
+  words_viable (faults.WordsFault.next_word {d} {nested} blanks {body} {f} h k) some = next_word_to nested blanks body f h (word_viable k some)
+  words_viable (faults.WordsFault.word_after {d} {nested} blanks body w {rest} {f} h k deep l) some = word_after_to nested blanks body w rest f h k (words_viable l some)
 
-  word_viable : (kind : Kind) {d : ℕ} {nested : Bool} {bs : Text} {f : Fault} → WordFault d nested bs f → (left : ℕ) → f ≡ mark kind left → IsAtMark kind bs left → WordTo nested bs left
-  word_viable kind (faults.WordFault.plain {d} {nested} {bs} none h) left e at = plain_to nested bs left (plain_viable kind h left e at)
-  word_viable kind (faults.WordFault.expanding {d} {nested} {body} h k) left e at = expanding_to nested body left (plain_viable kind k left e (at_mark_behind kind (123 ∷ (42 ∷ (125 ∷ []))) body left at))
+  word_viable : {d : ℕ} {nested : Bool} {bs : Text} {f : Fault} → WordFault d nested bs f → f ≢ TooDeep → WordTo nested bs f
+  word_viable (faults.WordFault.plain {d} {nested} {bs} {f} none h) some = plain_to nested bs f (plain_viable h some)
+  word_viable (faults.WordFault.expanding {d} {nested} {body} {f} h k) some = expanding_to nested body f (plain_viable k some)
 
-  plain_viable : (kind : Kind) {d : ℕ} {nested : Bool} {bs : Text} {f : Fault} → PlainFault d nested bs f → (left : ℕ) → f ≡ mark kind left → IsAtMark kind bs left → PlainTo nested bs left
-  plain_viable kind (faults.PlainFault.open_brace {d} {nested} {bs} h) left e at = other kind (OpenBrace (suc (length bs))) left e tt
-  plain_viable kind (faults.PlainFault.joined_brace {d} {nested} inside rest h k) left e at = brace_to nested inside rest left h (joined_left kind (length rest) left e)
-  plain_viable kind (faults.PlainFault.in_quotes {d} {nested} {bs} h) left e at = quotes_to nested bs left (parts_viable kind h left e (at_mark_behind kind (34 ∷ []) bs left at))
-  plain_viable kind (faults.PlainFault.open_quote {d} {nested} {bs} ps h k) left e at = other kind (OpenQuote (suc (length bs))) left e tt
-  plain_viable kind (faults.PlainFault.joined_quote {d} {nested} inside rest ps h k l) left e at = quote_to nested inside rest ps left (λ r. parts_before_quote ps inside rest r h) (joined_left kind (length rest) left e)
-  plain_viable kind (faults.PlainFault.in_bare {d} {nested} {bs} h k) left e at = bare_to nested bs left h (parts_viable kind k left e at)
+  plain_viable : {d : ℕ} {nested : Bool} {bs : Text} {f : Fault} → PlainFault d nested bs f → f ≢ TooDeep → PlainTo nested bs f
+  plain_viable (faults.PlainFault.open_brace {d} {nested} {bs} h) some = open_brace_to nested bs h
+  plain_viable (faults.PlainFault.joined_brace {d} {nested} inside rest h k) some = brace_to nested inside rest h
+  plain_viable (faults.PlainFault.in_quotes {d} {nested} {bs} {f} h) some = quotes_to nested bs f (parts_viable h some)
+  plain_viable (faults.PlainFault.open_quote {d} {nested} {bs} ps h k) some = open_quote_to nested bs ps h
+  plain_viable (faults.PlainFault.joined_quote {d} {nested} inside rest ps h k l) some = quote_to nested inside rest ps (λ r. parts_before_quote ps inside rest r h)
+  plain_viable (faults.PlainFault.in_bare {d} {nested} {bs} {f} h k) some = bare_to nested bs f h (parts_viable k some)
 
-  parts_viable : (kind : Kind) {d : ℕ} {c : Context} {bs : Text} {f : Fault} → PartsFault d c bs f → (left : ℕ) → f ≡ mark kind left → IsAtMark kind bs left → PartsTo c bs left
-  parts_viable kind (faults.PartsFault.first_part {d} {c} {bs} h) left e at = first_part_to c bs left (part_viable kind h c left e at)
-  parts_viable kind (faults.PartsFault.later_part {d} {c} body q {rest} goes h deep k) left e at = later_part_to c body q rest left goes h (parts_viable kind k left e (at_mark_behind kind body rest left at))
+  parts_viable : {d : ℕ} {c : Context} {bs : Text} {f : Fault} → PartsFault d c bs f → f ≢ TooDeep → PartsTo c bs f
+  parts_viable (faults.PartsFault.first_part {d} {c} {bs} {f} h) some = first_part_to c bs f (part_viable h c some)
+  parts_viable (faults.PartsFault.later_part {d} {c} body q {rest} {f} goes h deep k) some = later_part_to c body q rest f goes h (parts_viable k some)
 
-  part_viable : (kind : Kind) {d : ℕ} {bs : Text} {f : Fault} → PartFault d bs f → (c : Context) (left : ℕ) → f ≡ mark kind left → IsAtMark kind bs left → PartTo c bs left
-  part_viable kind (faults.PartFault.open_name {d} {bs} h) c left e at = other kind (OpenBrace (suc (length bs))) left e tt
-  part_viable kind (faults.PartFault.bad_character {d} {bs} some h) c left e at = bad_escape_to c kind bs left some h e
-  part_viable kind faults.PartFault.bracket_too_deep c left e at = other kind TooDeep left e tt
-  part_viable kind (faults.PartFault.in_bracket {d} {bs} h) c left e at = bracket_to c bs left (commands_viable kind h left e (at_mark_behind kind (91 ∷ []) bs left at))
-  part_viable kind (faults.PartFault.open_bracket {d} {bs} s h less) c left e at = other kind (OpenBracket (suc (length bs))) left e tt
-  part_viable kind (faults.PartFault.index_too_deep name bs h) c left e at = other kind TooDeep left e tt
-  part_viable kind (faults.PartFault.in_index {d} name bs h k) c left e at = index_to c name bs left h (parts_viable kind k left e (at_mark_behind kind (40 ∷ []) bs left (at_mark_behind kind (36 ∷ name) (40 ∷ bs) left at)))
-  part_viable kind (faults.PartFault.open_index {d} name bs ps h k less) c left e at = no_parenthesis kind name bs left at e
+  part_viable : {d : ℕ} {bs : Text} {f : Fault} → PartFault d bs f → (c : Context) → f ≢ TooDeep → PartTo c bs f
+  part_viable (faults.PartFault.open_name {d} {bs} h) c some = open_name_to c bs h
+  part_viable (faults.PartFault.bad_character {d} {bs} begun h) c some = bad_escape_to c bs begun h
+  part_viable faults.PartFault.bracket_too_deep c some = absurd (some refl)
+  part_viable (faults.PartFault.in_bracket {d} {bs} {f} h) c some = bracket_to c bs f (commands_viable h some)
+  part_viable (faults.PartFault.open_bracket {d} {bs} s h less) c some = open_bracket_to c bs s h
+  part_viable (faults.PartFault.index_too_deep name bs h) c some = absurd (some refl)
+  part_viable (faults.PartFault.in_index {d} name bs {f} h k) c some = index_to c name bs f h (parts_viable k some)
+  part_viable (faults.PartFault.open_index {d} name bs ps h k less) c some = open_index_to c name bs ps h k
 
--- Up to what offends, a text goes on to a script.
-pub so_far : (kind : Kind) (d : ℕ) (before rest : Text) → IsFault d (before ++ rest) (mark kind (length rest)) → IsAtMark kind (before ++ rest) (length rest) → (more : Text) × (s : Commands) × IsScript (before ++ more) s
-so_far kind d before rest h at =
-    let m = commands_viable kind h (length rest) refl at in
-    let cut = same_cut before rest m.before (m.keep ++ m.rest) m.whole (sym m.long) in
+-- Up to its mark, a text with a fault goes on to a script.
+pub before_mark : (d : ℕ) (before rest : Text) (f : Fault) → IsFault d (before ++ rest) f → f ≢ TooDeep → left_of f ≡ length rest → GoesOn before
+before_mark d before rest f h some long =
+    let m = commands_viable h some in
+    let cut = same_cut before rest m.before (m.keep ++ m.rest) m.whole (sym (m.long ∙ long)) in
     (m.keep ++ m.more, m.value, subst (λ ys. IsScript (ys ++ (m.keep ++ m.more)) m.value) (sym cut.0) (m.is [] refl))
 
--- what begins with a backslash doesn't begin with a parenthesis
-pub at_backslash : (before rest : Text) → IsAtMark escape (before ++ 92 ∷ rest) (suc (length rest))
-at_backslash before rest = λ x y e long. (
-    let cut = same_cut before (92 ∷ rest) x (40 ∷ y) e (omega (arith, long)) in
-    apart y cut.1
-    ) where
-      apart : (y : Text) → 92 ∷ rest ≡ 40 ∷ y → ⊥
-      apart y h = cc
+-- Where a mark is open, the whole text does.
+whole_text : (d : ℕ) (bs : Text) (f : Fault) → (h : IsFault d bs f) (some : f ≢ TooDeep) → (commands_viable h some).rest ≡ [] → GoesOn bs
+whole_text d bs f h some none =
+    let m = commands_viable h some in
+    let whole : bs ≡ m.before ++ m.keep = m.whole ∙ ap (λ ys. m.before ++ ys) (ap (λ ys. m.keep ++ ys) none ∙ append-nil m.keep) in
+    (m.more, m.value, subst (λ ys. IsScript ys m.value) (sym (append_assoc m.before m.keep m.more) ∙ ap (λ ys. ys ++ m.more) (sym whole)) (m.is [] refl))
+
+pub open_mark : (d : ℕ) (bs : Text) (f : Fault) → IsFault d bs f → IsOpenMark f → GoesOn bs
+open_mark d bs (OpenBrace n) h is = whole_text d bs (OpenBrace n) h (λ e. cc) (commands_viable h (λ e. cc)).all
+open_mark d bs (OpenQuote n) h is = whole_text d bs (OpenQuote n) h (λ e. cc) (commands_viable h (λ e. cc)).all
+open_mark d bs (OpenBracket n) h is = whole_text d bs (OpenBracket n) h (λ e. cc) (commands_viable h (λ e. cc)).all
+open_mark d bs (JoinedToClose n) h is = absurd is
+open_mark d bs (BadCharacter n) h is = absurd is
+open_mark d bs (BadExpression n) h is = absurd is
+open_mark d bs TooDeep h is = absurd is
+
+pub open_index : (d : ℕ) (before rest : Text) → IsFault d (before ++ 40 ∷ rest) (BadCharacter (suc (length rest))) → GoesOn (before ++ 40 ∷ rest)
+open_index d before rest h =
+    let some : BadCharacter (suc (length rest)) ≢ TooDeep = λ e. cc in
+    let m = commands_viable h some in
+    let cut = same_cut before (40 ∷ rest) m.before (m.keep ++ m.rest) m.whole (sym m.long) in
+    whole_text d (before ++ 40 ∷ rest) (BadCharacter (suc (length rest))) h some (m.all (ap (begins 40) (sym cut.1)))

@@ -64,7 +64,7 @@ braced_lost nested left (Some p) f h = elim (bind_err (ended nested p.1) (λ res
 none_some : {A : Type 0} (x : A) → Some x ≡ None → ⊥
 none_some x h = cc
 
-none_found : (bs : Text) (found : Option (Text × Text)) → braced_at false 0 bs ≡ found → NeverCloses bs → found ≡ None
+pub none_found : (bs : Text) (found : Option (Text × Text)) → braced_at false 0 bs ≡ found → NeverCloses bs → found ≡ None
 none_found bs None is h = refl
 none_found bs (Some p) is h = let so = close_sound bs false zero p.0 p.1 is in absurd (h p.0 p.1 so.0 so.1)
 

@@ -9,3 +9,4 @@ pub mod Text
 pub mod Grammar
 pub mod Faults
 pub mod Offending
+pub mod Owned

@@ -3,13 +3,16 @@ ghost use Rattle.tclchars.specs.Runs.{Text};
 ghost use Rattle.tclchars.specs.Bytes.{backslash};
 ghost use Rattle.tclchars.specs.Backslash.{after_backslash};
 ghost use Rattle.tclchars.specs.Faults.{max_bytes, max_nesting};
-ghost use Rattle.tclchars.specs.declared.fault.Fault.TheVariants.{JoinedToClose, BadCharacter};
+ghost use Rattle.tclchars.specs.Reading.{left_of};
+ghost use Rattle.tclchars.specs.declared.fault.Fault.{Fault};
+ghost use Rattle.tclchars.specs.declared.fault.Fault.TheVariants.{JoinedToClose, TooDeep, BadCharacter};
+ghost use Rattle.tclscript.specs.Marks.{left_parenthesis};
 ghost use Rattle.tclchars.specs.declared.fault.TextFault.{TextFault};
 ghost use Rattle.tclchars.specs.declared.fault.TextFault.TheVariants.{OutOfMemory};
 ghost use Rattle.tclscript.specs.Tree.{Commands, nesting};
 ghost use Rattle.tclscript.specs.Grammar.{IsScript};
 ghost use Rattle.tclscript.specs.Faults.{IsFault, IsTextFault};
-ghost use Rattle.tclscript.specs.Offending.{GoesOn, IsOffender, IsBadEscape};
+ghost use Rattle.tclscript.specs.Offending.{GoesOn, IsOffender, IsBadEscape, IsOpenMark};
 ghost use Rattle.tclscript.specs.Text.{script_of};
 
 /// A text is a script with one tree at most.
@@ -17,7 +20,7 @@ pub fn one_script()
     ensures { (bs : Text) (s t : Commands) → IsScript bs s → IsScript bs t → s ≡ t }
 {}
 
-/// A text has one fault at most.
+/// A text has one fault at most, want of memory aside.
 pub fn one_fault()
     ensures { (bs : Text) (f g : TextFault) → f ≢ OutOfMemory → g ≢ OutOfMemory → IsTextFault bs f → IsTextFault bs g → f ≡ g }
 {}
@@ -31,15 +34,16 @@ pub fn script_of_grammar()
     ensures no_tree { (bs : Text) (f : TextFault) (s : Commands) → f ≢ OutOfMemory → IsTextFault bs f → IsScript bs s → nesting s ≤ max_nesting → length bs ≤ max_bytes → ⊥ }
 {}
 
-/// Where something offends that follows a closing brace or quote, or that a backslash begins, a script begins with the text
-/// before it, and none with the text up to and with it, however deep that nests. What a backslash begins offends by five bytes
-/// behind it at most.
+/// Where a text that isn't nested too deeply is wrong, a script begins with the text before that place. What follows a closing
+/// brace or quote, or what a backslash begins, offends: no script begins with the text up to and with it, however deep that
+/// nests; of what a backslash begins five bytes show it at most. Where a mark is open, a script begins with the whole text.
 pub fn first_offending()
-    ensures before_joined { (before rest : Text) → IsFault max_nesting (before ++ rest) (JoinedToClose (length rest)) → GoesOn before }
+    ensures before_mark { (before rest : Text) (f : Fault) → IsFault max_nesting (before ++ rest) f → f ≢ TooDeep → left_of f ≡ length rest → GoesOn before }
     ensures with_joined { (before bad rest : Text) → IsFault max_nesting (before ++ (bad ++ rest)) (JoinedToClose (length (bad ++ rest))) → IsOffender bad
         → GoesOn (before ++ bad) → ⊥ }
-    ensures before_escape { (before rest : Text) → IsFault max_nesting (before ++ backslash ∷ rest) (BadCharacter (suc (length rest))) → GoesOn before }
     ensures with_escape { (before bad rest : Text) → IsFault max_nesting (before ++ backslash ∷ (bad ++ rest)) (BadCharacter (suc (length (bad ++ rest)))) → IsBadEscape bad
         → GoesOn (before ++ backslash ∷ bad) → ⊥ }
     ensures escapes { (bs : Text) → bs ≢ [] → after_backslash bs ≡ None → (bad : Text) × (rest : Text) × (bs ≡ bad ++ rest) × (length bad ≤ 5) × IsBadEscape bad }
+    ensures open_marks { (bs : Text) (f : Fault) → IsFault max_nesting bs f → IsOpenMark f → GoesOn bs }
+    ensures open_index { (before rest : Text) → IsFault max_nesting (before ++ left_parenthesis ∷ rest) (BadCharacter (suc (length rest))) → GoesOn (before ++ left_parenthesis ∷ rest) }
 {}

@@ -3,6 +3,7 @@
 
 mod context;
 mod laws;
+mod owned;
 mod piece;
 mod reading;
 mod runs;
@@ -12,6 +13,7 @@ mod text;
 mod tree;
 
 pub use laws::{first_offending, one_fault, one_script, script_of_grammar};
+pub use owned::{OwnedScript, own_script};
 pub use piece::{ByteRange, Source};
 pub use reading::{read_bracket, read_dollar, read_quotes};
 pub use text::{MAX_BYTES, MAX_NESTING, parse_pieces, parse_script};

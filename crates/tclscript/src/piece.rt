@@ -1,6 +1,6 @@
-ghost use Rattle.std.specs.Prelude.{◌≡◌, ◌-◌, take, drop};
+ghost use Rattle.std.specs.Prelude.{◌≡◌};
 ghost use Rattle.tclchars.specs.Runs.{Text};
-ghost use Rattle.tclscript.specs.Pieces.{IsEndOf, IsFrontOf};
+ghost use Rattle.tclscript.specs.Pieces.{IsEndOf, IsFrontOf, between};
 
 /// A source text, of which a `P` stands for a piece: `text` is the whole, and `shown` the text that a piece stands for.
 pub trait Source<P> {
@@ -41,10 +41,24 @@ pub struct ByteRange {
     pub end: usize,
 }
 
+impl ByteRange {
+    /// What stands there in the text; nothing where the range cuts a character.
+    pub fn of(self, text: &str) -> &str
+        ensures { result.now ≡ between text.now self.start self.end }
+    {
+        let (start, end) = (self.start, self.end);
+        if start <= end && text.is_char_boundary(start) && text.is_char_boundary(end) {
+            &text[start..end]
+        } else {
+            ""
+        }
+    }
+}
+
 impl<'a> Source<ByteRange> for &'a str {
     ghost text = { λ source. source.now };
 
-    ghost shown = { λ source range. take (range.end - range.start) (drop range.start source.now) };
+    ghost shown = { λ source range. between source.now range.start range.end };
 
     fn as_str(&self) -> &str {
         self

@@ -65,12 +65,17 @@ fn ranges(rt: HostRuntime) -> Result<(), Fail> {
     assert_eq!(rt; word.parts.len(), 1);
     let last = script.commands.last().ok_or("a command")?;
     assert_eq!(rt; last.source, ByteRange { start: 12, end: 15 });
+    assert_eq!(rt; last.source.of(text), "$ef");
+    assert_eq!(rt; ByteRange { start: 0, end: 1 }.of("\u{e9}"), "");
     assert!(rt;
         matches!(
             last.words.first().map(|w| w.parts.as_slice()),
             Some([Part::Variable(ByteRange { start: 13, end: 15 })])
         )
     );
+    let owned = own_script(rt.alloc(), format!(in rt.alloc(); "{text}")?)?;
+    let last = owned.script.commands.last().ok_or("a command")?;
+    assert_eq!(rt; last.source.of(owned.text.as_str()), "$ef");
     Ok(())
 }
 

@@ -1,2 +1,6 @@
 pub mod Numerals
-pub mod Symbols
+pub use Rattle.tcllist.specs.ListGrammar
+pub use Rattle.tcllist.specs.ListFaults
+pub use Rattle.tcllist.specs.ListReading
+pub use Rattle.tcllist.specs.Lists
+pub use Rattle.tclpattern.specs.Patterns

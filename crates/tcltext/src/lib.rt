@@ -1,16 +1,15 @@
-//! The text of Tcl scripts: scripts, lists and numbers, what they are, and what is wrong with a text that is none.
+//! The text of Tcl: scripts, expressions, lists, patterns and numbers, what they are, and what is wrong with a text that is none.
 //!
 //! The parsers stand in crates of their own, which this one hands on.
 #![tactic(auto)]
 
 mod number;
-mod operator;
 #[cfg(test)]
 mod tests;
 
 pub use number::{Numeral, read_number};
-pub use operator::{BinaryOperator, UnaryOperator};
 pub use tclchars::{TextFault, push_braced_text};
+pub use tclexpr::{BinaryOperator, Expr, Operand, UnaryOperator, parse_expr};
 pub use tcllist::{parse_list, write_list};
 pub use tclpattern::glob_match;
 pub use tclscript::{Command, Part, Script, Word, parse_script};

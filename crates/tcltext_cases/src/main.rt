@@ -5,7 +5,7 @@
 //! command are shown, parted by `;`, and a word with a substitution as `$`.
 #![tactic(auto)]
 
-use std::alloc::Global;
+use std::alloc::{AllocError, Global};
 use std::io;
 use tcltext::{
     Command, Numeral, Part, Script, TextFault, Word, glob_match, parse_list, parse_script,
@@ -43,18 +43,18 @@ fn shown_list(alloc: Global, elements: &[String]) -> Option<String> {
     Some(line)
 }
 
-/// The text of a word without a substitution.
-fn word_text(alloc: Global, word: &Word<&str>) -> Option<String> {
+/// The text of a word, where it has no substitution.
+fn word_text(alloc: Global, word: &Word<&str>) -> Result<Option<String>, AllocError> {
     let mut text = String::new(alloc);
     for part in &word.parts {
         match part {
-            Part::Literal(literal) => text.push_str(literal).ok()?,
-            Part::Braced(inside) => push_braced_text(&mut text, inside).ok()?,
-            Part::Backslash(character) => text.push(*character).ok()?,
-            Part::Variable(_) | Part::Indexed(_, _) | Part::Bracket(_) => return None,
+            Part::Literal(literal) => text.push_str(literal)?,
+            Part::Braced(inside) => push_braced_text(&mut text, inside)?,
+            Part::Backslash(character) => text.push(*character)?,
+            Part::Variable(_) | Part::Indexed(_, _) | Part::Bracket(_) => return Ok(None),
         }
     }
-    Some(text)
+    Ok(Some(text))
 }
 
 fn push_command(alloc: Global, line: &mut String, command: &Command<&str>) -> Option<()> {
@@ -62,7 +62,7 @@ fn push_command(alloc: Global, line: &mut String, command: &Command<&str>) -> Op
         if i > 0 {
             line.push(',').ok()?;
         }
-        match word_text(alloc, word) {
+        match word_text(alloc, word).ok()? {
             Some(text) if !word.expands => push_shown(alloc, line, &text)?,
             _ => line.push('$').ok()?,
         }

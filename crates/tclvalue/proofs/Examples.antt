@@ -4,8 +4,8 @@ use lib.Utf8.{encode}
 use Rattle.std.specs.Str.{chars}
 use Rattle.std.specs.Fmt.{digits}
 use Rattle.tcltext.specs.Numerals.{numeral}
-use Rattle.tcltext.specs.declared.operator.UnaryOperator.TheVariants.{Minus, Complement}
-use Rattle.tcltext.specs.declared.operator.BinaryOperator.TheVariants as binary
+use Rattle.tclexpr.specs.declared.operators.UnaryOperator.TheVariants.{Minus, Complement}
+use Rattle.tclexpr.specs.declared.operators.BinaryOperator.TheVariants as binary
 use Rattle.tcllist.specs.ListReading.{list_of, list_at, element_at, piece_of, piece_at}
 use Rattle.tclvalue.specs.Faults.{error, fraction, number_too_large, left_out, value_too_long}
 use Rattle.tclvalue.specs.Messages.{divide_by_zero, negative_shift, not_numeric, no_boolean, wrong_words, bad_index}

@@ -7,3 +7,4 @@ pub mod LimitLemmas
 pub mod CommandLemmas
 pub mod GlobLemmas
 pub mod EndLemmas
+pub mod DivisionLemmas

@@ -1,7 +1,8 @@
 -- Indexes of lists and texts (lindex(n), string(n)): a whole number, end, or end-N.
 use Rattle.std.specs.Prelude.{ℕ, List, [], ◌∷◌, Bool, false, ◌==◌, nat_lt, if◌then◌else◌, ℤ, pos, negsuc, ◌+ℤ◌, ◌-ℤ◌, Option, Some, None, Ok, Err, take, drop, slice_get, bytes_eq, codes}
 use Rattle.tclchars.specs.Runs.{Text}
-use Rattle.tcltext.specs.Numerals.{numeral, is_space}
+use Rattle.tcltext.specs.Numerals.{numeral}
+use Rattle.tclchars.specs.Bytes.{is_space}
 use Rattle.tcltext.specs.declared.number.Numeral.{Numeral}
 use Rattle.tcltext.specs.declared.number.Numeral.TheVariants as numerals
 use Rattle.tclvalue.specs.Faults.{Answer, ◌>>=◌, error, number_too_large, fraction}

@@ -1,5 +1,5 @@
 -- Arithmetic of expr(n) over unbounded whole numbers, cut to 64 bits at the end.
-use Rattle.std.specs.Prelude.{ℕ, zero, suc, ◌/◌, ◌^◌, Bool, true, false, nat_lt, if◌then◌else◌, ℤ, pos, negsuc, neg_ℤ, ◌-ℤ◌, ◌*ℤ◌, ◌+ℤ◌, Ok, Err}
+use Rattle.std.specs.Prelude.{ℕ, zero, suc, ◌/◌, ◌^◌, Bool, true, false, nat_lt, if◌then◌else◌, ℤ, pos, negsuc, neg_ℤ, ◌-ℤ◌, ◌*ℤ◌, ◌+ℤ◌, ◌≤ℤ◌, ◌<ℤ◌, Ok, Err}
 use Rattle.std.specs.Int.{w64, div_ceil, int_shr, int_bit_and, int_bit_or, int_bit_xor, int_bit_not}
 use Rattle.tclvalue.specs.Faults.{Answer, error, number_too_large}
 use Rattle.tclvalue.specs.Messages.{divide_by_zero, negative_shift}
@@ -27,6 +27,11 @@ quotient (negsuc a) (negsuc b) = signed false (suc a / suc b)
 -- what the quotient leaves; its sign is that of b
 abbrev pub remainder : ℤ → ℤ → ℤ
 remainder a b = a -ℤ quotient a b *ℤ b
+
+-- a remainder has the sign of b, and is nearer to 0
+abbrev pub IsRemainder : ℤ → ℤ → Type 0
+IsRemainder (pos b) r = (pos 0 ≤ℤ r) × (r <ℤ pos b)
+IsRemainder (negsuc b) r = (negsuc b <ℤ r) × (r ≤ℤ pos 0)
 
 abbrev pub is_zero : ℤ → Bool
 is_zero (pos zero) = true

@@ -8,13 +8,13 @@ use Rattle.std.specs.Ordering.{nat_cmp, int_cmp, is_lt, is_gt, is_le, is_ge, is_
 use Rattle.std.specs.Cmp.Lexicographic.{slice_cmp}
 use Rattle.tclchars.specs.Runs.{Text}
 use Rattle.tcltext.specs.Numerals.{numeral}
-use Rattle.tcltext.specs.Symbols.{unary_symbol, binary_symbol}
+use Rattle.tclexpr.specs.Symbols.{unary_symbol, binary_symbol}
 use Rattle.tcltext.specs.declared.number.Numeral.{Numeral}
 use Rattle.tcltext.specs.declared.number.Numeral.TheVariants as numerals
-use Rattle.tcltext.specs.declared.operator.UnaryOperator.{UnaryOperator}
-use Rattle.tcltext.specs.declared.operator.UnaryOperator.TheVariants.{Minus, Plus, Complement, Not}
-use Rattle.tcltext.specs.declared.operator.BinaryOperator.{BinaryOperator}
-use Rattle.tcltext.specs.declared.operator.BinaryOperator.TheVariants as binary
+use Rattle.tclexpr.specs.declared.operators.UnaryOperator.{UnaryOperator}
+use Rattle.tclexpr.specs.declared.operators.UnaryOperator.TheVariants.{Minus, Plus, Complement, Not}
+use Rattle.tclexpr.specs.declared.operators.BinaryOperator.{BinaryOperator}
+use Rattle.tclexpr.specs.declared.operators.BinaryOperator.TheVariants as binary
 use Rattle.tclvalue.specs.declared.operands.Operands.{Operands}
 use Rattle.tclvalue.specs.Faults.{Answer, error, number_too_large, fraction, ◌>>=◌}
 use Rattle.tclvalue.specs.Searches.{is_nil}

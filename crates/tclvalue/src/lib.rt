@@ -8,6 +8,7 @@ mod concat;
 mod elements;
 mod fault;
 mod index;
+mod laws;
 mod list_commands;
 mod lists;
 mod messages;
@@ -22,5 +23,9 @@ mod truth_values;
 
 pub use command::value_command;
 pub use fault::ValueFault;
+pub use laws::division;
 pub use operators::{binary, unary};
 pub use truth_values::truth;
+
+#[cfg(test)]
+mod tests;

@@ -1,7 +1,7 @@
 //! The operators of expressions on values (expr(n), OPERATORS).
 ghost use Rattle.std.specs.Prelude.{◌≡◌, neg_ℤ, Ok, map, bytes_eq, string_bytes};
 ghost use Rattle.std.specs.List.{list_any};
-ghost use Rattle.tcltext.specs.Symbols.{binary_symbol};
+ghost use Rattle.tclexpr.specs.Symbols.{binary_symbol};
 ghost use Rattle.tclvalue.specs.Faults.{Gives, GivesText};
 ghost use Rattle.tclvalue.specs.Numbers.{within_64_bits, other_bits};
 ghost use Rattle.tclvalue.specs.Operators.{whole_operand, number_operand, whole_operands, operands_view, text_order, order_of, decimal_text, truth_text, unary_value, found_in, binary_value};

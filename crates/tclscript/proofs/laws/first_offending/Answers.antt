@@ -3,19 +3,16 @@ use Rattle.tclchars.specs.Faults.{max_nesting}
 use Rattle.tclscript.specs.Grammar.{IsScript}
 use Rattle.tclscript.proofs.Offending.{joined, escape, offender_kept, escape_kept}
 use Rattle.tclscript.proofs.Prefixes.{no_further}
-use Rattle.tclscript.proofs.Viable.{so_far, at_backslash}
+use Rattle.tclscript.proofs.Viable.{before_mark, open_mark, open_index}
 use Rattle.tclscript.proofs.BadEscapes.{bad_escape}
 use Rattle.tclscript.proofs.laws.first_offending.Goals as goal
 
-pub returns-clause-before_joined : goal.returns-clause-before_joined
-returns-clause-before_joined c = λ before rest h. so_far joined max_nesting before rest h tt
+pub returns-clause-before_mark : goal.returns-clause-before_mark
+returns-clause-before_mark c = before_mark max_nesting
 
 pub returns-clause-with_joined : goal.returns-clause-with_joined
 returns-clause-with_joined c = λ before bad rest h off k.
     no_further joined max_nesting before bad rest k.0 h (offender_kept bad rest k.0 off) k.1 (subst (λ ys. IsScript ys k.1) (append_assoc before bad k.0) k.2)
-
-pub returns-clause-before_escape : goal.returns-clause-before_escape
-returns-clause-before_escape c = λ before rest h. so_far escape max_nesting before (92 ∷ rest) h (at_backslash before rest)
 
 pub returns-clause-with_escape : goal.returns-clause-with_escape
 returns-clause-with_escape c = λ before bad rest h off k.
@@ -23,3 +20,9 @@ returns-clause-with_escape c = λ before bad rest h off k.
 
 pub returns-clause-escapes : goal.returns-clause-escapes
 returns-clause-escapes c = bad_escape
+
+pub returns-clause-open_marks : goal.returns-clause-open_marks
+returns-clause-open_marks c = open_mark max_nesting
+
+pub returns-clause-open_index : goal.returns-clause-open_index
+returns-clause-open_index c = open_index max_nesting

@@ -1,0 +1,45 @@
+ghost use Rattle.std.specs.Prelude.{◌≡◌, ◌≤◌, length, string_bytes, IfOk, IfErr, MatchResult};
+ghost use Rattle.tclchars.specs.Faults.{max_bytes, max_nesting};
+ghost use Rattle.tclchars.specs.declared.fault.TextFault.TheVariants.{OutOfMemory};
+ghost use Rattle.tclscript.specs.Tree.{Commands, nesting};
+ghost use Rattle.tclscript.specs.Grammar.{IsScript};
+ghost use Rattle.tclscript.specs.Faults.{IsTextFault};
+ghost use Rattle.tclscript.specs.Text.{Reads, script_of};
+ghost use Rattle.tclscript.specs.Owned.{owned_view};
+
+use crate::piece::ByteRange;
+use crate::text::parse_pieces;
+use crate::tree::Script;
+use std::alloc::Global;
+use tclchars::TextFault;
+
+/// A script with its text: the pieces of the tree are ranges of it.
+#[derive(Debug, Drop)]
+pub struct OwnedScript {
+    pub text: String,
+    pub script: Script<ByteRange>,
+}
+
+/// The tree of a script, as `parse_script` gives it, with the text, which isn't copied.
+pub fn own_script(alloc: Global, text: String) -> Result<OwnedScript, TextFault>
+    // The text is kept.
+    ensures same { IfOk result (λ o. string_bytes o.text ≡ string_bytes text) }
+
+    // A tree that is returned is the text's, within the limits.
+    ensures found { IfOk result (λ o. IsScript (string_bytes text) (owned_view o) × (nesting (owned_view o) ≤ max_nesting) × (length (string_bytes text) ≤ max_bytes)) }
+
+    // A text within the limits that has a tree is read, unless memory runs out.
+    ensures only { (s : Commands) → IsScript (string_bytes text) s → nesting s ≤ max_nesting → length (string_bytes text) ≤ max_bytes
+        → MatchResult result (λ o. owned_view o ≡ s) (λ e. e ≡ OutOfMemory) }
+
+    // A fault is the text's first, at its place.
+    ensures fault { IfErr result (IsTextFault (string_bytes text)) }
+
+    // The tree or the fault is the one that the definition computes, unless memory runs out.
+    ensures read { Reads owned_view result (script_of (string_bytes text)) }
+{
+    match parse_pieces(alloc, &text.as_str()) {
+        Ok(script) => Ok(OwnedScript { text, script }),
+        Err(fault) => Err(fault),
+    }
+}

@@ -1,0 +1,85 @@
+"""What calls of tcltext and tclvalue do where memory is refused: what they do with ample memory, or want of memory alone.
+
+    memory.py FOLDER      FOLDER has the programs tcltext_cases and tclvalue_cases, built"""
+
+import os
+import subprocess
+import sys
+import tempfile
+
+sys.path.insert(0, os.path.dirname(os.path.dirname(os.path.abspath(__file__))))
+
+from harness import SECONDS, Failed, refuser, refuses_each
+
+
+def digits(text):
+    return text.encode().hex() or "-"
+
+
+SCRIPT = 'setenv A {b c} "d\\n$e(f) [g h]"\n# i\nj {*}$k \\x41\n'
+
+# A call, and the answer of a program that has ample memory, of which this is the beginning.
+TEXT_CALLS = (
+    ("script " + digits(SCRIPT), "ok "),
+    ("script " + digits("a {b"), "fault 2"),
+    ("list " + digits('a {b c} "d e" f\\ g'), "ok "),
+    ("list " + digits("a {b"), "fault 2"),
+)
+
+VALUE_CALLS = (
+    ("b " + " ".join(map(digits, ("+", "1", "2"))), "ok "),
+    ("b " + " ".join(map(digits, ("in", "b", "a b c"))), "ok "),
+    ("u " + " ".join(map(digits, ("-", "7"))), "ok "),
+    ("t " + digits("yes"), "ok "),
+    ("c 1048576 " + " ".join(map(digits, ("list", "a", "b c", ""))), "ok "),
+    ("c 1048576 " + " ".join(map(digits, ("llength", "a {b c}"))), "ok "),
+    ("c 1048576 " + " ".join(map(digits, ("lindex", "a {b c} d", "end-1"))), "ok "),
+    ("c 1048576 " + " ".join(map(digits, ("lrange", "a b c d", "1", "end"))), "ok "),
+    ("c 1048576 " + " ".join(map(digits, ("split", "a:b", ":"))), "ok "),
+    ("c 1048576 " + " ".join(map(digits, ("join", "a {b c}", "-"))), "ok "),
+    ("c 1048576 " + " ".join(map(digits, ("concat", " a ", "b"))), "ok "),
+    ("c 1048576 " + " ".join(map(digits, ("string", "length", "é€"))), "ok "),
+    ("c 1048576 " + " ".join(map(digits, ("string", "range", "abc", "1", "end"))), "ok "),
+    ("c 1048576 " + " ".join(map(digits, ("string", "map", "a b b c", "abba"))), "ok "),
+    ("c 1048576 " + " ".join(map(digits, ("string", "repeat", "ab", "3"))), "ok "),
+    ("c 1048576 " + " ".join(map(digits, ("string", "match", "*.[ch]", "x.c"))), "ok "),
+    ("c 1048576 " + " ".join(map(digits, ("string", "trim", " a "))), "ok "),
+    ("c 1048576 " + " ".join(map(digits, ("string", "first", "ss", "mississippi"))), "ok "),
+    ("c 10 " + " ".join(map(digits, ("string", "repeat", "ab", "1000000000"))), "err 16 "),
+)
+
+# What a program says where memory is refused: nothing, that there is no answer, or the fault of want of memory.
+REFUSED = ("", "no call\n", "fault 1\n", "bad case\n", f"err 11 {digits('Out of memory')}\n")
+
+
+def judge(shim, program, call, begins):
+    def run(asked):
+        done = subprocess.run(
+            [program], input=call + "\n", env=asked, capture_output=True, encoding="utf-8", timeout=SECONDS, check=False
+        )
+        return done.stdout
+
+    ample = run({})
+    if not ample.startswith(begins):
+        raise Failed(f"{call} with ample memory: {ample!r}")
+    refuses_each(shim, run, REFUSED.__contains__, call)
+
+
+def main():
+    passed, failed = 0, 0
+    with tempfile.TemporaryDirectory(prefix="tcl-") as folder:
+        shim = refuser(os.fsencode(folder))
+        for name, calls in (("tcltext_cases", TEXT_CALLS), ("tclvalue_cases", VALUE_CALLS)):
+            for call, begins in calls:
+                try:
+                    judge(shim, os.path.join(sys.argv[1], name), call, begins)
+                    passed += 1
+                except Failed as found:
+                    failed += 1
+                    print(f"FAILED: {found}")
+    print(f"calls with too little memory: {passed} passed, {failed} failed")
+    return 1 if failed or not passed else 0
+
+
+if __name__ == "__main__":
+    sys.exit(main())
