@@ -9,4 +9,3 @@ pub mod Operands
 pub mod OperandGrammar
 pub mod Text
 pub mod View
-pub mod Symbols
