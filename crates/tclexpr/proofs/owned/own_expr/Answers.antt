@@ -1,4 +1,4 @@
-use Rattle.std.proofs.Common.{◌≡◌, Ok, sym, subst, string_bytes}
+use Rattle.std.proofs.Common.{◌≡◌, Ok, subst}
 use Rattle.tclchars.specs.Runs.{Text}
 use Rattle.tclchars.specs.declared.fault.TextFault.TheVariants.{OutOfMemory}
 use Rattle.tclscript.specs.Pieces.{between}
