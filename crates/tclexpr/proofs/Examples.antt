@@ -1,12 +1,11 @@
 -- Rows of expressions with their trees and faults, by computation. A fault has the number of bytes from its place on.
 use Rattle.std.proofs.Common.{◌≡◌, ℕ, [], ◌∷◌, Ok, Err, Result, refl}
-use Rattle.tclchars.specs.Runs.{Text}
 use Rattle.tclchars.specs.Braces.{braced_at}
 use Rattle.tclchars.specs.declared.fault.Fault.{Fault}
 use Rattle.tclchars.specs.declared.fault.Fault.TheVariants.{TooDeep, BadExpression, OpenBrace}
 use Rattle.tclexpr.specs.declared.operators.BinaryOperator.TheVariants.{Add, Subtract, Multiply, TextEqual}
 use Rattle.tclexpr.specs.declared.operators.UnaryOperator.TheVariants.{Minus}
-use Rattle.tclexpr.specs.Tree.{Expr, operand, unary, binary, conjunction, disjunction, choice}
+use Rattle.tclexpr.specs.Tree.{Expr, operand, unary, binary, choice}
 use Rattle.tclexpr.specs.Marks.{mark_at, after_white}
 use Rattle.tclexpr.specs.Operands.{Operand, number, word, braced, operand_at, after_number, after_digits, is_truth, word_at, braced_text_at}
 use Rattle.tclexpr.specs.Reading.{expr_at, whole_at, chain_at, climb_at, prefix_at, below_at}

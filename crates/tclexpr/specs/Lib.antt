@@ -9,3 +9,4 @@ pub mod Operands
 pub mod OperandGrammar
 pub mod Text
 pub mod View
+pub mod Owned

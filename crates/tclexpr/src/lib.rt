@@ -7,6 +7,7 @@ mod nesting;
 mod numbers;
 mod operand;
 mod operators;
+mod owned;
 mod reading;
 #[cfg(test)]
 mod tests;
@@ -15,5 +16,6 @@ mod tree;
 
 pub use laws::{expr_of_grammar, one_expression, one_fault};
 pub use operators::{BinaryOperator, Infix, Mark, UnaryOperator};
+pub use owned::{OwnedExpr, own_expr};
 pub use text::{parse_expr, parse_expr_pieces};
 pub use tree::{Expr, Operand};

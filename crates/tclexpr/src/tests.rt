@@ -106,3 +106,17 @@ fn groups(rt: HostRuntime) -> Result<(), Fail> {
     assert!(rt; matches!(*left, Expr::Binary(BinaryOperator::Subtract, _, _)));
     Ok(())
 }
+
+// An expression that keeps its text has ranges of it as pieces.
+#[test]
+fn owned(rt: HostRuntime) -> Result<(), Fail> {
+    let text = String::from_str(rt.alloc(), " $name")?;
+    let owned = own_expr(rt.alloc(), text).ok().ok_or("a tree")?;
+    assert!(rt;
+        matches!(
+            owned.expression,
+            Expr::Operand(Operand::Variable(tclscript::ByteRange { start: 2, end: 6 }))
+        )
+    );
+    Ok(())
+}

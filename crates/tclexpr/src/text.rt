@@ -17,8 +17,8 @@ use std::alloc::Global;
 use tclchars::{Fault, ReadError, TextFault, place};
 use tclscript::{MAX_BYTES, MAX_NESTING, Source};
 
-/// The tree of an expression (expr(n)), whose pieces are slices of the text. Takes time and memory in proportion to the text's
-/// length, and copies no text.
+/// The tree of an expression (expr(n)), whose pieces are slices of the text. Takes memory in proportion to the text's length, time
+/// in proportion to that and, behind operands, to how deep they nest, and copies no text.
 ///
 /// A text that is no expression is refused with the first fault in it and its place; a text of more than 1,048,576 bytes is
 /// `TooLong`, and `OutOfMemory` says nothing of the text.

@@ -1,0 +1,43 @@
+ghost use Rattle.std.specs.Prelude.{◌≡◌, string_bytes, IfOk, IfErr, MatchResult};
+ghost use Rattle.tclchars.specs.declared.fault.TextFault.TheVariants.{OutOfMemory};
+ghost use Rattle.tclscript.specs.Text.{Reads};
+ghost use Rattle.tclexpr.specs.Tree as tree;
+ghost use Rattle.tclexpr.specs.Operands as operands;
+ghost use Rattle.tclexpr.specs.Text.{IsWithin, IsTextFault, expr_of};
+ghost use Rattle.tclexpr.specs.Owned.{owned_view};
+
+use crate::text::parse_expr_pieces;
+use crate::tree::Expr;
+use std::alloc::Global;
+use tclchars::TextFault;
+use tclscript::ByteRange;
+
+/// An expression with its text: the pieces of the tree are ranges of it.
+#[derive(Debug, Drop)]
+pub struct OwnedExpr {
+    pub text: String,
+    pub expression: Expr<ByteRange>,
+}
+
+/// The tree of an expression, as `parse_expr` gives it, with the text, which isn't copied.
+pub fn own_expr(alloc: Global, text: String) -> Result<OwnedExpr, TextFault>
+    // The text is kept.
+    ensures same { IfOk result (λ o. string_bytes o.text ≡ string_bytes text) }
+
+    // A tree that is returned is the text's, within the limits.
+    ensures found { IfOk result (λ o. IsWithin (string_bytes text) (owned_view o)) }
+
+    // A text that has a tree within the limits is read, unless memory runs out.
+    ensures only { (e : tree.Expr operands.Operand) → IsWithin (string_bytes text) e → MatchResult result (λ o. owned_view o ≡ e) (λ f. f ≡ OutOfMemory) }
+
+    // A fault is the text's first, at its place.
+    ensures fault { IfErr result (IsTextFault (string_bytes text)) }
+
+    // The tree or the fault is the one that the definition computes, unless memory runs out.
+    ensures read { Reads owned_view result (expr_of (string_bytes text)) }
+{
+    match parse_expr_pieces(alloc, &text.as_str()) {
+        Ok(expression) => Ok(OwnedExpr { text, expression }),
+        Err(fault) => Err(fault),
+    }
+}
