@@ -4,7 +4,8 @@ use Rattle.std.specs.Prelude.{◌==◌, ◌||◌, ◌&&◌, if◌then◌else◌}
 use Rattle.std.proofs.Math.Seq.{get_or-append_seam, drop-append_seam}
 use Rattle.std.proofs.lemmas.List.{get_or_append_left}
 use Rattle.tclchars.specs.Runs.{Text}
-use Rattle.tclvalue.specs.Globs.{tests, look, behind_close, behind_set, where_holds, after_set, after_escape, matches_first, matches_from, matches, close_bracket, dash, star, question, open_bracket, backslash, is_between}
+use Rattle.tclpattern.specs.Patterns.{behind_close, close_bracket, dash, star, question, open_bracket, backslash, is_between}
+use Rattle.tclvalue.specs.Globs.{tests, look, behind_set, where_holds, after_set, after_escape, matches_first, matches_from, matches}
 
 -- the second pattern is an end of the first
 abbrev pub IsEnd : Text → Text → Type 0

@@ -4,12 +4,13 @@ use Rattle.std.specs.Prelude.{◌==◌, if◌then◌else◌}
 use Rattle.std.proofs.lemmas.Bool.Decides.{nat_tests}
 use Rattle.std.proofs.lemmas.List.{take_all}
 use Rattle.tclchars.specs.Runs.{Text}
-use Rattle.tclvalue.specs.Globs.{is_between, behind_close, where_holds, behind_set, item, close_bracket, dash}
+use Rattle.tclpattern.specs.Patterns.{is_between, behind_close, close_bracket, dash}
+use Rattle.tclvalue.specs.Globs.{where_holds, behind_set, item}
 
 between_itself : (low c : ℕ) → is_between low low c ≡ (low == c)
 between_itself low c = grind (arith, nat_tests)
 
-abbrev set_step : ℕ → ℕ → Option (ℕ × Text) → Option Text
+abbrev pub set_step : ℕ → ℕ → Option (ℕ × Text) → Option Text
 set_step c low None = None
 set_step c low (Some i) = where_holds (is_between low i.0 c) i.1 (behind_set c i.1)
 
@@ -22,7 +23,7 @@ long_item : (t : Bool) (c low high : ℕ) (ps qs : Text)
 long_item true c low high ps qs = refl
 long_item false c low high ps qs = ap (λ b. where_holds b qs (behind_set c qs)) (sym (between_itself low c))
 
-behind_item : (c low : ℕ) (ps : Text) → (low == close_bracket) ≡ false → behind_set c (low ∷ ps) ≡ set_step c low (item low ps)
+pub behind_item : (c low : ℕ) (ps : Text) → (low == close_bracket) ≡ false → behind_set c (low ∷ ps) ≡ set_step c low (item low ps)
 behind_item c low [] h = rw h (ap (λ b. where_holds b [] None) (sym (between_itself low c)))
 behind_item c low (d ∷ []) h = rw h (short_item (d == dash) c low (d ∷ []))
 behind_item c low (d ∷ high ∷ ps) h = rw h (long_item (d == dash) c low high ps (d ∷ high ∷ ps))

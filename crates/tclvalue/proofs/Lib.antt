@@ -8,3 +8,4 @@ pub mod CommandLemmas
 pub mod GlobLemmas
 pub mod EndLemmas
 pub mod DivisionLemmas
+pub mod MatchLemmas

@@ -2,34 +2,7 @@
 use Rattle.std.specs.Prelude.{ℕ, length, slice_index_or, List, [], ◌∷◌, ◌++◌, Bool, true, false, ◌||◌, ◌&&◌, ◌==◌, nat_le, if◌then◌else◌, Option, Some, None}
 use Rattle.std.specs.Str.{chars}
 use Rattle.tclchars.specs.Runs.{Text}
-
--- * ? [ ] \ and -
-abbrev pub star : ℕ
-star = 42
-
-abbrev pub question : ℕ
-question = 63
-
-abbrev pub open_bracket : ℕ
-open_bracket = 91
-
-abbrev pub close_bracket : ℕ
-close_bracket = 93
-
-abbrev pub backslash : ℕ
-backslash = 92
-
-abbrev pub dash : ℕ
-dash = 45
-
--- of a range either end may be the greater
-abbrev pub is_between : ℕ → ℕ → ℕ → Bool
-is_between low high c = nat_le low c && nat_le c high || nat_le high c && nat_le c low
-
--- what a pattern goes on with behind the next closing bracket; it is at its end where none follows
-abbrev pub behind_close : Text → Text
-behind_close [] = []
-behind_close (p ∷ ps) = if p == close_bracket then ps else behind_close ps
+use Rattle.tclpattern.specs.Patterns.{star, question, open_bracket, close_bracket, backslash, dash, is_between, behind_close}
 
 abbrev pub where_holds : Bool → Text → Option Text → Option Text
 where_holds true ps more = Some (behind_close ps)

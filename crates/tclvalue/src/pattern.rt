@@ -1,7 +1,8 @@
 //! Patterns of texts (string(n), match).
 ghost use Rattle.std.specs.Prelude.{◌≡◌, ◌≤◌, slice_index_or, false, length, IfSome, IfOk};
 ghost use Rattle.std.specs.Option.{option_map};
-ghost use Rattle.tclvalue.specs.Globs.{is_between, behind_close, behind_set, item, matches_nothing, matches_first, matches_from, matches, tests, look, glob};
+ghost use Rattle.tclpattern.specs.Patterns.{is_between, behind_close};
+ghost use Rattle.tclvalue.specs.Globs.{behind_set, item, matches_nothing, matches_first, matches_from, matches, tests, look, glob};
 
 use crate::characters::characters;
 use std::alloc::{AllocError, Global};

@@ -1,5 +1,5 @@
 use Rattle.std.proofs.Common.{◌≡◌, length}
-use Rattle.tclvalue.specs.Globs.{behind_close}
+use Rattle.tclpattern.specs.Patterns.{behind_close}
 use Rattle.tclvalue.proofs.pattern.behind_close.Given as goal
 
 abbrev pub invariant-loop-rest : goal.invariant-loop-rest
