@@ -1,12 +1,12 @@
 -- The test of patterns decides the relation.
-use Rattle.std.proofs.Common.{◌≡◌, ℕ, ◌∷◌, [], ◌++◌, List, Bool, true, false, not, Option, Some, None, refl, sym, ap, subst, ◌∙◌, arith, inl, inr}
+use Rattle.std.proofs.Common.{◌≡◌, ℕ, ◌∷◌, [], ◌++◌, Bool, true, false, not, Option, Some, None, refl, sym, ap, subst, ◌∙◌, arith, inl, inr}
 use Rattle.std.specs.Prelude.{◌==◌, ◌||◌, ◌&&◌, if◌then◌else◌}
 use Rattle.std.proofs.lemmas.Bool.{eqb-true, eq-eqb, or_cases, and_parts, not-true}
 use Rattle.std.proofs.lemmas.Bool.Decides.{nat_tests}
 use Rattle.tclchars.specs.Runs.{Text}
 use Rattle.tclpattern.specs.Patterns.{star, question, open_bracket, close_bracket, backslash, dash, is_between, is_ordinary, no_dash, behind_close, HoldsIn, as_item, in_range, past_item, past_range, IsMatch, both_end, any_text, any_character, in_set, escaped, itself}
-use Rattle.tclvalue.specs.Globs.{where_holds, behind_set, item, after_set, after_escape, matches_first, matches_from, matches_nothing, matches}
-use Rattle.tclvalue.proofs.GlobLemmas.{behind_item, set_step}
+use Rattle.tclvalue.specs.Globs.{where_holds, behind_set, after_set, after_escape, matches_first, matches_from, matches_nothing, matches}
+use Rattle.tclvalue.proofs.GlobLemmas.{item, behind_item, set_step}
 
 plain_item : (low : ℕ) (ps : Text) → no_dash ps ≡ true → item low ps ≡ Some (low, ps)
 plain_item low [] h = refl
@@ -60,9 +60,6 @@ close_of false ps rest more c all h f g = g refl h
 
 nothing_found : {P : Type 0} (rest : Text) → (let none : Option Text = None in none ≡ Some rest) → P
 nothing_found rest h = absurd (let e : ⊥ = cc in e)
-
-
-
 
 or_parts : (x y : Bool) → (x || y) ≡ false → (x ≡ false) × (y ≡ false)
 or_parts true y h = absurd (let f : ⊥ = cc in f)
@@ -143,7 +140,7 @@ ordinary p a b d e = rw (a, b, d, e) refl
 star_case : (c p : ℕ) (cs ps : Text) → ((qs : Text) → matches qs cs ≡ true → IsMatch qs cs) → p ≡ star → (matches_from (λ qs. matches qs cs) c ps ≡ true → IsMatch ps (c ∷ cs))
     → (matches_from (λ qs. matches qs cs) c ps || matches (p ∷ ps) cs) ≡ true → IsMatch (p ∷ ps) (c ∷ cs)
 star_case c p cs ps ih e more h = elim (or_cases (matches_from (λ qs. matches qs cs) c ps) (matches (p ∷ ps) cs) h) [
-    inl a ↦ subst (λ x. IsMatch (x ∷ ps) (c ∷ cs)) (sym e) (any_text [] (more a))
+  | inl a ↦ subst (λ x. IsMatch (x ∷ ps) (c ∷ cs)) (sym e) (any_text [] (more a))
   | inr b ↦ star_stays ps (p ∷ ps) cs c (ih (p ∷ ps) b) (ap (λ x. x ∷ ps) e)
 ]
 
@@ -151,10 +148,10 @@ from_of : (c : ℕ) (cs : Text) → ((qs : Text) → matches qs cs ≡ true → 
 from_of c cs ih [] h = absurd (let f : ⊥ = cc in f)
 from_of c cs ih (p ∷ ps) h =
     pick (p == star) _ _ h (λ e k. star_case c p cs ps ih (eqb-true p star e) (from_of c cs ih ps) k)
-      (λ e1 h1. pick (p == question) _ _ h1 (λ e k. subst (λ x. IsMatch (x ∷ ps) (c ∷ cs)) (sym (eqb-true p question e)) (any_character (ih ps k)))
-        (λ e2 h2. pick (p == open_bracket) _ _ h2 (λ e k. subst (λ x. IsMatch (x ∷ ps) (c ∷ cs)) (sym (eqb-true p open_bracket e)) (set_case c cs ps (behind_set c ps) ih refl k))
-          (λ e3 h3. pick (p == backslash) _ _ h3 (λ e k. subst (λ x. IsMatch (x ∷ ps) (c ∷ cs)) (sym (eqb-true p backslash e)) (escape_case c cs ps ih k))
-            (λ e4 h4. plain_case c p cs ps ih (ordinary p e1 e2 e3 e4) h4))))
+    (λ e1 h1. pick (p == question) _ _ h1 (λ e k. subst (λ x. IsMatch (x ∷ ps) (c ∷ cs)) (sym (eqb-true p question e)) (any_character (ih ps k)))
+    (λ e2 h2. pick (p == open_bracket) _ _ h2 (λ e k. subst (λ x. IsMatch (x ∷ ps) (c ∷ cs)) (sym (eqb-true p open_bracket e)) (set_case c cs ps (behind_set c ps) ih refl k))
+    (λ e3 h3. pick (p == backslash) _ _ h3 (λ e k. subst (λ x. IsMatch (x ∷ ps) (c ∷ cs)) (sym (eqb-true p backslash e)) (escape_case c cs ps ih k))
+    (λ e4 h4. plain_case c p cs ps ih (ordinary p e1 e2 e3 e4) h4))))
 
 pub match_of : (ps cs : Text) → matches ps cs ≡ true → IsMatch ps cs
 match_of ps [] h = nothing_of ps h
