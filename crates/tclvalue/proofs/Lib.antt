@@ -6,5 +6,5 @@ pub mod IndexLemmas
 pub mod LimitLemmas
 pub mod CommandLemmas
 pub mod GlobLemmas
-pub mod EndLemmas
 pub mod DivisionLemmas
+pub mod MatchLemmas

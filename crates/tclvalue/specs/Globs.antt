@@ -1,35 +1,8 @@
 -- Which texts match a pattern (string(n), match), as a test. Patterns and texts are lists of characters.
-use Rattle.std.specs.Prelude.{ℕ, length, slice_index_or, List, [], ◌∷◌, ◌++◌, Bool, true, false, ◌||◌, ◌&&◌, ◌==◌, nat_le, if◌then◌else◌, Option, Some, None}
+use Rattle.std.specs.Prelude.{ℕ, [], ◌∷◌, Bool, true, false, ◌||◌, ◌&&◌, ◌==◌, if◌then◌else◌, Option, Some, None}
 use Rattle.std.specs.Str.{chars}
 use Rattle.tclchars.specs.Runs.{Text}
-
--- * ? [ ] \ and -
-abbrev pub star : ℕ
-star = 42
-
-abbrev pub question : ℕ
-question = 63
-
-abbrev pub open_bracket : ℕ
-open_bracket = 91
-
-abbrev pub close_bracket : ℕ
-close_bracket = 93
-
-abbrev pub backslash : ℕ
-backslash = 92
-
-abbrev pub dash : ℕ
-dash = 45
-
--- of a range either end may be the greater
-abbrev pub is_between : ℕ → ℕ → ℕ → Bool
-is_between low high c = nat_le low c && nat_le c high || nat_le high c && nat_le c low
-
--- what a pattern goes on with behind the next closing bracket; it is at its end where none follows
-abbrev pub behind_close : Text → Text
-behind_close [] = []
-behind_close (p ∷ ps) = if p == close_bracket then ps else behind_close ps
+use Rattle.tclpattern.specs.Patterns.{star, question, open_bracket, close_bracket, backslash, dash, is_between, behind_close}
 
 abbrev pub where_holds : Bool → Text → Option Text → Option Text
 where_holds true ps more = Some (behind_close ps)
@@ -47,12 +20,6 @@ behind_set c (low ∷ d ∷ high ∷ ps) =
     if low == close_bracket then None
     else if d == dash then where_holds (is_between low high c) ps (behind_set c ps)
     else where_holds (low == c) (d ∷ high ∷ ps) (behind_set c (d ∷ high ∷ ps))
-
--- the other end of an item that begins so, the same where it is a character, and what follows the item
-abbrev pub item : ℕ → Text → Option (ℕ × Text)
-item low [] = Some (low, [])
-item low (d ∷ []) = if d == dash then None else Some (low, d ∷ [])
-item low (d ∷ high ∷ ps) = if d == dash then Some (high, ps) else Some (low, d ∷ high ∷ ps)
 
 -- what follows one character is tested by rest: behind a set, and behind a backslash with the character that it stands for
 abbrev pub after_set : (Text → Bool) → Option Text → Bool
@@ -76,15 +43,6 @@ matches_first rest without c p ps =
 abbrev pub matches_from : (Text → Bool) → ℕ → Text → Bool
 matches_from rest c [] = false
 matches_from rest c (p ∷ ps) = matches_first rest (matches_from rest c ps) c p ps
-
--- what a test says of each end of a pattern, the shortest first
-abbrev pub tests : (Text → Bool) → Text → List Bool
-tests test [] = test [] ∷ []
-tests test (p ∷ ps) = tests test ps ++ test (p ∷ ps) ∷ []
-
--- what such a row says of an end of its pattern
-abbrev pub look : List Bool → Text → Bool
-look row end = slice_index_or row (length end) false
 
 -- the pattern matches no text
 abbrev pub matches_nothing : Text → Bool

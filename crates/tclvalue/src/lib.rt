@@ -23,7 +23,7 @@ mod truth_values;
 
 pub use command::value_command;
 pub use fault::ValueFault;
-pub use laws::division;
+pub use laws::{division, string_match};
 pub use operators::{binary, unary};
 pub use truth_values::truth;
 

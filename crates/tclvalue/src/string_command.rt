@@ -151,7 +151,7 @@ fn match_value(alloc: Global, operands: &[String], limit: usize) -> Result<Strin
     ensures { GivesWithin limit result (text_value texts.Match (map string_bytes operands.now)) }
 {
     match operands {
-        [pattern, text] => limited(truth_text(alloc, glob(alloc, pattern, text)?)?, limit),
+        [pattern, text] => limited(truth_text(alloc, glob(pattern, text))?, limit),
         _ => Err(wrong_words(alloc, "string")),
     }
 }

@@ -24,6 +24,23 @@ fn assert_value(rt: &impl Abort, alloc: Global, texts: &[&str], value: &str) -> 
 }
 
 // The number of the fault, and its text.
+fn assert_refused<T: Drop>(
+    rt: &impl Abort,
+    alloc: Global,
+    answer: Result<T, ValueFault>,
+    number: u16,
+    text: &str,
+) -> Result<(), Fail> {
+    match answer {
+        Ok(_) => assert!(rt; false, "{text}"),
+        Err(fault) => {
+            assert_eq!(rt; fault.number(), number);
+            assert_eq!(rt; fault.to_string(alloc)?.as_str(), text);
+        }
+    }
+    Ok(())
+}
+
 fn assert_fault(
     rt: &impl Abort,
     alloc: Global,
@@ -33,14 +50,7 @@ fn assert_fault(
     text: &str,
 ) -> Result<(), Fail> {
     let words = words(alloc, texts)?;
-    match value_command(alloc, &words, limit) {
-        Ok(_) => assert!(rt; false, "{texts:?}"),
-        Err(fault) => {
-            assert_eq!(rt; fault.number(), number);
-            assert_eq!(rt; fault.to_string(alloc)?.as_str(), text);
-        }
-    }
-    Ok(())
+    assert_refused(rt, alloc, value_command(alloc, &words, limit), number, text)
 }
 
 #[test]
@@ -78,28 +88,36 @@ fn operators(rt: HostRuntime) -> Result<(), Fail> {
 #[test]
 fn faults_of_operators(rt: HostRuntime) -> Result<(), Fail> {
     let alloc = rt.alloc();
-    let fault = binary(alloc, BinaryOperator::Divide, "1", "0").err();
-    assert!(rt; matches!(fault, Some(ValueFault::TclError(m)) if m.as_str() == "divide by zero"));
-    let fault = binary(alloc, BinaryOperator::Divide, "1.5", "0").err();
-    assert!(rt; matches!(fault, Some(ValueFault::FractionOperand)));
-    let fault = binary(alloc, BinaryOperator::Add, "9223372036854775807", "1").err();
-    assert!(rt; matches!(fault, Some(ValueFault::NumberTooLarge)));
-    let fault = binary(alloc, BinaryOperator::BitOr, "a", "1.5").err();
-    assert!(rt;
-        matches!(
-            fault,
-            Some(ValueFault::TclError(m))
-                if m.as_str() == "can't use non-numeric text as operand of \"|\""
-        )
-    );
-    let fault = truth(alloc, "maybe").err();
-    assert!(rt;
-        matches!(
-            fault,
-            Some(ValueFault::TclError(m)) if m.as_str() == "expected boolean value but got \"maybe\""
-        )
-    );
-    Ok(())
+    let answer = binary(alloc, BinaryOperator::Divide, "1", "0");
+    assert_refused(&rt, alloc, answer, 13, "divide by zero")?;
+    let answer = binary(alloc, BinaryOperator::ShiftLeft, "1", "-1");
+    assert_refused(&rt, alloc, answer, 13, "negative shift argument")?;
+    let answer = binary(alloc, BinaryOperator::Divide, "1.5", "0");
+    assert_refused(
+        &rt,
+        alloc,
+        answer,
+        18,
+        "A number with a fraction is not computed",
+    )?;
+    let answer = binary(alloc, BinaryOperator::Add, "9223372036854775807", "1");
+    assert_refused(&rt, alloc, answer, 17, "A number is too large")?;
+    let answer = binary(alloc, BinaryOperator::BitOr, "a", "1.5");
+    assert_refused(
+        &rt,
+        alloc,
+        answer,
+        13,
+        "can't use non-numeric text as operand of \"|\"",
+    )?;
+    let answer = truth(alloc, "maybe");
+    assert_refused(
+        &rt,
+        alloc,
+        answer,
+        13,
+        "expected boolean value but got \"maybe\"",
+    )
 }
 
 #[test]
