@@ -39,7 +39,7 @@ pub enum TextFault {
 }
 
 impl TextFault {
-    /// The number of the fault.
+    /// The number of the fault: 1 to 9, in the order above.
     pub fn number(&self) -> u16
         ensures { result ≡ fault_number self.now }
     {

@@ -37,12 +37,14 @@ impl<'a> Source<&'a str> for &'a str {
 /// Where a piece stands in its source, in bytes.
 #[derive(Clone, Copy, Debug, Drop, PartialEq, Eq)]
 pub struct ByteRange {
+    /// The place of the first byte, from 0.
     pub start: usize,
+    /// The place behind the last byte.
     pub end: usize,
 }
 
 impl ByteRange {
-    /// What stands there in the text; nothing where the range cuts a character.
+    /// What stands there in the text; nothing where the range cuts a character, ends before it starts, or ends past the text.
     pub fn of(self, text: &str) -> &str
         ensures { result.now ≡ between text.now self.start self.end }
     {

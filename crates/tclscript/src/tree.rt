@@ -2,6 +2,7 @@
 #[cycle(tree)]
 #[derive(Debug, Drop)]
 pub struct Script<P> {
+    /// The commands, in order.
     pub commands: Vec<Command<P>>,
 }
 
@@ -11,6 +12,7 @@ pub struct Script<P> {
 pub struct Command<P> {
     /// The text of the first word, as it stands in the source.
     pub source: P,
+    /// The words, of which there is one at least.
     pub words: Vec<Word<P>>,
 }
 
@@ -20,6 +22,7 @@ pub struct Command<P> {
 pub struct Word<P> {
     /// Whether `{*}` stands in front: the elements of its list are words of the command.
     pub expands: bool,
+    /// The parts, of which the word in empty quotes has none.
     pub parts: Vec<Part<P>>,
 }
 
