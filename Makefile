@@ -1,19 +1,36 @@
 # Builds, shows and tests the program modulecmd.
 #
 #   make build   proves the crates and leaves the program at build/bin/modulecmd
-#   make demo    builds it, and shows a load and an unload in a POSIX shell
-#   make test    the merge gate `rt ci`, and the tests over real folders and real shells
-#   make bench   the instructions of a load, beside a native program that reads one file
+#   make install PREFIX=/opt/modulecmd DESTDIR=
+#                lays out the program, the init files, completion and the pages below a prefix, and `make uninstall`
+#                takes them away
+#   make demo    installs it below build/demo, and shows a load and an unload in a POSIX shell
+#   make test    the merge gate `rt ci`, the tests over real folders and real shells, and what each part took
+#   make bench   a table of ratios beside a native program, Environment Modules and Lmod, and instructions where
+#                something grows (some minutes)
 
-.PHONY: build demo test bench clean
+PREFIX ?= /opt/modulecmd
+DESTDIR ?=
+
+.PHONY: build install uninstall demo test bench clean
 
 build:
 	sh tools/build.sh
 
+build/bin/modulecmd:
+	sh tools/build.sh
+
+install: build/bin/modulecmd
+	sh tools/product.sh install '$(DESTDIR)' '$(PREFIX)' build/bin/modulecmd
+
+uninstall:
+	sh tools/product.sh uninstall '$(DESTDIR)' '$(PREFIX)'
+
 demo:
 	sh tools/install.sh demo
 	sh tools/build.sh
-	sh demo/demo.sh build/bin/modulecmd
+	sh tools/product.sh install '' '$(CURDIR)/build/demo' build/bin/modulecmd
+	sh demo/demo.sh build/demo
 
 test:
 	sh tools/install.sh shells

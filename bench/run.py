@@ -1,111 +1,147 @@
-"""Counts the instructions of a load by callgrind, beside a native program that reads one file.
+"""What commands take, beside a native program that reads one file, and beside Environment Modules and Lmod.
 
-What grows is the environment, and the modulefile. Each row has the instructions of one load; `a further one` is the
-difference to the row above by each variable or command more.
+    run.py PROGRAM
 
-Callgrind gives the process another environment than the system keeps for it, so the program there asks for its
-variables one by one, which grows with the square of their number. The time of the same loads without callgrind is
-printed too, and shows how they really grow.
+prints a table of ratios, all of one run: each number says how many times the processor time of the native program a
+command takes. The commands of a row take turns, and the least time of each counts. Behind it stand the instructions
+of a load, counted by callgrind, where something grows.
+
+    run.py PROGRAM instructions | times
+
+prints one of the two.
 """
 
 import os
-import re
-import resource
 import shutil
 import subprocess
 import sys
 import tempfile
 
+from instructions import print_instructions
+from tools import HOW_TO_INSTALL, Null, find_tools
+
 HERE = os.path.dirname(os.path.abspath(__file__))
-COLLECTED = re.compile(rb"Collected *: *(\d+)")
+
+# The rounds of a row, and the seconds after which a tool has had enough of them.
+ROUNDS = 20
+ENOUGH = 3.0
+
+TURNS = 33_000
+ENTRIES = 2_000
+VARIABLES = 5_000
 
 
-def instructions(folder, command, env):
-    """The instructions of a command, which has to end with status 0."""
-    done = subprocess.run(
-        ["valgrind", "--tool=callgrind", "--callgrind-out-file=" + os.path.join(folder, "callgrind"), *command],
-        env=env,
-        stdin=subprocess.DEVNULL,
-        capture_output=True,
-        check=False,
-    )
-    found = COLLECTED.search(done.stderr)
-    if done.returncode != 0 or not found:
-        sys.exit(f"{command} ended with status {done.returncode}:\n{done.stderr.decode(errors='replace')}")
-    return int(found[1])
-
-
-def module(folder, name, text):
-    path = os.path.join(folder, "m", name)
+def write(path, text):
     os.makedirs(os.path.dirname(path), exist_ok=True)
     with open(path, "w") as file:
         file.write("#%Module\n" + text)
-    return path
 
 
-def environment(folder, variables):
-    env = {"MODULEPATH": os.path.join(folder, "m"), "PATH": "/usr/bin:/bin"}
-    for number in range(variables):
-        env[f"VARIABLE_{number}"] = f"value {number}"
-    return env
+def tree(folder, names, versions):
+    """A folder of modulefiles."""
+    for name in range(names):
+        for version in range(versions):
+            write(os.path.join(folder, f"name{name}", f"{version}.0"), f"setenv NAME{name} {version}\n")
 
 
-def nanoseconds(command, env):
-    """The least processor time of twenty runs of a command."""
-    best = None
-    for _ in range(20):
-        before = resource.getrusage(resource.RUSAGE_CHILDREN)
-        subprocess.run(command, env=env, stdin=subprocess.DEVNULL, capture_output=True, check=True)
-        after = resource.getrusage(resource.RUSAGE_CHILDREN)
-        spent = after.ru_utime + after.ru_stime - before.ru_utime - before.ru_stime
-        best = spent if best is None else min(best, spent)
-    return int(best * 1e9)
+class Row:
+    """A command, and where it starts: the variables, and the modules that are loaded before, one by one."""
+
+    def __init__(self, title, words, env, before=()):
+        self.title = title
+        self.words = words
+        self.env = env
+        self.before = before
 
 
-def growth(title, rows):
-    """Prints rows of a count and what it costs."""
-    print(f"\n{title}")
-    before = None
-    for count, spent in rows:
-        more = "" if before is None else f"   a further one: {(spent - before[1]) / (count - before[0]):10,.0f}"
-        print(f"{count:8,} {spent:14,}{more}")
-        before = (count, spent)
+def rows(folder):
+    """The cases of the table."""
+    few = os.path.join(folder, "few")
+    for number in range(20):
+        write(os.path.join(few, f"m{number}", "1.0"), f"setenv M{number} on\nprepend-path PATH /opt/m{number}/bin\n")
+    write(os.path.join(few, "loop", "1.0"), f"set i 0\nwhile {{$i < {TURNS}}} {{incr i}}\nsetenv TURNS $i\n")
+    tree(os.path.join(folder, "2000"), 400, 5)
+    tree(os.path.join(folder, "20000"), 4000, 5)
+    twenty = [f"m{number}/1.0" for number in range(20)]
+
+    def env(modules, **variables):
+        base = {"MODULEPATH": os.path.join(folder, modules), "PATH": "/usr/bin:/bin", "HOME": folder, "LANG": "C.UTF-8"}
+        return {**base, **variables}
+
+    entries = "/usr/bin:/bin:" + ":".join(f"/opt/entry{number}/bin" for number in range(ENTRIES))
+    many = {f"VARIABLE_{number}": f"value {number}" for number in range(VARIABLES)}
+    return [
+        Row("load 1", ["load", "m0/1.0"], env("few")),
+        Row("load 20 in one command", ["load", *twenty], env("few")),
+        Row("unload 1 of 1", ["unload", "m0/1.0"], env("few"), twenty[:1]),
+        Row("unload 1 of 20", ["unload", "m7/1.0"], env("few"), twenty),
+        Row("purge 20", ["purge"], env("few"), twenty),
+        Row("list 20", ["list"], env("few"), twenty),
+        Row("avail, 2,000 files", ["avail"], env("2000")),
+        Row("avail, 20,000 files", ["avail"], env("20000")),
+        Row("load 1 of 20,000 files", ["load", "name2000/3.0"], env("20000")),
+        Row(f"load, a Tcl loop of {TURNS:,} turns", ["load", "loop/1.0"], env("few")),
+        Row(f"load 1, PATH of {ENTRIES:,} entries", ["load", "m0/1.0"], env("few", PATH=entries)),
+        Row(f"load 1, {VARIABLES:,} variables", ["load", "m0/1.0"], env("few", **many)),
+    ]
+
+
+def spent(command, env, out=os.devnull):
+    """The seconds of processor time of a command, and whether it ended with status 0."""
+    quiet = os.open(os.devnull, os.O_RDWR)
+    written = os.open(out, os.O_WRONLY | os.O_CREAT | os.O_TRUNC, 0o600)
+    actions = [(os.POSIX_SPAWN_DUP2, number, place) for place, number in ((0, quiet), (1, written), (2, quiet))]
+    _, status, usage = os.wait4(os.posix_spawn(command[0], command, env, file_actions=actions), 0)
+    os.close(quiet)
+    os.close(written)
+    return usage.ru_utime + usage.ru_stime, status == 0
+
+
+def measured(tools, row, folder):
+    """The least time of each tool that can do it."""
+    starts, least, total = {}, {}, {}
+    out = os.path.join(folder, "out")
+    for tool in tools:
+        starts[tool] = tool.start(row)
+        if starts[tool] is not None:
+            seconds, accepted = spent(tool.command(row), starts[tool], out)
+            if accepted and tool.accepted(out):
+                least[tool] = total[tool] = seconds
+    for turn in range(ROUNDS):
+        for tool in least:
+            # What a first command keeps for later ones counts for these.
+            if turn == 0 or total[tool] < ENOUGH:
+                seconds, _ = spent(tool.command(row), starts[tool])
+                least[tool] = min(least[tool], seconds)
+                total[tool] += seconds
+    return least
+
+
+def print_times(tools, folder):
+    others = tools[1:]
+    print("Processor time, as a multiple of that of a native program that reads one file (its own in milliseconds):\n")
+    print(f"{'':36}{'null':>10}" + "".join(f"{tool.title:>28}" for tool in others))
+    for row in rows(folder):
+        least = measured(tools, row, folder)
+        null = least[tools[0]]
+        cells = [f"{least[tool] / null:,.1f}" if tool in least else tool.cannot for tool in others]
+        print(f"{row.title:36}{null * 1000:8.2f}ms" + "".join(f"{cell:>28}" for cell in cells), flush=True)
+    print(HOW_TO_INSTALL)
 
 
 def main():
     program = os.path.abspath(sys.argv[1])
+    part = sys.argv[2] if len(sys.argv) > 2 else ""
     folder = tempfile.mkdtemp(prefix="modulecmd-bench-")
-    null = os.path.join(folder, "null")
-    subprocess.run(["rustc", "-O", "-o", null, os.path.join(HERE, "null.rs")], check=True)
-    foo = module(folder, "foo/1.0", "setenv FOO on\nprepend-path PATH /opt/foo/bin\n")
-
-    def load(name, variables):
-        return instructions(folder, [program, "sh", "load", name], environment(folder, variables))
-
-    base = instructions(folder, [null, foo], environment(folder, 0))
-    one = load("foo/1.0", 0)
-    print(f"a native program that reads the file: {base:14,}")
-    print(f"a load of the module:                 {one:14,}   {one / base:.2f} times as many")
-    sizes = (10, 100, 1000)
-    growth("variables in the environment", [(count, load("foo/1.0", count)) for count in sizes])
-    growth(
-        "variables in the environment, in nanoseconds of processor time",
-        [
-            (count, nanoseconds([program, "sh", "load", "foo/1.0"], environment(folder, count)))
-            for count in (10, 100, 1000, 10000, 20000)
-        ],
-    )
-    for form, title in (
-        ("setenv V{0} v{0}\n", "setenv, each of another variable"),
-        ("prepend-path V{0} /v{0}\n", "prepend-path, each of another variable"),
-    ):
-        rows = []
-        for count in sizes:
-            name = f"{form.split()[0]}/{count}"
-            module(folder, name, "".join(form.format(number) for number in range(count)))
-            rows.append((count, load(name, 0)))
-        growth(title, rows)
-    shutil.rmtree(folder)
+    try:
+        null = os.path.join(folder, "null")
+        subprocess.run(["rustc", "-O", "-o", null, os.path.join(HERE, "null.rs")], check=True)
+        if part != "instructions":
+            print_times([Null(null), *find_tools(program)], folder)
+        if part != "times":
+            print_instructions(folder, null, program)
+    finally:
+        shutil.rmtree(folder)
 
 
 if __name__ == "__main__":

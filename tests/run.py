@@ -1,13 +1,44 @@
-"""Runs the merge gate and then the tests outside it. The last line counts both."""
+"""Runs the merge gate, and then the tests outside it over the programs that the gate proved and built.
+
+At the end stands a table of the processor time of each part. The last line counts what passed and what failed.
+"""
 
 import os
 import re
+import shutil
 import subprocess
 import sys
 
+from times import Sampler, children_seconds, table
+
 HERE = os.path.dirname(os.path.abspath(__file__))
 TOP = os.path.dirname(HERE)
+BUILT = os.path.join(TOP, "build", "bin")
 COUNTS = re.compile(r"(\d+) passed, (\d+) failed")
+
+# What the gate leaves in the folder out/ of a crate, by the name that the tests outside it know it by.
+PROGRAMS = {
+    "modulecmd": ("modulecmd_main", "modulecmd_main"),
+    "tcltext_cases": ("tcltext_cases", "tcltext_cases"),
+    "tclvalue_cases": ("tclvalue_cases", "tclvalue_cases"),
+    "envstate_rows_tests": ("envstate_rows", "envstate_rows_tests"),
+}
+
+# The tests outside the gate: a script, and what it is given.
+SUITES = (
+    ("program.py", "modulecmd"),
+    ("memory.py", "modulecmd"),
+    ("shells/run.py", "modulecmd"),
+    ("allocations.py", "envstate_rows_tests"),
+    ("tcl/compare.py", "tcltext_cases"),
+    ("tcl/values.py", "tclvalue_cases"),
+    ("tcl/memory.py", ""),
+)
+
+
+def left_by_the_gate(name):
+    crate, file = PROGRAMS[name]
+    return os.path.join(TOP, "crates", crate, "out", file)
 
 
 def counted(command):
@@ -29,21 +60,32 @@ def counted(command):
     return passed, failed
 
 
+def gate():
+    """Runs the gate. What an earlier run built is removed first, so that what is there afterwards is this gate's."""
+    shutil.rmtree(BUILT, ignore_errors=True)
+    for name in PROGRAMS:
+        if os.path.exists(left_by_the_gate(name)):
+            os.remove(left_by_the_gate(name))
+    counts = counted(["rt", "ci"])
+    os.makedirs(BUILT, exist_ok=True)
+    for name in PROGRAMS:
+        if os.path.exists(left_by_the_gate(name)):
+            shutil.copy(left_by_the_gate(name), os.path.join(BUILT, name))
+    return counts
+
+
 def main():
-    program = os.path.join(TOP, "build", "bin", "modulecmd")
-    build = subprocess.run(["make", "build"], cwd=TOP, check=False)
-    commands = [["rt", "ci"]]
-    for name in ("program", "memory", "allocations", "shells"):
-        commands.append([sys.executable, "-B", os.path.join(HERE, name + ".py"), program])
-    for name, compare in (("tcltext_cases", "compare.py"), ("tclvalue_cases", "values.py")):
-        subprocess.run(["sh", os.path.join(TOP, "tools", "cases.sh"), name], cwd=TOP, check=False)
-        commands.append([sys.executable, "-B", os.path.join(HERE, "tcl", compare), os.path.join(TOP, "build", "bin", name)])
-    commands.append([sys.executable, "-B", os.path.join(HERE, "tcl", "memory.py"), os.path.join(TOP, "build", "bin")])
-    passed, failed = 0, 0 if build.returncode == 0 else 1
-    for command in commands:
-        more = counted(command)
+    start = children_seconds()
+    with Sampler(os.getpid()) as sampler:
+        passed, failed = gate()
+    spent = {"rt ci": children_seconds() - start}
+    for script, program in SUITES:
+        before = children_seconds()
+        more = counted([sys.executable, "-B", os.path.join(HERE, script), os.path.join(BUILT, program)])
+        spent[script] = children_seconds() - before
         passed += more[0]
         failed += more[1]
+    print(table(sampler.crates(), spent))
     print(f"{passed} passed, {failed} failed")
     return 1 if failed else 0
 

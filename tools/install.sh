@@ -2,6 +2,7 @@
 # Installs what the example (`demo`), the tests (`shells`) and the measurements (`bench`) need, where it is missing.
 # What apt-get cannot install stays missing, and whoever needs it says so.
 set -eu
+cd "$(dirname "$0")/.."
 
 # Installs a package where none of its commands or files is there.
 need() {
@@ -16,6 +17,7 @@ need() {
 }
 
 missing=
+unpacked=
 case $1 in
     demo)
         need python3 python3
@@ -27,6 +29,10 @@ case $1 in
         need ksh93u+m ksh93
         need mksh mksh
         need zsh zsh
+        need tcsh tcsh
+        need fish fish
+        need mandoc mandoc
+        need shellcheck shellcheck
         need tcl tclsh
         need gcc cc
         need libc6-dev /usr/include/stdlib.h
@@ -35,13 +41,27 @@ case $1 in
         need python3 python3
         need valgrind valgrind
         need rustc rustc
+        need tcl tclsh
+        need lua5.3 lua5.3
+        need lua-posix /usr/share/lua/5.3/posix/init.lua
+        need lua-filesystem /usr/lib/*/lua/5.3/lfs.so
+        need lua-json /usr/share/lua/5.3/json.lua
+        need lua-term /usr/share/lua/5.3/term/init.lua
+        # These two conflict.
+        if test -e /usr/share/lmod; then
+            unpacked=environment-modules
+        else
+            need environment-modules /usr/share/modules/init/sh
+            unpacked=lmod
+        fi
+        test -e "build/bench/$unpacked" && unpacked=
         ;;
 esac
-if test -z "$missing"; then
+if test -z "$missing$unpacked"; then
     exit 0
 fi
 if ! command -v apt-get > /dev/null 2>&1 || test "$(id -u)" != 0; then
-    echo "missing, and not installed:$missing" >&2
+    echo "missing, and not installed:$missing $unpacked" >&2
     exit 0
 fi
 apt-get update > /dev/null 2>&1 || true
@@ -49,3 +69,8 @@ for package in $missing; do
     apt-get install -y --no-install-recommends "$package" > /dev/null 2>&1 \
         || echo "missing, and apt-get has no $package" >&2
 done
+if test -n "$unpacked"; then
+    mkdir -p build/bench/packages
+    (cd build/bench/packages && apt-get download "$unpacked" > /dev/null 2>&1 && dpkg -x "$unpacked"_*.deb "../$unpacked") \
+        || echo "missing, and apt-get has no $unpacked" >&2
+fi

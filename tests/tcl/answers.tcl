@@ -3,6 +3,8 @@
 #   list TEXT              ok and the elements, or error
 #   glob PATTERN TEXT      1 or 0
 #   script TEXT            ok and the words of each command that ran, parted by `;`, or error and its message
+#   expr TEXT              error where the text is no expression, else ok
+#   expr TEXT OTHER        same where both texts have one value, or one error that no syntax is, else what they have
 #   value WORD...          ok and the result, or error and its message
 
 fconfigure stdin -translation lf -encoding utf-8
@@ -51,6 +53,33 @@ proc answer_script {text} {
     return "ok [join $::commands {;}]"
 }
 
+# the messages of tclsh for texts that are no expressions
+proc is_syntax {message} {
+    regexp {^(missing operand|missing operator|unbalanced|unexpected|invalid character|invalid bareword|incomplete|empty expression|empty subexpression|syntax error|missing close|missing \"|unknown math|extra|variable name)} $message
+}
+
+proc valued {text} {
+    if {[catch {expr $text} value]} {
+        if {[is_syntax $value]} {
+            return "error [shown $value]"
+        }
+        return "raised [shown $value]"
+    }
+    return "value [shown $value]"
+}
+
+proc answer_expr {texts} {
+    set first [valued [lindex $texts 0]]
+    if {[llength $texts] == 1} {
+        return [expr {[string match error* $first] ? $first : "ok $first"}]
+    }
+    set second [valued [lindex $texts 1]]
+    if {$first eq $second && ![string match error* $first]} {
+        return same
+    }
+    return "first $first second $second"
+}
+
 interp create words
 interp eval words {
     rename unknown {}
@@ -68,6 +97,7 @@ interp alias words unknown {} record
 proc answer {verb texts} {
     switch -- $verb {
         list {answer_list [lindex $texts 0]}
+        expr {answer_expr $texts}
         glob {string match [lindex $texts 0] [lindex $texts 1]}
         script {answer_script [lindex $texts 0]}
         value {

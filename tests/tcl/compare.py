@@ -4,6 +4,7 @@ The program `tcltext_cases` and answers.tcl read the same calls from standard in
 Each known difference stands in DIFFERENCES with the rule of the profile (docs/DEFINITIONS.md) that means it."""
 
 import random
+import re
 import subprocess
 import sys
 import os
@@ -29,6 +30,12 @@ PATTERN_TEXT = list("aabb]-^\\é")
 SCRIPT = list("aab {}]\"\\ \n\r\v\f;#") + ["\\x41", "\\x4", "\\400", "\\u00e9", "\\n", "{a b}", "\"a b\"", "\\\n ", "é"]
 
 
+OPERAND = ["0", "1", "2", "7", "0x1F", "010", "1.5", "2e1", ".5", "{3}", "true", "no"]
+OPERATOR = ["+", "-", "*", "/", "%", "<<", ">>", "<", ">", "<=", ">=", "==", "!=", " eq ", " ne ", " in ", " ni ", "&", "^", "|", "&&", "||"]
+NOISE = ["(", ")", "?", ":", " ", "\t", "\\\n", "**", "1 1", "a(", "~", "!", "-", "+"]
+ELEMENT = list("aab {}[]$\"\\ \n\t;#") + ["é", "{a}", "{*}"]
+
+
 def list_call(draw):
     return "list " + shown(made(draw, LIST, 12))
 
@@ -41,7 +48,32 @@ def script_call(draw):
     return "script " + shown(made(draw, SCRIPT, 14))
 
 
-GENERATORS = [list_call, glob_call, script_call]
+def expression(draw, depth):
+    form = draw.randint(0, 9) if depth else 0
+    if form < 4:
+        return draw.choice(OPERAND)
+    if form < 5:
+        return draw.choice("-+~!") + expression(draw, depth - 1)
+    if form < 6:
+        return "(" + expression(draw, depth - 1) + ")"
+    if form < 7:
+        return expression(draw, depth - 1) + "?" + expression(draw, depth - 1) + ":" + expression(draw, depth - 1)
+    return expression(draw, depth - 1) + draw.choice(OPERATOR) + expression(draw, depth - 1)
+
+
+def expr_call(draw):
+    text = expression(draw, 4)
+    if draw.random() < 0.3:
+        at = draw.randint(0, len(text))
+        text = text[:at] + draw.choice(NOISE) + text[at:]
+    return "expr " + shown(text)
+
+
+def write_call(draw):
+    return " ".join(["write"] + [shown(made(draw, ELEMENT, 6)) for _ in range(draw.randint(1, 4))])
+
+
+GENERATORS = [list_call, glob_call, script_call, expr_call, write_call]
 
 # The rules of the profile by which an answer differs from tclsh's: a name, and a test of call, our answer and tclsh's.
 DIFFERENCES = []
@@ -53,6 +85,23 @@ def difference(rule):
         DIFFERENCES.append((rule, test))
         return test
     return add
+
+
+def text_of(call):
+    return bytes.fromhex(call.split()[1].replace("-", "")).decode()
+
+
+@difference("`**` is left out")
+def power(call, ours, _theirs):
+    return call.startswith("expr ") and ours == "fault 8" and "**" in text_of(call)
+
+
+LEVELS = (("==", "!="), ("eq", "ne"), ("in", "ni"))
+
+
+@difference("`== !=`, `eq ne` and `in ni` have three levels, as expr(n) lists them, and one in tclsh")
+def equality(call, ours, _theirs):
+    return call.startswith("expr ") and ours == "same" and sum(any(o in text_of(call) for o in level) for level in LEVELS) > 1
 
 
 FAULTS = {
@@ -74,6 +123,31 @@ def agree(call, ours, theirs):
     return True
 
 
+def plain(call, answer):
+    """The answer without what tclsh doesn't say: the places of commands and of faults."""
+    if call.startswith("script "):
+        answer = re.sub(r"(^ok |;)[0-9]+:", r"\1", answer)
+    return re.sub(r"^(fault [0-9]+) [0-9]+$", r"\1", answer)
+
+
+def question(call, answer):
+    """What tclsh is asked: of an expression that was read also the text that shows how it was read, and of a list the elements."""
+    if call.startswith("expr ") and answer.startswith("ok "):
+        return f"{call} {answer[3:]}"
+    if call.startswith("write "):
+        return "list " + answer[3:]
+    return call
+
+
+def wanted(call, answer):
+    """What tclsh is to answer."""
+    if call.startswith("expr ") and answer.startswith("ok "):
+        return "same"
+    if call.startswith("write "):
+        return "ok " + ",".join(call.split()[1:])
+    return answer
+
+
 def answers(command, calls):
     ran = subprocess.run(command, input="\n".join(calls) + "\n", capture_output=True, encoding="utf-8", timeout=SECONDS, check=True)
     return ran.stdout.split("\n")[: len(calls)]
@@ -82,8 +156,9 @@ def answers(command, calls):
 def main():
     draw = random.Random(SEED)
     calls = [generate(draw) for generate in GENERATORS for _ in range(CASES)]
-    ours = answers([sys.argv[1]], calls)
-    theirs = answers(["tclsh", os.path.join(HERE, "answers.tcl")], calls)
+    ours = [plain(call, answer) for call, answer in zip(calls, answers([sys.argv[1]], calls), strict=True)]
+    theirs = answers(["tclsh", os.path.join(HERE, "answers.tcl")], list(map(question, calls, ours)))
+    ours = list(map(wanted, calls, ours))
     explained, failed = {}, []
     for call, one, other in zip(calls, ours, theirs, strict=True):
         if agree(call, one, other):

@@ -1,6 +1,7 @@
 //! Edits of an environment, made one after the other.
 use envstate::{
-    End, Env, EnvFault, Loaded, add_loaded, add_path, drop_loaded, drop_path, pop_value, push_value,
+    End, Env, EnvFault, Loaded, Vars, Working, add_loaded, add_path, drop_loaded, drop_path,
+    pop_value, push_value,
 };
 use std::alloc::{AllocError, Global};
 use std::process::Abort;
@@ -54,16 +55,13 @@ fn entry(alloc: Global, module: Module<'_>) -> Result<Loaded, AllocError> {
 }
 
 /// Makes an edit.
-pub(crate) fn make(alloc: Global, env: &mut Env, edit: Edit<'_>) -> Result<(), EnvFault> {
+pub(crate) fn make<V: Vars>(alloc: Global, env: &mut V, edit: Edit<'_>) -> Result<(), EnvFault> {
     match edit {
         Edit::Set(name, value) => env.set(name, value),
-        Edit::Unset(name) => {
-            env.unset(name);
-            Ok(())
-        }
-        Edit::Prepend(name, elements) => add_path(alloc, env, name, elements, End::Front),
-        Edit::Append(name, elements) => add_path(alloc, env, name, elements, End::Back),
-        Edit::Remove(name, elements) => drop_path(alloc, env, name, elements),
+        Edit::Unset(name) => env.unset(name),
+        Edit::Prepend(name, elements) => add_path(alloc, env, name, ':', elements, End::Front),
+        Edit::Append(name, elements) => add_path(alloc, env, name, ':', elements, End::Back),
+        Edit::Remove(name, elements) => drop_path(alloc, env, name, ':', elements),
         Edit::Push(name, owner, value) => push_value(alloc, env, name, owner, value),
         Edit::Pop(name, owner) => pop_value(alloc, env, name, owner),
         Edit::Load(module) => add_loaded(alloc, env, &entry(alloc, module)?),
@@ -105,5 +103,23 @@ pub(crate) fn walk(rt: &impl Abort, alloc: Global, rows: &[Row<'_>]) -> Result<(
         assert_eq!(rt; refusal, *number, "at {variables}");
         before = *variables;
     }
+    let env = worked(alloc, rows)?;
+    let after = shown(alloc, &env)?;
+    assert_eq!(rt; after.as_str(), before, "over an old environment");
     Ok(())
+}
+
+/// Makes the same edits over an environment without variables that stays as it is, and answers what has changed then.
+pub(crate) fn worked(alloc: Global, rows: &[Row<'_>]) -> Result<Env, EnvFault> {
+    let old = Env::new(alloc);
+    let mut working = Working::over(&old);
+    for (edit, _, _) in rows {
+        match make(alloc, &mut working, *edit) {
+            Err(EnvFault::OutOfMemory) => return Err(EnvFault::OutOfMemory),
+            _ => {}
+        }
+    }
+    let mut env = old.copy()?;
+    env.apply(working.into_changes()?)?;
+    Ok(env)
 }

@@ -204,3 +204,23 @@ fn words_that_are_passed_over(rt: HostRuntime) -> Result<(), Fail> {
         ],
     )
 }
+
+#[test]
+fn an_element_without_a_mark_names_nothing(rt: HostRuntime) -> Result<(), Fail> {
+    let alloc = rt.alloc();
+    let mut env = Env::new(alloc);
+    env.set("LOADEDMODULES", "a/1")?;
+    env.set("_LMFILES_", "/a/1")?;
+    env.set("__MODULES_LMCONFLICT", "a/1:a/1&d")?;
+    env.set("__MODULES_LMPREREQ", "a/1:a/1&e")?;
+    let conflicts = conflicts_of(alloc, &env, "a/1")?;
+    let conflicts = listed(alloc, conflicts.as_slice())?;
+    assert_eq!(rt; conflicts.as_str(), "d");
+    let groups = prereqs_of(alloc, &env, "a/1")?;
+    assert_eq!(rt; groups.len(), 1);
+    for group in &groups {
+        let names = listed(alloc, group.as_slice())?;
+        assert_eq!(rt; names.as_str(), "e");
+    }
+    Ok(())
+}

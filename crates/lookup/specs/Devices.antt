@@ -23,3 +23,8 @@ fault_of_kind _ = fault.Device
 abbrev pub there : {X : Type 0} → Result X Error → Result (Option X) TreeFault
 there (Ok found) = Ok (Some found)
 there (Err e) = if is_absence (error_kind e) then Ok None else Err (fault_of_kind (error_kind e))
+
+-- what the system's answer gives of a thing that is there, which no error makes absent
+abbrev pub contents : {X : Type 0} → Result X Error → Result (Option X) TreeFault
+contents (Ok found) = Ok (Some found)
+contents (Err e) = Err (fault_of_kind (error_kind e))

@@ -3,7 +3,7 @@ ghost use Rattle.std.specs.Prelude.{◌≡◌, ◌<◌, ◌≤◌, ℕ, List, ma
 ghost use Rattle.std.specs.BTreeMap.{get_by_text};
 ghost use Rattle.lookup.specs.Agreement.{Files, Folders, Shows, HasCause, file_answer, folder_answer, kept, kept-answer};
 ghost use Rattle.std.specs.IoError.{error_kind};
-ghost use Rattle.lookup.specs.Devices.{fault_of_kind, is_absence, there};
+ghost use Rattle.lookup.specs.Devices.{contents, fault_of_kind, is_absence, there};
 
 use crate::memory::copy_names;
 use crate::tree::{Tree, TreeFault};
@@ -36,7 +36,7 @@ fn fault_of(e: &io::Error) -> TreeFault
     }
 }
 
-// No name leads to anything there, or the text has a NUL, so that it is no name.
+/// No name leads to anything there, or the text has a NUL, so that it is no name.
 fn is_absence(e: &io::Error) -> bool
     ensures { result ≡ is_absence (error_kind e.now) }
 {
@@ -48,7 +48,7 @@ fn is_absence(e: &io::Error) -> bool
     }
 }
 
-// What the system's answer says is there.
+/// What the system's answer says is there.
 fn there<X: Drop>(answer: io::Result<X>) -> Result<Option<X>, TreeFault>
     ensures { result ≡ there answer }
 {
@@ -64,26 +64,26 @@ fn there<X: Drop>(answer: io::Result<X>) -> Result<Option<X>, TreeFault>
     }
 }
 
-// A file is opened only once it is known to be one, since opening a pipe or a device waits, or reads without end.
-fn load_file<R: Files + AllocGlobal>(rt: &R, path: &str) -> Result<Option<Vec<u8>>, TreeFault> {
-    match there(fs::metadata(rt, path))? {
-        None => return Ok(None),
-        Some(found) => {
-            if !found.is_file() {
-                return Ok(None);
-            }
-        }
-    }
-    match fs::read(rt, path) {
-        Ok(bytes) => Ok(Some(bytes)),
+/// What is in the thing that is there: no error of opening or reading it is its absence.
+fn contents<X: Drop>(answer: io::Result<X>) -> Result<Option<X>, TreeFault>
+    ensures { result ≡ contents answer }
+{
+    match answer {
+        Ok(found) => Ok(Some(found)),
         Err(e) => Err(fault_of(&e)),
     }
 }
 
-fn list_folder<R: Files + AllocGlobal + Clone + Drop>(
-    rt: &R,
-    dir: &str,
-) -> io::Result<Vec<String>> {
+/// A file is opened only once it is known to be one, since opening a pipe or a device waits, or reads without end.
+fn load_file<R: Files + AllocGlobal>(rt: &R, path: &str) -> Result<Option<Vec<u8>>, TreeFault> {
+    match there(fs::metadata(rt, path))? {
+        Some(found) if found.is_file() => contents(fs::read(rt, path)),
+        _ => Ok(None),
+    }
+}
+
+/// The names in a directory, hidden ones too, in the system's order.
+fn names_in<R: Files + AllocGlobal + Clone + Drop>(rt: &R, dir: &str) -> io::Result<Vec<String>> {
     let mut names = Vec::new(rt.alloc());
     for entry in fs::read_dir(rt, dir)? {
         let entry = entry?;
@@ -97,16 +97,8 @@ fn load_folder<R: Files + AllocGlobal + Clone + Drop>(
     dir: &str,
 ) -> Result<Option<Vec<String>>, TreeFault> {
     match there(fs::metadata(rt, dir))? {
-        None => return Ok(None),
-        Some(found) => {
-            if !found.is_dir() {
-                return Ok(None);
-            }
-        }
-    }
-    match list_folder(rt, dir) {
-        Ok(names) => Ok(Some(names)),
-        Err(e) => Err(fault_of(&e)),
+        Some(found) if found.is_dir() => contents(names_in(rt, dir)),
+        _ => Ok(None),
     }
 }
 
@@ -146,7 +138,7 @@ impl<R: Files + AllocGlobal + Clone + Drop> DiskTree<R> {
         }
     }
 
-    // The fault, with a failure of the device counted. The count has a last value, past which none is told.
+    /// The fault, with a failure of the device counted. The count has a last value, past which none is told.
     fn counted(&mut self, fault: TreeFault) -> TreeFault
         ensures files { self.new.files ≡ self.old.files }
         ensures folders { self.new.folders ≡ self.old.folders }

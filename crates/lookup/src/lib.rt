@@ -15,6 +15,3 @@ pub use modulefile::{Modulefile, read_modulefile};
 pub use modulename::{is_module_name, means};
 pub use search::{FindFault, Found, locate};
 pub use tree::{Tree, TreeFault};
-
-#[cfg(test)]
-mod tests;

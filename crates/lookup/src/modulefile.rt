@@ -19,7 +19,7 @@ pub enum Modulefile {
     Script(String),
 }
 
-// What every modulefile begins with.
+/// What every modulefile begins with.
 const COOKIE: &[u8] = b"#%Module";
 
 fn modulefile_of(bytes: Vec<u8>) -> Modulefile

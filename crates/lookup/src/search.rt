@@ -89,7 +89,7 @@ impl From<TreeFault> for FindFault {
     }
 }
 
-// The path of a module below a directory.
+/// The path of a module below a directory.
 fn path_of(alloc: Global, dir: &str, name: &str) -> Result<String, AllocError>
     ensures { IfOk result (λ path. string_bytes path ≡ path_of dir.now name.now) }
 {
@@ -99,7 +99,7 @@ fn path_of(alloc: Global, dir: &str, name: &str) -> Result<String, AllocError>
     Ok(path)
 }
 
-// The path of the module of this name below one entry of MODULEPATH, if it is there.
+/// The path of the module of this name below one entry of MODULEPATH, if it is there.
 fn module_below<T: Tree>(
     alloc: Global,
     tree: &mut T,

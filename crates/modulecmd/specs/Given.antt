@@ -1,21 +1,31 @@
 -- The environment that a process is given (environ(7)): a block of entries NAME=VALUE, each ended by NUL.
-use Rattle.std.specs.Prelude.{ℕ, Bool, List, [], ◌∷◌, ◌&&◌, ◌==◌, nat_lt, length, if◌then◌else◌}
+use Rattle.std.specs.Prelude.{ℕ, Bool, List, [], ◌∷◌, not, ◌&&◌, ◌==◌, nat_lt, length, if◌then◌else◌, Option, Some, None}
 use Rattle.std.specs.List.{position_or_len, before_first, after_first, slice_split}
 use Rattle.std.specs.Str.{is_utf8}
 use Rattle.std.specs.FinMap as finite
 use Rattle.envstate.specs.Texts.{Text}
-use Rattle.envstate.specs.Environment.{Environment}
+use Rattle.envstate.specs.Environment.{Environment, with_value}
 
 abbrev pub is_equals : ℕ → Bool
 is_equals b = b == 61
 
--- The entry is UTF-8, and its first '=' has a name before it.
-abbrev pub is_variable : Text → Bool
-is_variable entry = is_utf8 entry && (nat_lt 0 (position_or_len is_equals entry) && nat_lt (position_or_len is_equals entry) (length entry))
+-- what stands before an entry's first '='
+abbrev pub name_of : Text → Text
+name_of entry = before_first is_equals entry
 
--- the environment with the variable of an entry set, if it gives one
+-- The entry has an '=', and a name before it that is UTF-8.
+abbrev pub is_variable : Text → Bool
+is_variable entry =
+    nat_lt (position_or_len is_equals entry) (length entry) && (nat_lt 0 (length (name_of entry)) && is_utf8 (name_of entry))
+
+-- the value that a variable reads as: none where it isn't UTF-8
+abbrev pub readable : Text → Option Text
+readable value = if is_utf8 value then Some value else None
+
+-- the environment with the variable of an entry as the entry has it, if it gives one
 abbrev pub with_entry : Text → Environment → Environment
-with_entry entry e = if is_variable entry then finite.insert e (before_first is_equals entry) (after_first is_equals entry) else e
+with_entry entry e =
+    if is_variable entry then with_value e (name_of entry) (readable (after_first is_equals entry)) else e
 
 -- what entries say over an environment: of several for one name the first counts
 abbrev pub with_entries : List Text → Environment → Environment

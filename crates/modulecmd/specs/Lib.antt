@@ -6,3 +6,4 @@ pub mod Lines
 pub mod Messages
 pub mod Command
 pub mod Output
+pub mod Words

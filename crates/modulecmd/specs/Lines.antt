@@ -1,8 +1,8 @@
 -- The line on standard error that tells why a command is refused.
 use Rattle.std.specs.Prelude.{ℕ, [], ◌∷◌, ◌++◌, codes, decimal, string_bytes}
 use Rattle.envstate.specs.Texts.{Text}
-use Rattle.envstate.specs.declared.fault.EnvFault.{EnvFault}
-use Rattle.envstate.specs.declared.fault.EnvFault.TheVariants as edits
+use Rattle.environment.specs.declared.fault.EnvFault.{EnvFault}
+use Rattle.environment.specs.declared.fault.EnvFault.TheVariants as edits
 use Rattle.lookup.specs.declared.search.FindFault.{FindFault}
 use Rattle.lookup.specs.declared.search.FindFault.TheVariants as finds
 use Rattle.tclchars.specs.declared.fault.TextFault.{TextFault}

@@ -3,10 +3,6 @@ use Rattle.std.specs.Prelude.{ℕ, ◌<◌, take, length, Option}
 use Rattle.std.specs.Io.KnownBytes.{Appends}
 use Rattle.envstate.specs.Texts.{Text}
 
--- known bytes grow by a beginning of the text
-abbrev pub AppendsFront : Option Text → Option Text → Text → Type 0
-AppendsFront old new text = (k : ℕ) × Appends old new (take k text)
-
 -- known bytes grow by a beginning of the text that is not the whole of it
 abbrev pub AppendsPart : Option Text → Option Text → Text → Type 0
 AppendsPart old new text = (k : ℕ) × (k < length text) × Appends old new (take k text)

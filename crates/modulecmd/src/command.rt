@@ -1,21 +1,20 @@
 //! One command: the words in, the text and the messages out.
-ghost use Rattle.std.specs.Prelude.{◌≡◌, ◌<◌, ◌≤◌, ◌⊎◌, ◌++◌, ℕ, map, take, Ok, Err, IfOk, IfErr, OnOk, OnErr, string_bytes};
+ghost use Rattle.std.specs.Prelude.{◌≡◌, ◌<◌, ◌≤◌, ◌⊎◌, [], map, Ok, Err, IfOk, IfErr, OnOk, OnErr, string_bytes};
 ghost use Rattle.std.specs.Io.KnownBytes.{Keeps, Appends};
-ghost use Rattle.envstate.specs.Texts.{Text};
 ghost use Rattle.lookup.specs.Agreement.{Files, Folders, Shows};
 ghost use Rattle.modules.specs.Requests.{asked};
-ghost use Rattle.modulecmd.specs.declared.refuse.CommandFault.{CommandFault};
-ghost use Rattle.modulecmd.specs.declared.refuse.CommandFault.TheVariants.{WriteFailed};
+ghost use Rattle.modulecmd.specs.declared.ends.Exit.{Exit};
 ghost use Rattle.modulecmd.specs.Command as spec;
-ghost use Rattle.modulecmd.specs.Command.{Objection, effect, HasReason, IsUnsaid, LacksText};
-ghost use Rattle.modulecmd.specs.Lines.{line_of};
-ghost use Rattle.modulecmd.specs.Output.{Accepts, AppendsThenFails, Breaks, IsAnswer, Refuses};
+ghost use Rattle.modulecmd.specs.Command.{effect, HasReason, LacksText};
+ghost use Rattle.modulecmd.specs.Output.{Ends, Finishes, IsAnswer, IsRefused, Tells, status_of};
 ghost use Rattle.modulecmd.specs.Shells.{SaysDifference};
+ghost use Rattle.modulecmd.specs.Words.{words_of};
 ghost use Rattle.modulecmd.specs.Writing.{AppendsPart};
 
+use crate::ends::Exit;
 use crate::print::print_changes;
 use crate::refuse::{CommandFault, write_refusal};
-use crate::writers::{Broken, write_bytes, write_parts};
+use crate::writers::{WriteFault, write_bytes, write_parts};
 use envstate::{Env, changes};
 use lookup::Tree;
 use modules::{Limits, Refusal, Request, Shell, request, run};
@@ -82,11 +81,9 @@ fn answer_of<T: Tree>(
     ensures before { Shows (T.agrees tree.new) (λ files folders. T.agrees tree.old files folders) }
     ensures later { T.failures tree.old ≤ T.failures tree.new }
     ensures answered { IfOk result (λ a. Shows (T.agrees tree.new) (λ files folders.
-        IsAnswer env.now (effect (map string_bytes args.now) env.now files) (string_bytes a.messages ++ string_bytes a.report) (string_bytes a.text))) }
-    ensures refused { IfErr result (λ fault. HasReason fault
-        (λ o. Shows (T.agrees tree.new) (λ files folders. effect (map string_bytes args.now) env.now files ≡ Err o))
-        (λ name. Shows (T.agrees tree.new) (λ files folders. IsUnsaid env.now (effect (map string_bytes args.now) env.now files) name))
-        (T.failures tree.old < T.failures tree.new)) }
+        IsAnswer env.now (effect (map string_bytes args.now) env.now files) (words_of a) (string_bytes a.text))) }
+    ensures refused { IfErr result (IsRefused (T.agrees tree.new) (T.failures tree.old < T.failures tree.new)
+        env.now (effect (map string_bytes args.now) env.now)) }
 {
     let request = command_of(alloc, args)?;
     let reply = run(alloc, &request, env, tree, STANDARD)?;
@@ -99,52 +96,77 @@ fn answer_of<T: Tree>(
 }
 
 /// Writes the messages and the report, and then the text, until a write fails. Then not all is written.
-fn write_answer<W: Write, E: Write>(answer: &Answer, out: &mut W, err: &mut E) -> Result<(), Broken>
+fn write_answer<W: Write, E: Write>(
+    answer: &Answer,
+    out: &mut W,
+    err: &mut E,
+) -> Result<(), WriteFault>
     ensures whole { OnOk result (Appends (W.contents out.old) (W.contents out.new) (string_bytes answer.now.text)
-        × Appends (E.contents err.old) (E.contents err.new) (string_bytes answer.now.messages ++ string_bytes answer.now.report)) }
-    ensures broken { OnErr result (
+        × Appends (E.contents err.old) (E.contents err.new) (words_of answer.now)) }
+    ensures cut { OnErr result (
         (Keeps (W.contents out.old) (W.contents out.new)
-        × AppendsPart (E.contents err.old) (E.contents err.new) (string_bytes answer.now.messages ++ string_bytes answer.now.report))
+        × AppendsPart (E.contents err.old) (E.contents err.new) (words_of answer.now))
         ⊎ (AppendsPart (W.contents out.old) (W.contents out.new) (string_bytes answer.now.text)
-        × Appends (E.contents err.old) (E.contents err.new) (string_bytes answer.now.messages ++ string_bytes answer.now.report))) }
+        × Appends (E.contents err.old) (E.contents err.new) (words_of answer.now))) }
 {
     write_parts(err, &[answer.messages.as_str(), answer.report.as_str()])?;
     write_bytes(out, answer.text.as_str().as_bytes())
 }
 
-/// Writes what an accepted command writes, and answers its status. After a failed write the line that tells of it is
-/// tried once, so that a beginning of it is written.
-fn finish<W: Write, E: Write>(answer: &Answer, out: &mut W, err: &mut E) -> u8
-    ensures status { result ≤ 1 }
-    ensures whole { result ≡ 0 → Appends (W.contents out.old) (W.contents out.new) (string_bytes answer.now.text)
-        × Appends (E.contents err.old) (E.contents err.new) (string_bytes answer.now.messages ++ string_bytes answer.now.report) }
-    ensures broken { result ≡ 1 →
-        (Keeps (W.contents out.old) (W.contents out.new)
-        × AppendsThenFails (E.contents err.old) (E.contents err.new) (string_bytes answer.now.messages ++ string_bytes answer.now.report))
-        ⊎ (AppendsPart (W.contents out.old) (W.contents out.new) (string_bytes answer.now.text)
-        × ((j : ℕ) × Appends (E.contents err.old) (E.contents err.new)
-        ((string_bytes answer.now.messages ++ string_bytes answer.now.report) ++ take j (line_of WriteFailed)))) }
+/// Writes the line that tells of a fault.
+fn tell<E: Write>(fault: &CommandFault, err: &mut E) -> Exit
+    ensures { Tells result (E.contents err.old) (E.contents err.new) [] fault.now }
 {
-    if write_answer(answer, out, err).is_ok() {
-        return 0;
+    match write_refusal(fault, err) {
+        Ok(()) => Exit::Told,
+        Err(_) => Exit::CutShort,
     }
-    write_refusal(&CommandFault::WriteFailed, err);
-    1
 }
 
-/// Runs the command with these arguments over an environment and a tree of modulefiles, and answers its status.
+/// Writes what an accepted command writes. After a failed write the line that tells of it is tried once.
+fn finish<W: Write, E: Write>(answer: &Answer, out: &mut W, err: &mut E) -> Exit
+    ensures { Finishes result (words_of answer.now) (string_bytes answer.now.text)
+        (W.contents out.old) (W.contents out.new) (E.contents err.old) (E.contents err.new) }
+{
+    if write_answer(answer, out, err).is_ok() {
+        return Exit::Success;
+    }
+    tell(&CommandFault::WriteFailed, err)
+}
+
+/// Runs the command with these arguments over an environment and a tree of modulefiles, and answers how it ended.
 ///
 /// The arguments are the name of a shell and the words of a request. An accepted command writes the messages of
-/// modulefiles and its report to standard error, then the text for the shell to standard output, and ends with 0. That
-/// text says, as the shell reads it, each variable that the request's step changes, once, in the order of bytes, and
-/// nothing else: it makes of the environment what the step makes of it.
+/// modulefiles and its report to standard error, and then the text for the shell to standard output. That text says, as
+/// the shell reads it, each variable that the request's step changes, once, in the order of bytes, and nothing else: it
+/// makes of the environment what the step makes of it.
 ///
-/// A refused command writes nothing but a beginning of the line that tells why, to standard error, and ends with 1. It is
-/// refused as the arguments or the step are, or by 1, 31, 41 or 61 for want of memory, by 43 where the device failed in
-/// this call, or by 62 where the changes have no text in the shell. Where a write fails, 64, the command ends with 1: on
-/// standard error a beginning of the messages and the report is there, not all, and nothing has gone to standard output;
-/// on standard output a beginning of the text is there, not all. Then a beginning of the line that tells of it follows on
-/// standard error.
+/// A refused command writes nothing but the line that tells why, to standard error. It is refused as the arguments or the
+/// step are, or by 1, 31, 41 or 61 for want of memory, by 43 where the device failed in this call, or by 62 where the
+/// changes have no text in the shell. Where a write fails, 64, on standard error a beginning of the messages and the report
+/// is there, not all, and nothing has gone to standard output; or on standard output a beginning of the text is there, not
+/// all. Then the line that tells of it follows on standard error.
+pub fn run_command<T: Tree, W: Write, E: Write>(
+    alloc: Global,
+    args: &[String],
+    env: Env,
+    tree: &mut T,
+    out: &mut W,
+    err: &mut E,
+) -> Exit
+    ensures before { Shows (T.agrees tree.new) (λ files folders. T.agrees tree.old files folders) }
+    ensures later { T.failures tree.old ≤ T.failures tree.new }
+    ensures ended { Ends result (T.agrees tree.new) (T.failures tree.old < T.failures tree.new)
+        env (effect (map string_bytes args.now) env)
+        (W.contents out.old) (W.contents out.new) (E.contents err.old) (E.contents err.new) }
+{
+    match answer_of(alloc, args, &env, tree) {
+        Ok(answer) => finish(&answer, out, err),
+        Err(fault) => tell(&fault, err),
+    }
+}
+
+/// Runs the command as `run_command` does, and answers the status of the process.
 pub fn modulecmd<T: Tree, W: Write, E: Write>(
     alloc: Global,
     args: &[String],
@@ -155,26 +177,10 @@ pub fn modulecmd<T: Tree, W: Write, E: Write>(
 ) -> u8
     ensures before { Shows (T.agrees tree.new) (λ files folders. T.agrees tree.old files folders) }
     ensures later { T.failures tree.old ≤ T.failures tree.new }
-    ensures status { result ≤ 1 }
-    ensures accepted { result ≡ 0 → Shows (T.agrees tree.new) (λ files folders.
-        Accepts env (effect (map string_bytes args.now) env files)
-        (W.contents out.old) (W.contents out.new) (E.contents err.old) (E.contents err.new)) }
-    ensures not_done { result ≡ 1 →
-        (Shows (T.agrees tree.new) (λ files folders.
-        Breaks env (effect (map string_bytes args.now) env files)
-        (W.contents out.old) (W.contents out.new) (E.contents err.old) (E.contents err.new)))
-        ⊎ ((fault : CommandFault)
-        × HasReason fault
-        (λ o. Shows (T.agrees tree.new) (λ files folders. effect (map string_bytes args.now) env files ≡ Err o))
-        (λ name. Shows (T.agrees tree.new) (λ files folders. IsUnsaid env (effect (map string_bytes args.now) env files) name))
-        (T.failures tree.old < T.failures tree.new)
-        × Refuses fault (W.contents out.old) (W.contents out.new) (E.contents err.old) (E.contents err.new)) }
+    ensures ended { (exit : Exit) × (result ≡ status_of exit)
+        × Ends exit (T.agrees tree.new) (T.failures tree.old < T.failures tree.new)
+        env (effect (map string_bytes args.now) env)
+        (W.contents out.old) (W.contents out.new) (E.contents err.old) (E.contents err.new) }
 {
-    match answer_of(alloc, args, &env, tree) {
-        Ok(answer) => finish(&answer, out, err),
-        Err(fault) => {
-            write_refusal(&fault, err);
-            1
-        }
-    }
+    run_command(alloc, args, env, tree, out, err).status()
 }

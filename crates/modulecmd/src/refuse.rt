@@ -1,6 +1,7 @@
 //! Why a command is refused, and the line that tells of it.
-ghost use Rattle.std.specs.Prelude.{◌≡◌};
-ghost use Rattle.modulecmd.specs.Writing.{AppendsFront};
+ghost use Rattle.std.specs.Prelude.{◌≡◌, OnOk, OnErr};
+ghost use Rattle.std.specs.Io.KnownBytes.{Appends};
+ghost use Rattle.modulecmd.specs.Writing.{AppendsPart};
 ghost use Rattle.modulecmd.specs.Lines as lines;
 ghost use Rattle.modulecmd.specs.Lines.{at_byte, line_of};
 ghost use Rattle.modules.specs.declared.refusal.Refusal.TheVariants as refusals;
@@ -10,7 +11,7 @@ ghost use Rattle.modulecmd.specs.Messages.{text_of};
 
 use crate::print::PrintFault;
 use crate::process::ArgumentsFault;
-use crate::writers::write_parts;
+use crate::writers::{WriteFault, write_parts};
 use envstate::EnvFault;
 use itoa::Buffer;
 use lookup::FindFault;
@@ -234,15 +235,16 @@ fn message_of<'a>(fault: &'a CommandFault, digits: &'a mut Buffer) -> Message<'a
     }
 }
 
-/// Writes the line that tells of a refusal, without taking memory. It is tried once: a write that fails ends it, and a
-/// beginning of the line is written.
-pub fn write_refusal<E: Write>(fault: &CommandFault, err: &mut E)
-    ensures { AppendsFront (E.contents err.old) (E.contents err.new) (line_of fault.now) }
+/// Writes the line that tells of a refusal, without taking memory. It is tried once: a write that fails ends it. Then a
+/// beginning of the line is written, not all.
+pub fn write_refusal<E: Write>(fault: &CommandFault, err: &mut E) -> Result<(), WriteFault>
+    ensures whole { OnOk result (Appends (E.contents err.old) (E.contents err.new) (line_of fault.now)) }
+    ensures cut { OnErr result (AppendsPart (E.contents err.old) (E.contents err.new) (line_of fault.now)) }
 {
     let mut digits = Buffer::new();
     let message = message_of(fault, &mut digits);
-    let _ = write_parts(
+    write_parts(
         err,
         &["ERROR: ", message.before, message.word, message.after, "\n"],
-    );
+    )
 }

@@ -8,29 +8,29 @@ use std::io::Write;
 
 /// A write failed.
 #[derive(Clone, Copy, Debug, PartialEq, Eq)]
-pub struct Broken;
+pub struct WriteFault;
 
 /// Writes the bytes until a write fails: one that answers 0, or any error, an interrupted one too. Then a beginning of the
 /// bytes is written, not all of them.
-pub fn write_bytes<W: Write>(to: &mut W, bytes: &[u8]) -> Result<(), Broken>
+pub fn write_bytes<W: Write>(to: &mut W, bytes: &[u8]) -> Result<(), WriteFault>
     ensures whole { OnOk result (Appends (W.contents to.old) (W.contents to.new) bytes.now) }
-    ensures broken { OnErr result (AppendsPart (W.contents to.old) (W.contents to.new) bytes.now) }
+    ensures cut { OnErr result (AppendsPart (W.contents to.old) (W.contents to.new) bytes.now) }
 {
     let mut done = 0;
     while done < bytes.len() {
         match to.write(&bytes[done..]) {
-            Ok(0) => return Err(Broken),
+            Ok(0) => return Err(WriteFault),
             Ok(n) => done += n,
-            Err(_) => return Err(Broken),
+            Err(_) => return Err(WriteFault),
         }
     }
     Ok(())
 }
 
 /// Writes the parts one after another, without memory, until a write fails. Then a beginning of them is written, not all.
-pub fn write_parts<W: Write>(to: &mut W, parts: &[&str]) -> Result<(), Broken>
+pub fn write_parts<W: Write>(to: &mut W, parts: &[&str]) -> Result<(), WriteFault>
     ensures whole { OnOk result (Appends (W.contents to.old) (W.contents to.new) (flat_map (λ part. part.now) parts.now)) }
-    ensures broken { OnErr result (AppendsPart (W.contents to.old) (W.contents to.new) (flat_map (λ part. part.now) parts.now)) }
+    ensures cut { OnErr result (AppendsPart (W.contents to.old) (W.contents to.new) (flat_map (λ part. part.now) parts.now)) }
 {
     for part in parts {
         write_bytes(to, part.as_bytes())?;

@@ -19,7 +19,7 @@ fn main(rt: HostRuntime) -> ExitCode {
     let (arguments, env) = match given(&rt) {
         Ok(given) => given,
         Err(fault) => {
-            write_refusal(&fault, &mut err);
+            let _ = write_refusal(&fault, &mut err);
             return ExitCode::from(1);
         }
     };

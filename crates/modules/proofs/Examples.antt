@@ -11,12 +11,12 @@ use Rattle.tclscript.specs.Reading.{script_at, script_with, inner_at, command_at
 use Rattle.modules.specs.Literals.{commands_in}
 use Rattle.envstate.specs.Texts.{Text, has}
 use Rattle.envstate.specs.Environment.{Environment, lookup, with_value}
-use Rattle.envstate.specs.Refused.{Refused}
+use Rattle.envstate.specs.Reasons.{EnvReason}
 use Rattle.modulename.specs.ModuleName.{means}
 use Rattle.envstate.specs.Paths.{add_all, drop_all}
 use Rattle.envstate.specs.PathTexts.{state_of}
 use Rattle.envstate.specs.PathVariables.{written_path, with_path}
-use Rattle.envstate.specs.declared.paths.End.TheVariants as ends
+use Rattle.pathstate.specs.declared.paths.End.TheVariants as ends
 use Rattle.envstate.specs.Loaded.{Entry, with_loaded, added_loaded, dropped_loaded}
 use Rattle.envstate.specs.Loaded as list
 use Rattle.lookup.specs.Agreement.{Files}
@@ -52,8 +52,8 @@ plain_word t = word_of false (part (literal t) no_parts)
 
 foo_script : Commands
 foo_script =
-    command (codes "setenv") (word (plain_word (codes "setenv")) (word (plain_word (codes "FOO")) (word (plain_word (codes "on")) no_words)))
-    (command (codes "prepend-path") (word (plain_word (codes "prepend-path")) (word (plain_word (codes "PATH")) (word (plain_word (codes "/opt/foo/bin")) no_words))) no_commands)
+    command 9 (codes "setenv") (word (plain_word (codes "setenv")) (word (plain_word (codes "FOO")) (word (plain_word (codes "on")) no_words)))
+    (command 23 (codes "prepend-path") (word (plain_word (codes "prepend-path")) (word (plain_word (codes "PATH")) (word (plain_word (codes "/opt/foo/bin")) no_words))) no_commands)
 
 foo_read : script_of foo_text ≡ Ok foo_script
 unfolding script_at script_with inner_at command_at word_at plain_word_at parts_with part_at after_expansion pass foo_text foo_script plain_word
@@ -101,13 +101,13 @@ foo_found e s = ap (λ m. found files (unwrap_or m []) foo) s.search_path
 -- the second command of the load, by what it finds of the path: first whether it is allowed, then what it makes
 allowed : Environment → Option Text → Option Text → Result Environment Reason
 allowed d path share =
-    ((if is_some share || has (codes "/opt/foo/bin") (state_of path share).elements then Err bad_arguments else Ok (Front (codes "PATH") (codes "/opt/foo/bin" ∷ [])))
+    ((if is_some share || has (codes "/opt/foo/bin") (state_of 58 path share).elements then Err bad_arguments else Ok (Front (codes "PATH") (codes "/opt/foo/bin" ∷ [])))
     >>= (λ r. refused_as bad_edit (effect Load foo r d)))
     >>= (λ t. Ok t) >>= (λ t. Ok t)
 
 prepended : Environment → Option Text → Option Text → Result Environment Reason
 prepended d path share =
-    refused_as bad_edit (written_path d (codes "PATH") (add_all (state_of path share) (codes "/opt/foo/bin" ∷ []) ends.Front))
+    refused_as bad_edit (written_path d (codes "PATH") 58 (add_all (state_of 58 path share) (codes "/opt/foo/bin" ∷ []) ends.Front))
     >>= (λ t. Ok t) >>= (λ t. Ok t)
 
 foo_runs : (e : Environment) → Start e → run_limited Load foo standard e (commands_in foo_script) ≡ Ok (edited e)
@@ -123,7 +123,7 @@ foo_runs e s =
 pub entry : Entry
 entry = bare_entry foo foo_path
 
-added_over : Environment → Option Text → Option Text → Result Environment Refused
+added_over : Environment → Option Text → Option Text → Result Environment EnvReason
 added_over d names paths = list.added_to d entry (list.entries_in names paths (lookup d (codes "__MODULES_LMCONFLICT")) (lookup d (codes "__MODULES_LMPREREQ")))
 
 -- what the load leaves at a name that it doesn't change
@@ -199,7 +199,7 @@ allowed_again d share =
 
 dropped_again : Environment → Option Text → Option Text → Result Environment Reason
 dropped_again d path share =
-    refused_as bad_edit (Ok (with_path d (codes "PATH") (drop_all (state_of path share) (codes "/opt/foo/bin" ∷ []))))
+    refused_as bad_edit (Ok (with_path d (codes "PATH") 58 (drop_all (state_of 58 path share) (codes "/opt/foo/bin" ∷ []))))
     >>= (λ t. Ok t) >>= (λ t. Ok t)
 
 foo_undone : (e : Environment) → Loaded e → run_limited Unload foo standard e (commands_in foo_script) ≡ Ok (undone e)
@@ -211,7 +211,7 @@ foo_undone e s =
     ∙ (ap (λ t. dropped_again (unset_foo e) t (lookup (unset_foo e) (codes "__MODULES_SHARE_PATH"))) path
     ∙ ap (dropped_again (unset_foo e) (Some (codes "/opt/foo/bin:/usr/bin:/bin"))) share)
 
-dropped_over : Environment → Option Text → Option Text → Option Text → Option Text → Result Environment Refused
+dropped_over : Environment → Option Text → Option Text → Option Text → Option Text → Result Environment EnvReason
 dropped_over d names paths conflicts prereqs = list.dropped_from d foo (list.entries_in names paths conflicts prereqs)
 
 left_at : (e : Environment) (q : Text) → bytes_eq q (codes "FOO") ≡ false → bytes_eq q (codes "PATH") ≡ false → bytes_eq q (codes "__MODULES_SHARE_PATH") ≡ false → lookup (undone e) q ≡ lookup e q

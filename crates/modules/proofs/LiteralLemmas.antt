@@ -1,7 +1,7 @@
 -- The texts of words, part by part, and of commands, word by word.
 use Rattle.std.proofs.Common.{◌≡◌, ℕ, List, [], ◌∷◌, ◌++◌, map, Option, Some, None, option_map, Result, Ok, Err, refl, sym, ap, ◌∙◌, append_assoc, rules}
 use Rattle.tclchars.specs.Runs.{Text}
-use Rattle.tclscript.specs.Tree.{Commands, Words, Word, word_of, Part, parts_of, words_of, commands_of}
+use Rattle.tclscript.specs.Tree.{Commands, Command, Words, Word, word_of, Part, parts_of, words_of, commands_of}
 use Rattle.modules.specs.Then.{◌>>=◌}
 use Rattle.modules.specs.Reasons.{Reason}
 use Rattle.modules.specs.Literals.{part_text, joined, parts_text, word_text, within, texts_of, commands_in}
@@ -57,6 +57,6 @@ pub texts_end : (most : ℕ) (source : Text) (found : List Text) (whole : Result
 texts_end most source found whole so = so
 
 -- a script of these commands has them
-pub commands_listed : (cs : List (Text × Words)) → commands_in (commands_of cs) ≡ cs
+pub commands_listed : (cs : List Command) → commands_in (commands_of cs) ≡ cs
 commands_listed [] = refl
 commands_listed (c ∷ cs) = ap (λ xs. c ∷ xs) (commands_listed cs)

@@ -5,8 +5,9 @@ use Rattle.std.proofs.lemmas.List.{reverse-append}
 use Rattle.std.specs.Option.{option_map}
 use Rattle.modulename.specs.ModuleName.{means}
 use Rattle.envstate.specs.Texts.{Text, has}
-use Rattle.envstate.specs.Loaded.{Entry, entry_of, names_of}
-use Rattle.envstate.specs.declared.entry.Loaded.{Loaded}
+use Rattle.envstate.specs.Loaded.{Entry, names_of}
+use Rattle.envstate.specs.LoadedEntries.{entry_of}
+use Rattle.loadedlist.specs.declared.entry.Loaded.{Loaded}
 
 -- the test of a name, over the entries as they are held
 pub has_name : (name : Text) (entries : List Loaded) → list_any (λ (x : Loaded). bytes_eq name (string_bytes x.name)) entries ≡ has name (names_of (map entry_of entries))

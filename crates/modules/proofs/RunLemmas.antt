@@ -4,9 +4,9 @@ use Rattle.std.specs.List.{list_all}
 use Rattle.std.proofs.lemmas.List.{at_drop_more, take-map, take_all, length-map}
 use Rattle.std.proofs.lemmas.Bool.Decides.{nat_tests}
 use Rattle.envstate.specs.Texts.{Text}
-use Rattle.envstate.specs.Refused.{Refused}
+use Rattle.envstate.specs.Reasons.{EnvReason}
 use Rattle.envstate.specs.Environment.{Environment}
-use Rattle.tclscript.specs.Tree.{Commands, Words}
+use Rattle.tclscript.specs.Tree.{Commands, Command}
 use Rattle.tclscript.specs.Text.{script_of}
 use Rattle.modules.specs.declared.evaluate.Mode.{Mode}
 use Rattle.modules.specs.declared.running.Limits.{Limits}
@@ -29,7 +29,7 @@ same_end (Ok d) = refl
 same_end (Err r) = refl
 
 -- from a command on
-pub run_commands-at : {C : Type 0} (view : C → Text × Words) (mode : Mode) (owner : Text) (most : ℕ) (e : Environment) (cs : List C) (i : ℕ) (x : C) → i < length cs → x ≡ get_or cs i x
+pub run_commands-at : {C : Type 0} (view : C → Command) (mode : Mode) (owner : Text) (most : ℕ) (e : Environment) (cs : List C) (i : ℕ) (x : C) → i < length cs → x ≡ get_or cs i x
     → run_commands mode owner most e (map view (drop i cs)) ≡ (run_command mode owner most e (view x) >>= (λ d. run_commands mode owner most d (map view (drop (i + 1) cs))))
 run_commands-at {C} view mode owner most e cs i x below is =
     at_drop_more (λ (l : List C). run_commands mode owner most e (map view l)) cs i x below
@@ -68,8 +68,8 @@ plain_words : (mode : Mode) (e : Environment) (x : Result (List Text) Reason) (r
 plain_words mode e (Err reason) r h = absurd (cc)
 plain_words mode e (Ok words) r h = plain_call mode e (call_of words) r h
 
-plain_answer : (mode : Mode) (most : ℕ) (e : Environment) (c : Text × Words) (r : Record) → answer mode most e c ≡ Ok r → IsPlain r
-plain_answer mode most e c r h = plain_words mode e (texts_of most c.0 c.1) r h
+plain_answer : (mode : Mode) (most : ℕ) (e : Environment) (c : Command) (r : Record) → answer mode most e c ≡ Ok r → IsPlain r
+plain_answer mode most e c r h = plain_words mode e (texts_of most c.source c.words) r h
 
 -- records, and what they make of an environment; without conflicts and prereqs
 pub record Makes (mode : Mode) (owner : Text) (e : Environment) (rs : List Record) (d : Environment) : Type 0 where
@@ -117,15 +117,15 @@ both_more mode owner e d r plain is (Ok rs) (Ok t) h =
       no_prereqs = no_more_prereqs r rs plain ∙ h.no_prereqs;
     }
 
-both_effect : (mode : Mode) (owner : Text) (most : ℕ) (e : Environment) (r : Record) (cs : List (Text × Words)) → IsPlain r
+both_effect : (mode : Mode) (owner : Text) (most : ℕ) (e : Environment) (r : Record) (cs : List Command) → IsPlain r
     → ((d : Environment) → Both mode owner d (records_from mode owner most d cs) (run_commands mode owner most d cs))
-    → (z : Result Environment Refused) → effect mode owner r e ≡ z
+    → (z : Result Environment EnvReason) → effect mode owner r e ≡ z
     → Both mode owner e (refused_as bad_edit z >>= (λ d. records_from mode owner most d cs >>= (λ rs. Ok (r ∷ rs)))) (refused_as bad_edit z >>= (λ d. run_commands mode owner most d cs))
 both_effect mode owner most e r cs plain more (Err x) is = refl
 both_effect mode owner most e r cs plain more (Ok d) is =
     both_more mode owner e d r plain is (records_from mode owner most d cs) (run_commands mode owner most d cs) (more d)
 
-both_answer : (mode : Mode) (owner : Text) (most : ℕ) (e : Environment) (cs : List (Text × Words))
+both_answer : (mode : Mode) (owner : Text) (most : ℕ) (e : Environment) (cs : List Command)
     → ((d : Environment) → Both mode owner d (records_from mode owner most d cs) (run_commands mode owner most d cs))
     → (x : Result Record Reason) → ((r : Record) → x ≡ Ok r → IsPlain r)
     → Both mode owner e
@@ -134,7 +134,7 @@ both_answer : (mode : Mode) (owner : Text) (most : ℕ) (e : Environment) (cs : 
 both_answer mode owner most e cs more (Err reason) plain = refl
 both_answer mode owner most e cs more (Ok r) plain = both_effect mode owner most e r cs (plain r refl) more (effect mode owner r e) refl
 
-pub together : (mode : Mode) (owner : Text) (most : ℕ) (cs : List (Text × Words)) (e : Environment) → Both mode owner e (records_from mode owner most e cs) (run_commands mode owner most e cs)
+pub together : (mode : Mode) (owner : Text) (most : ℕ) (cs : List Command) (e : Environment) → Both mode owner e (records_from mode owner most e cs) (run_commands mode owner most e cs)
 together mode owner most [] e = record { made = refl; no_conflicts = refl; no_prereqs = refl }
 together mode owner most (c ∷ cs) e = both_answer mode owner most e cs (together mode owner most cs) (answer mode most e c) (plain_answer mode most e c)
 
@@ -145,7 +145,7 @@ both_limited mode owner e b reason (Ok rs) (Err s) h = absurd h
 both_limited mode owner e true reason (Ok rs) (Ok d) h = h
 both_limited mode owner e false reason (Ok rs) (Ok d) h = refl
 
-pub limited_together : (mode : Mode) (owner : Text) (limits : Limits) (cs : List (Text × Words)) (e : Environment) → Both mode owner e (limited mode owner limits e cs) (run_limited mode owner limits e cs)
+pub limited_together : (mode : Mode) (owner : Text) (limits : Limits) (cs : List Command) (e : Environment) → Both mode owner e (limited mode owner limits e cs) (run_limited mode owner limits e cs)
 limited_together mode owner limits cs e =
     both_limited mode owner e (nat_le (length cs) limits.commands) too_many_commands (records_from mode owner limits.value_bytes e (take limits.commands cs)) (run_commands mode owner limits.value_bytes e (take limits.commands cs))
     (together mode owner limits.value_bytes (take limits.commands cs) e)
@@ -168,10 +168,10 @@ evaluated-script mode owner limits e text script depth is =
     ap (λ x. x >>= (λ rs. refused_as bad_edit (effects mode owner rs e))) (records_of-script mode owner limits e text script depth is)
     ∙ both_made mode owner e (limited mode owner limits e (commands_in script)) (run_limited mode owner limits e (commands_in script)) (limited_together mode owner limits (commands_in script) e)
 
-abbrev ending : Limits → List (Text × Words) → Environment → Result Environment Reason
+abbrev ending : Limits → List Command → Environment → Result Environment Reason
 ending limits cs d = cond (nat_le (length cs) limits.commands) (Ok d) (Err too_many_commands)
 
-module _ {C : Type 0} (view : C → Text × Words) where
+module _ {C : Type 0} (view : C → Command) where
   -- a refusal among the commands within the limit
   pub run_limited-refused : (mode : Mode) (owner : Text) (limits : Limits) (e : Environment) (cs : List C) (r : Reason) → run_commands mode owner limits.value_bytes e (map view (take limits.commands cs)) ≡ Err r → run_limited mode owner limits e (map view cs) ≡ Err r
   run_limited-refused mode owner limits e cs r h =

@@ -7,7 +7,7 @@ use Rattle.tclchars.specs.declared.fault.TextFault.{TextFault}
 use Rattle.modules.specs.Literals.{commands_in}
 use Rattle.envstate.specs.Texts.{Text, has}
 use Rattle.envstate.specs.Environment.{Environment}
-use Rattle.envstate.specs.Refused.{Refused}
+use Rattle.envstate.specs.Reasons.{EnvReason}
 use Rattle.envstate.specs.Loaded.{Entry, names_of, added_loaded, dropped_loaded}
 use Rattle.lookup.specs.Agreement.{Files}
 use Rattle.lookup.specs.Search.{modulefile, found, bad_name}
@@ -25,7 +25,7 @@ use Rattle.modules.specs.Answers.{Stands, edit_cause}
 use Rattle.modules.proofs.RunLemmas.{Both, Makes, limited_together}
 
 -- the refusal of an edit is that of the step, where the edit's outcome decides it
-pub edit_stands : {A : Type 0} (refused : Option Refused) (x : Result A Refused) (P : Reason → Type 0) → IfSome refused (λ r. x ≡ Err r) → ((r : Refused) → x ≡ Err r → P (bad_edit r)) → Stands (edit_cause refused) P ⊥
+pub edit_stands : {A : Type 0} (refused : Option EnvReason) (x : Result A EnvReason) (P : Reason → Type 0) → IfSome refused (λ r. x ≡ Err r) → ((r : EnvReason) → x ≡ Err r → P (bad_edit r)) → Stands (edit_cause refused) P ⊥
 edit_stands None x P h step_of = tt
 edit_stands (Some r) x P h step_of = step_of r h
 

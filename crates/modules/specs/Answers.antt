@@ -3,10 +3,11 @@ use Rattle.std.specs.Prelude.{◌≡◌, ℕ, List, map, Option, Some, None, Res
 use Rattle.std.specs.declared.vec.Vec.{Vec}
 use Rattle.std.specs.declared.alloc.Global.{Global}
 use Rattle.envstate.specs.Environment.{Environment}
-use Rattle.envstate.specs.declared.entry.Loaded.{Loaded}
-use Rattle.envstate.specs.Loaded.{Entry, entry_of}
-use Rattle.envstate.specs.Refused.{Refused, refused_of}
-use Rattle.envstate.specs.Refused.{number_of as edit_number}
+use Rattle.loadedlist.specs.declared.entry.Loaded.{Loaded}
+use Rattle.envstate.specs.Loaded.{Entry}
+use Rattle.envstate.specs.LoadedEntries.{entry_of}
+use Rattle.envstate.specs.Reasons.{EnvReason, reason_of}
+use Rattle.envstate.specs.Reasons.{number_of as edit_number}
 use Rattle.lookup.specs.Agreement.{Files, Folders, Shows}
 use Rattle.lookup.specs.Search.{not_found, not_utf8_at, bad_name}
 use Rattle.lookup.specs.Answers.{find_number}
@@ -49,7 +50,7 @@ abbrev pub text_cause : TextFault → Cause
 text_cause texts.OutOfMemory = memory
 text_cause fault = because (bad_text fault)
 
-abbrev pub edit_cause : Option Refused → Cause
+abbrev pub edit_cause : Option EnvReason → Cause
 edit_cause None = memory
 edit_cause (Some refused) = because (bad_edit refused)
 
@@ -68,7 +69,7 @@ cause_of refusals.TooManyCommands = because too_many_commands
 cause_of refusals.TooDeep = because too_deep
 cause_of refusals.ValueTooLong = because value_too_long
 cause_of (refusals.LeftOut name) = because (left_out (string_bytes name))
-cause_of (refusals.Env fault) = edit_cause (refused_of fault)
+cause_of (refusals.Env fault) = edit_cause (reason_of fault)
 cause_of (refusals.Find fault) = find_cause fault
 cause_of (refusals.FileGone path) = because (file_gone (string_bytes path))
 cause_of (refusals.NotAModulefile path) = because (not_a_modulefile (string_bytes path))

@@ -4,7 +4,8 @@ use Rattle.std.specs.List.{list_any}
 use Rattle.envstate.specs.Texts.{Text, has}
 use Rattle.envstate.specs.Environment.{Environment, lookup}
 use Rattle.envstate.specs.Names.{is_variable_name, is_protected, is_plain_value, share_name}
-use Rattle.envstate.specs.Refused.{bad_variable, protected, bad_value}
+use Rattle.envstate.specs.Reasons.{bad_variable, protected, bad_value}
+use Rattle.envstate.specs.Fields.{colon}
 use Rattle.envstate.specs.PathVariables.{path_in}
 use Rattle.modules.specs.Then.{◌>>=◌}
 use Rattle.modules.specs.Reasons.{Reason, bad_arguments, bad_edit, left_out}
@@ -57,7 +58,7 @@ is_one_element (b ∷ bs) = not (list_any (λ c. c == 58) (b ∷ bs))
 
 -- the element is there already, and would be counted
 abbrev pub is_counted : Mode → Environment → Text → Text → Bool
-is_counted Load e var value = has value (path_in e var).elements
+is_counted Load e var value = has value (path_in e var colon).elements
 is_counted Unload e var value = false
 
 -- what paths do not take yet: no element or several, counters, and an element that is there already

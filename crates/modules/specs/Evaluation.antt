@@ -2,7 +2,7 @@
 use Rattle.std.specs.Prelude.{ℕ, ◌==◌, List, [], ◌∷◌, length, take, nat_le, if◌then◌else◌, Result, Ok, Err}
 use Rattle.envstate.specs.Texts.{Text}
 use Rattle.envstate.specs.Environment.{Environment}
-use Rattle.tclscript.specs.Tree.{Words}
+use Rattle.tclscript.specs.Tree.{Command}
 use Rattle.tclscript.specs.Text.{script_of}
 use Rattle.modules.specs.declared.running.Limits.{Limits}
 use Rattle.modules.specs.Then.{◌>>=◌, refused_as}
@@ -12,12 +12,12 @@ use Rattle.modules.specs.Records.{Record, effect, effects}
 use Rattle.modules.specs.Commands.{call_of, record_of}
 use Rattle.modules.specs.Literals.{texts_of, commands_in}
 
--- what a command, with the source of its first word, records
-abbrev pub answer : Mode → ℕ → Environment → Text × Words → Result Record Reason
-answer mode most e c = texts_of most c.0 c.1 >>= call_of >>= record_of mode e
+-- what a command records
+abbrev pub answer : Mode → ℕ → Environment → Command → Result Record Reason
+answer mode most e c = texts_of most c.source c.words >>= call_of >>= record_of mode e
 
 -- The records of commands, each of which finds what the ones before it made of the environment.
-abbrev pub records_from : Mode → Text → ℕ → Environment → List (Text × Words) → Result (List Record) Reason
+abbrev pub records_from : Mode → Text → ℕ → Environment → List Command → Result (List Record) Reason
 records_from mode owner most e [] = Ok []
 records_from mode owner most e (c ∷ cs) =
     answer mode most e c >>= (λ r.
@@ -25,7 +25,7 @@ records_from mode owner most e (c ∷ cs) =
     records_from mode owner most d cs >>= (λ rs. Ok (r ∷ rs))))
 
 -- as many commands as the limit has run, before one more is refused
-abbrev pub limited : Mode → Text → Limits → Environment → List (Text × Words) → Result (List Record) Reason
+abbrev pub limited : Mode → Text → Limits → Environment → List Command → Result (List Record) Reason
 limited mode owner limits e cs =
     records_from mode owner limits.value_bytes e (take limits.commands cs) >>= (λ rs.
     if nat_le (length cs) limits.commands then Ok rs else Err too_many_commands)

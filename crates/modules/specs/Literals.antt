@@ -2,7 +2,7 @@
 use Rattle.std.specs.Prelude.{ℕ, List, [], ◌∷◌, ◌++◌, length, nat_le, true, false, if◌then◌else◌, Option, Some, None, Result, Ok, Err}
 use Rattle.tclchars.specs.Runs.{Text}
 use Rattle.tclchars.specs.BracedText.{braced_text}
-use Rattle.tclscript.specs.Tree.{Commands, no_commands, command, Words, no_words, word, Word, word_of, Parts, no_parts, part, Part, literal, braced, backslash, variable, indexed, bracket}
+use Rattle.tclscript.specs.Tree.{Commands, no_commands, command, Command, Words, no_words, word, Word, word_of, Parts, no_parts, part, Part, literal, braced, backslash, variable, indexed, bracket}
 use Rattle.modules.specs.Then.{◌>>=◌}
 use Rattle.modules.specs.Reasons.{Reason, left_out, value_too_long}
 
@@ -39,7 +39,7 @@ abbrev pub texts_of : ℕ → Text → Words → Result (List Text) Reason
 texts_of most source no_words = Ok []
 texts_of most source (word w ws) = within most source (word_text w) >>= (λ t. texts_of most source ws >>= (λ ts. Ok (t ∷ ts)))
 
--- a script's commands, each with the source of its first word
-abbrev pub commands_in : Commands → List (Text × Words)
+-- a script's commands
+abbrev pub commands_in : Commands → List Command
 commands_in no_commands = []
-commands_in (command source ws cs) = (source, ws) ∷ commands_in cs
+commands_in (command place source ws cs) = record { place = place; source = source; words = ws } ∷ commands_in cs

@@ -1,6 +1,6 @@
 -- Why a request is refused, apart from want of memory and a failed device.
 use Rattle.envstate.specs.Texts.{Text}
-use Rattle.envstate.specs.Refused.{Refused}
+use Rattle.envstate.specs.Reasons.{EnvReason}
 use Rattle.lookup.specs.Search.{Missed}
 use Rattle.tclchars.specs.declared.fault.TextFault.{TextFault}
 
@@ -13,7 +13,7 @@ pub data Reason : Type 0 where
   -- a command of this name is left out
   left_out : Text → Reason
   -- an edit of the environment is refused
-  bad_edit : Refused → Reason
+  bad_edit : EnvReason → Reason
   -- no modulefile is found
   missed : Missed → Reason
   -- no file is at a loaded module's path

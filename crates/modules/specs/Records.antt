@@ -2,10 +2,11 @@
 use Rattle.std.specs.Prelude.{List, [], ◌∷◌, ◌++◌, Some, None, Result, Ok}
 use Rattle.envstate.specs.Texts.{Text}
 use Rattle.envstate.specs.Environment.{Environment, with_value}
-use Rattle.envstate.specs.Refused.{Refused}
+use Rattle.envstate.specs.Reasons.{EnvReason}
+use Rattle.envstate.specs.Fields.{colon}
 use Rattle.envstate.specs.PathVariables.{added_path, dropped_path}
 use Rattle.envstate.specs.StackVariables.{pushed_value, popped_value}
-use Rattle.envstate.specs.declared.End.TheVariants as ends
+use Rattle.pathstate.specs.declared.paths.End.TheVariants as ends
 use Rattle.modules.specs.declared.evaluate.Mode.{Mode}
 use Rattle.modules.specs.declared.evaluate.Mode.TheVariants.{Load, Unload}
 use Rattle.modules.specs.Then.{◌>>=◌}
@@ -31,28 +32,28 @@ pub data Record : Type 0 where
   Whatis : (text : Text) → Record
 
 -- What a module's record makes of an environment. Unloading undoes what loading does, as far as that can be undone.
-abbrev pub effect : Mode → Text → Record → Environment → Result Environment Refused
+abbrev pub effect : Mode → Text → Record → Environment → Result Environment EnvReason
 effect Load owner (Set var value) e = Ok (with_value e var (Some value))
 effect Load owner (Unset var) e = Ok (with_value e var None)
 effect Load owner (Push var value) e = pushed_value e var owner value
-effect Load owner (Front var elements) e = added_path e var elements ends.Front
-effect Load owner (Back var elements) e = added_path e var elements ends.Back
-effect Load owner (Remove var elements) e = dropped_path e var elements
+effect Load owner (Front var elements) e = added_path e var colon elements ends.Front
+effect Load owner (Back var elements) e = added_path e var colon elements ends.Back
+effect Load owner (Remove var elements) e = dropped_path e var colon elements
 effect Load owner (Conflict names) e = Ok e
 effect Load owner (Prereq names) e = Ok e
 effect Load owner (Whatis text) e = Ok e
 effect Unload owner (Set var value) e = Ok (with_value e var None)
 effect Unload owner (Unset var) e = Ok e
 effect Unload owner (Push var value) e = popped_value e var owner
-effect Unload owner (Front var elements) e = dropped_path e var elements
-effect Unload owner (Back var elements) e = dropped_path e var elements
+effect Unload owner (Front var elements) e = dropped_path e var colon elements
+effect Unload owner (Back var elements) e = dropped_path e var colon elements
 effect Unload owner (Remove var elements) e = Ok e
 effect Unload owner (Conflict names) e = Ok e
 effect Unload owner (Prereq names) e = Ok e
 effect Unload owner (Whatis text) e = Ok e
 
 -- the effects of a list of records, from the first to the last
-abbrev pub effects : Mode → Text → List Record → Environment → Result Environment Refused
+abbrev pub effects : Mode → Text → List Record → Environment → Result Environment EnvReason
 effects mode owner [] e = Ok e
 effects mode owner (r ∷ rs) e = effect mode owner r e >>= effects mode owner rs
 

@@ -11,7 +11,7 @@ use Rattle.modules.specs.Then.{◌>>=◌, refused_as}
 use Rattle.modules.specs.Reasons.{Reason, bad_edit, too_many_commands}
 use Rattle.modules.specs.Records.{effect}
 use Rattle.modules.specs.Commands.{Call, setenv, prepend_path, record_of}
-use Rattle.tclscript.specs.Tree.{Words}
+use Rattle.tclscript.specs.Tree.{Command}
 use Rattle.modules.specs.Evaluation.{answer}
 use Rattle.modules.specs.Answers.{cause_of, Stands}
 use Rattle.modules.specs.Steps.{Module, Move, Done, done, move_by, load_move, unload_move}
@@ -32,11 +32,11 @@ call_view (rust.TheVariants.PrependPath var value) = prepend_path var.now value.
 abbrev pub run_call : Mode → Text → Environment → Call → Result Environment Reason
 run_call mode owner e call = record_of mode e call >>= (λ r. refused_as bad_edit (effect mode owner r e))
 
-abbrev pub run_command : Mode → Text → ℕ → Environment → Text × Words → Result Environment Reason
+abbrev pub run_command : Mode → Text → ℕ → Environment → Command → Result Environment Reason
 run_command mode owner most e c = answer mode most e c >>= (λ r. refused_as bad_edit (effect mode owner r e))
 
 -- the effects of commands, one after another
-abbrev pub run_commands : Mode → Text → ℕ → Environment → List (Text × Words) → Result Environment Reason
+abbrev pub run_commands : Mode → Text → ℕ → Environment → List Command → Result Environment Reason
 run_commands mode owner most e [] = Ok e
 run_commands mode owner most e (c ∷ cs) = run_command mode owner most e c >>= (λ d. run_commands mode owner most d cs)
 
@@ -46,7 +46,7 @@ uncounted None = []
 uncounted (Some text) = slice_split (λ b. b == 58) text
 
 -- as many commands as the limit has run, before one more is refused
-abbrev pub run_limited : Mode → Text → Limits → Environment → List (Text × Words) → Result Environment Reason
+abbrev pub run_limited : Mode → Text → Limits → Environment → List Command → Result Environment Reason
 run_limited mode owner limits e cs =
     run_commands mode owner limits.value_bytes e (take limits.commands cs) >>= (λ d.
     if nat_le (length cs) limits.commands then Ok d else Err too_many_commands)

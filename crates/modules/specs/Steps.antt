@@ -3,7 +3,7 @@ use Rattle.std.specs.Prelude.{◌||◌, not, List, [], ◌∷◌, codes, reverse
 use Rattle.modulename.specs.ModuleName.{is_module_name, means}
 use Rattle.envstate.specs.Texts.{Text, has}
 use Rattle.envstate.specs.Environment.{Environment, lookup}
-use Rattle.envstate.specs.Refused.{inconsistent}
+use Rattle.envstate.specs.Reasons.{inconsistent}
 use Rattle.envstate.specs.Loaded.{Entry, names_of, loaded_in, added_loaded, dropped_loaded}
 use Rattle.lookup.specs.Agreement.{Files}
 use Rattle.lookup.specs.Search.{Held, absent, no_cookie, not_utf8, script, modulefile, found, bad_name}

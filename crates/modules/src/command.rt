@@ -108,8 +108,8 @@ fn run_prepend_path(
     }
     permit(alloc, var, value)?;
     match mode {
-        Mode::Load => add_path(alloc, env, var, &[value], End::Front)?,
-        Mode::Unload => drop_path(alloc, env, var, &[value])?,
+        Mode::Load => add_path(alloc, env, var, ':', &[value], End::Front)?,
+        Mode::Unload => drop_path(alloc, env, var, ':', &[value])?,
     }
     Ok(())
 }

@@ -77,7 +77,7 @@ fn command_words(
     command: &Command<&str>,
     most: usize,
 ) -> Result<Vec<String>, Refusal>
-    ensures { Gives (λ words. map string_bytes words.items) result (texts_of most (command_view (λ piece. piece.now) command.now).0 (command_view (λ piece. piece.now) command.now).1) }
+    ensures { Gives (λ words. map string_bytes words.items) result (texts_of most (command_view (λ piece. piece.now) command.now).source (command_view (λ piece. piece.now) command.now).words) }
 {
     let mut words = Vec::new(alloc);
     for word in &command.words {

@@ -8,8 +8,6 @@ mod evaluate;
 mod refusal;
 mod requests;
 mod running;
-#[cfg(test)]
-mod tests;
 
 pub use command_line::request;
 pub use envstate::{Change, End, Env, EnvFault, Loaded};

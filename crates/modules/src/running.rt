@@ -4,6 +4,7 @@ ghost use Rattle.std.specs.Option.{option_map};
 ghost use Rattle.modulename.specs.ModuleName.{means};
 ghost use Rattle.envstate.specs.Texts.{has};
 ghost use Rattle.envstate.specs.Loaded as list;
+ghost use Rattle.envstate.specs.LoadedEntries.{entry_of};
 ghost use Rattle.lookup.specs.Agreement.{Files, Folders, Shows};
 ghost use Rattle.lookup.specs.Search.{modulefile};
 ghost use Rattle.modules.specs.declared.evaluate.Mode.TheVariants as modes;
@@ -76,14 +77,14 @@ fn entries_in(alloc: Global, env: &Env) -> Result<Vec<Loaded>, Refusal>
 }
 
 fn is_loaded(entries: &[Loaded], name: &str) -> bool
-    ensures { result ≡ has name.now (list.names_of (map list.entry_of entries.now)) }
+    ensures { result ≡ has name.now (list.names_of (map entry_of entries.now)) }
 {
     entries.iter().any(|entry| name == entry.name.as_str())
 }
 
 /// The last loaded module that the name means.
 fn last_meant<'a>(entries: &'a [Loaded], name: &str) -> Option<&'a Loaded>
-    ensures { option_map (λ x. list.entry_of x.now) result ≡ find (λ x. means name.now x.name) (reverse (map list.entry_of entries.entry.now)) }
+    ensures { option_map (λ x. entry_of x.now) result ≡ find (λ x. means name.now x.name) (reverse (map entry_of entries.entry.now)) }
 {
     entries
         .iter()
@@ -191,7 +192,7 @@ fn load<T: Tree>(
     ensures before { Shows (T.agrees tree.new) (λ files folders. T.agrees tree.old files folders) }
     ensures later { T.failures tree.old ≤ T.failures tree.new }
     ensures answer { Tells (T.agrees tree.new) (T.failures tree.old < T.failures tree.new) done_of result
-        (left_loaded limits env.now (map list.entry_of entries.now) name.now) }
+        (left_loaded limits env.now (map entry_of entries.now) name.now) }
 {
     if is_loaded(entries, name) {
         return unchanged(alloc, env);
@@ -213,7 +214,7 @@ fn unload<T: Tree>(
     ensures before { Shows (T.agrees tree.new) (λ files folders. T.agrees tree.old files folders) }
     ensures later { T.failures tree.old ≤ T.failures tree.new }
     ensures answer { Tells (T.agrees tree.new) (T.failures tree.old < T.failures tree.new) done_of result
-        (left_unloaded limits env.now (map list.entry_of entries.now) name.now) }
+        (left_unloaded limits env.now (map entry_of entries.now) name.now) }
 {
     if !is_module_name(name) {
         return Err(Refusal::Find(FindFault::BadName(String::from_str(alloc, name)?)));

@@ -1,3 +1,5 @@
+pub mod Results
+pub mod Whole
 pub mod RunLemmas
 pub mod BraceLemmas
 pub mod BraceClose

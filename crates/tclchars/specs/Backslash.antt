@@ -1,7 +1,7 @@
 -- What backslashes stand for (Tcl(n), rule 9).
 use Rattle.std.specs.Prelude.{ℕ, zero, suc, ◌+◌, ◌*◌, [], ◌∷◌, Bool, false, ◌||◌, ◌&&◌, ◌==◌, nat_lt, nat_le, if◌then◌else◌, Option, Some, None, encode_utf8}
 use Rattle.std.specs.Char.{digit_value}
-use Rattle.tclchars.specs.Bytes.{newline, is_continuation}
+use Rattle.tclchars.specs.Bytes.{space, tab, newline, is_continuation}
 use Rattle.tclchars.specs.Runs.{Text, front, back}
 
 -- a b f n r t v stand for the characters 7 8 12 10 13 9 11; any other byte stands for itself
@@ -17,7 +17,7 @@ abbrev pub is_hexadecimal : ℕ → Bool
 is_hexadecimal b = nat_lt (digit_value b) 16
 
 abbrev pub is_blank_or_tab : ℕ → Bool
-is_blank_or_tab b = b == 32 || b == 9
+is_blank_or_tab b = b == space || b == tab
 
 -- the value of a first digit of the base, and what follows it
 abbrev pub digit_at : ℕ → Text → Option (ℕ × Text)
@@ -68,7 +68,7 @@ begins_wide (b ∷ bs) = nat_le 128 b
 abbrev pub after_backslash : Text → Option (Text × Text)
 after_backslash [] = None
 after_backslash (b ∷ bs) =
-    if b == newline then Some (32 ∷ [], back is_blank_or_tab bs)
+    if b == newline then Some (space ∷ [], back is_blank_or_tab bs)
     else if is_octal b then character (octal_at 3 0 (b ∷ bs))
     else if b == 120 then code_at 2 b bs
     else if b == 117 then code_at 4 b bs

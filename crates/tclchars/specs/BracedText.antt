@@ -1,7 +1,7 @@
 -- What the text between the braces of a word stands for (Tcl(n), rules 6 and 9): itself, but that a backslash before a newline and
 -- the blanks and tabs behind them are one space. A backslash and any other character are passed over together.
 use Rattle.std.specs.Prelude.{[], ◌∷◌, ◌==◌, if◌then◌else◌}
-use Rattle.tclchars.specs.Bytes.{newline, backslash}
+use Rattle.tclchars.specs.Bytes.{space, newline, backslash}
 use Rattle.tclchars.specs.Runs.{Text}
 use Rattle.tclchars.specs.Backslash.{is_blank_or_tab}
 
@@ -12,7 +12,7 @@ abbrev mutual
 
   pub behind_backslash : Text → Text
   behind_backslash [] = backslash ∷ []
-  behind_backslash (b ∷ bs) = if b == newline then 32 ∷ behind_newline bs else backslash ∷ (b ∷ braced_text bs)
+  behind_backslash (b ∷ bs) = if b == newline then space ∷ behind_newline bs else backslash ∷ (b ∷ braced_text bs)
 
   pub behind_newline : Text → Text
   behind_newline [] = []

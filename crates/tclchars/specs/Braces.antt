@@ -1,14 +1,14 @@
 -- Braces that match (Tcl(n), rule 6: a backslash and the character after it count for none).
 use Rattle.std.specs.Prelude.{◌≢◌, ℕ, zero, suc, [], ◌∷◌, ◌++◌, Bool, true, false, ◌==◌, if◌then◌else◌, Option, Some, None, option_map}
-use Rattle.tclchars.specs.Bytes.{backslash}
+use Rattle.tclchars.specs.Bytes.{backslash, left_brace, right_brace}
 use Rattle.tclchars.specs.Runs.{Text}
 
 -- braces match, but for those behind a backslash
 pub data Balanced : Text → Type 0 where
   nothing : Balanced []
-  other : {b : ℕ} {bs : Text} → b ≢ backslash → b ≢ 123 → b ≢ 125 → Balanced bs → Balanced (b ∷ bs)
+  other : {b : ℕ} {bs : Text} → b ≢ backslash → b ≢ left_brace → b ≢ right_brace → Balanced bs → Balanced (b ∷ bs)
   escaped : {b : ℕ} {bs : Text} → Balanced bs → Balanced (backslash ∷ (b ∷ bs))
-  inner : {inside bs : Text} → Balanced inside → Balanced bs → Balanced (123 ∷ (inside ++ 125 ∷ bs))
+  inner : {inside bs : Text} → Balanced inside → Balanced bs → Balanced (left_brace ∷ (inside ++ right_brace ∷ bs))
 
 -- The brace that closes, as a function that computes; the law closing_brace ties it to Balanced.
 
@@ -19,9 +19,9 @@ behind b found = option_map (λ p. (b ∷ p.0, p.1)) found
 abbrev pub brace_step : Bool → ℕ → ℕ → Option (Bool × ℕ)
 brace_step true depth b = Some (false, depth)
 brace_step false zero b =
-    if b == 92 then Some (true, 0) else if b == 123 then Some (false, 1) else if b == 125 then None else Some (false, 0)
+    if b == backslash then Some (true, 0) else if b == left_brace then Some (false, 1) else if b == right_brace then None else Some (false, 0)
 brace_step false (suc depth) b =
-    if b == 92 then Some (true, suc depth) else if b == 123 then Some (false, suc (suc depth)) else if b == 125 then Some (false, depth) else Some (false, suc depth)
+    if b == backslash then Some (true, suc depth) else if b == left_brace then Some (false, suc (suc depth)) else if b == right_brace then Some (false, depth) else Some (false, suc depth)
 
 abbrev pub after_step : ℕ → Text → (Bool → ℕ → Option (Text × Text)) → Option (Bool × ℕ) → Option (Text × Text)
 after_step b bs more None = Some ([], bs)

@@ -1,21 +1,66 @@
--- The bytes that mean something in a script, and what a text may begin with.
+-- The characters that mean something in the texts of Tcl, by their codes, and what a text may begin with.
 use Rattle.std.specs.Prelude.{◌≡◌, ℕ, List, [], ◌∷◌, Bool, true, not, ◌||◌, ◌&&◌, ◌==◌, nat_le, nat_lt}
+
+abbrev pub tab : ℕ
+tab = 9
 
 abbrev pub newline : ℕ
 newline = 10
 
-abbrev pub semicolon : ℕ
-semicolon = 59
+abbrev pub vertical_tab : ℕ
+vertical_tab = 11
+
+abbrev pub form_feed : ℕ
+form_feed = 12
+
+abbrev pub carriage_return : ℕ
+carriage_return = 13
+
+abbrev pub space : ℕ
+space = 32
+
+abbrev pub quote : ℕ
+quote = 34
 
 abbrev pub hash : ℕ
 hash = 35
 
+abbrev pub dollar : ℕ
+dollar = 36
+
+abbrev pub left_parenthesis : ℕ
+left_parenthesis = 40
+
+abbrev pub right_parenthesis : ℕ
+right_parenthesis = 41
+
+abbrev pub star : ℕ
+star = 42
+
+abbrev pub colon : ℕ
+colon = 58
+
+abbrev pub semicolon : ℕ
+semicolon = 59
+
+abbrev pub left_bracket : ℕ
+left_bracket = 91
+
 abbrev pub backslash : ℕ
 backslash = 92
 
+abbrev pub right_bracket : ℕ
+right_bracket = 93
+
+abbrev pub left_brace : ℕ
+left_brace = 123
+
+abbrev pub right_brace : ℕ
+right_brace = 125
+
 -- what parts the words of a command: space, tab, vertical tab, form feed and carriage return
 abbrev pub is_blank : ℕ → Bool
-is_blank b = b == 32 || b == 9 || b == 11 || b == 12 || b == 13
+is_blank b = b == space || b == tab || b == vertical_tab || b == form_feed || b == carriage_return
 
 -- what ends a command: newline and semicolon (Tcl(n), rule 1)
 abbrev pub is_end : ℕ → Bool
@@ -27,7 +72,8 @@ is_gap b = is_blank b || is_end b
 
 -- what has a meaning of its own somewhere in a script: " $ [ ] { } \
 abbrev pub is_special : ℕ → Bool
-is_special b = b == 34 || b == 36 || b == 91 || b == 93 || b == 123 || b == 125 || b == backslash
+is_special b =
+    b == quote || b == dollar || b == left_bracket || b == right_bracket || b == left_brace || b == right_brace || b == backslash
 
 -- what has none anywhere
 abbrev pub is_plain : ℕ → Bool

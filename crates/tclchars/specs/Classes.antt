@@ -1,6 +1,6 @@
 -- The classes of bytes that runs are made of.
 use Rattle.std.specs.Prelude.{ℕ, [], ◌∷◌, Bool, false, not, ◌||◌, ◌&&◌, ◌==◌, nat_le}
-use Rattle.tclchars.specs.Bytes.{is_blank, is_gap, is_plain, is_space, backslash}
+use Rattle.tclchars.specs.Bytes.{quote, dollar, right_parenthesis, left_bracket, right_bracket, right_brace, is_blank, is_gap, is_plain, is_space, backslash}
 use Rattle.tclchars.specs.Runs.{Text}
 use Rattle.tclchars.specs.Backslash.{is_blank_or_tab}
 use Rattle.tclchars.specs.declared.runs.Class.{Class}
@@ -12,7 +12,7 @@ is_name b = (nat_le 48 b && nat_le b 57) || (nat_le 65 b && nat_le b 90) || (nat
 
 -- what begins a substitution: $ [ and the backslash
 abbrev pub is_substitution : ℕ → Bool
-is_substitution b = b == 36 || b == 91 || b == backslash
+is_substitution b = b == dollar || b == left_bracket || b == backslash
 
 abbrev pub in_class : Class → ℕ → Bool
 in_class Blank b = is_blank b
@@ -21,12 +21,12 @@ in_class Space b = is_space b
 in_class BlankOrTab b = is_blank_or_tab b
 in_class Plain b = is_plain b
 in_class BareScript b = not (is_gap b || is_substitution b)
-in_class BareBracket b = not (is_gap b || is_substitution b || b == 93)
-in_class BareIndex b = not (is_substitution b || b == 41)
-in_class BareQuote b = not (is_substitution b || b == 34)
+in_class BareBracket b = not (is_gap b || is_substitution b || b == right_bracket)
+in_class BareIndex b = not (is_substitution b || b == right_parenthesis)
+in_class BareQuote b = not (is_substitution b || b == quote)
 in_class BareElement b = not (is_space b || b == backslash)
 in_class Name b = is_name b
-in_class InName b = not (b == 125)
+in_class InName b = not (b == right_brace)
 in_class Unescaped b = not (b == backslash)
 
 -- whether there is a first byte, and it passes

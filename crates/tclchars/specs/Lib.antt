@@ -6,3 +6,4 @@ pub mod Braces
 pub mod BracedText
 pub mod Faults
 pub mod Reading
+pub mod Whole

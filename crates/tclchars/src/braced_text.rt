@@ -23,7 +23,8 @@ pub fn push_braced_text(value: &mut String, inside: &str) -> Result<(), AllocErr
 // Adds what a backslash and what it escapes stand for, and gives what follows.
 fn push_escape<'a>(value: &mut String, after: &'a str) -> Result<&'a str, AllocError>
     ensures shorter { IfOk result (λ rest. length rest.now ≤ length after.now) }
-    ensures text { IfOk result (λ rest. string_bytes value.new ++ braced_text rest.now ≡ string_bytes value.old ++ behind_backslash after.now) }
+    ensures text { IfOk result
+        (λ rest. string_bytes value.new ++ braced_text rest.now ≡ string_bytes value.old ++ behind_backslash after.now) }
 {
     if let Some(next) = after_mark(after, b'\n') {
         value.push(' ')?;

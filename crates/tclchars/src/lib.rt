@@ -7,6 +7,7 @@ mod braced_text;
 mod braces;
 mod fault;
 mod laws;
+mod limits;
 mod runs;
 
 pub use backslash::read_backslash;
@@ -14,4 +15,5 @@ pub use braced_text::push_braced_text;
 pub use braces::split_close;
 pub use fault::{Fault, ReadError, TextFault, place};
 pub use laws::closing_brace;
+pub use limits::{MAX_BYTES, MAX_NESTING};
 pub use runs::{Class, after_mark, begins_class, split_front};

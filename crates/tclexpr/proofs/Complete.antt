@@ -13,7 +13,7 @@ use Rattle.tclexpr.specs.Tree.{Expr, operand, unary, choice, Token, mark}
 use Rattle.tclexpr.specs.Grammar.{level, sign_of, IsExpr, simple, choosing, IsChain, single, in_parentheses, signed, joining}
 use Rattle.tclexpr.specs.Marks.{after_white, mark_at}
 use Rattle.tclexpr.specs.Row.{IsRow, IsExprText}
-use Rattle.tclexpr.specs.Faults.{Follows, NextIsNot, GoesOn}
+use Rattle.tclexpr.specs.Faults.{Follows, NextIsNot, MayFollow}
 use Rattle.tclexpr.specs.Reading.{Extent, whole, chain, is_close, is_colon, is_question, is_open, infix_of, expected, expect, signed_at, enclosed_at, marked_at, begun_at, prefix_at, join, next_at, going_at, climb_at, chain_at, branches_at, choosing_at, whole_at, below_at, ended, expr_at}
 use Rattle.tclexpr.proofs.Results.{found_once, found_none, infix_once}
 use Rattle.tclexpr.proofs.Rows.{row_cut, row_shorter}
@@ -106,7 +106,7 @@ module _ {O : Type 0} (read_operand : ℕ → Text → Read (O × ℕ)) where
         → climb_at read_operand d below n (suc turns) x rest ≡ (below (chain (level i - 1)) after >>= (λ y. climb_at read_operand d below n turns (join i x y.0) y.1))
     climb_goes n turns x rest i after is within less = climb_operator n turns x rest i after is within ∙ (let t : nat_lt x.1 d ≡ true = lt_true x.1 d less in rw t refl)
 
-    pub choosing_stops : (x : Expr O × ℕ) (rest : Text) → NextIsNot GoesOn rest → choosing_at read_operand d below x rest (mark_at (after_white rest)) ≡ Ok (x, rest)
+    pub choosing_stops : (x : Expr O × ℕ) (rest : Text) → NextIsNot MayFollow rest → choosing_at read_operand d below x rest (mark_at (after_white rest)) ≡ Ok (x, rest)
     choosing_stops x rest ends = at_mark (mark_at (after_white rest)) refl where
       at_mark : (found : Option (Mark × Text)) → mark_at (after_white rest) ≡ found → choosing_at read_operand d below x rest found ≡ Ok (x, rest)
       at_mark None is = refl
@@ -127,15 +127,15 @@ no_operator m rest after is none n = λ i more is'. absurd (apart (sym (ap infix
   apart : {i : Infix} → Some i ≡ None → ⊥
   apart h = cc
 
-pub no_goes_on : (m : Mark) (rest after : Text) → mark_at (after_white rest) ≡ Some (m, after) → (GoesOn m → ⊥) → NextIsNot GoesOn rest
-no_goes_on m rest after is stop = λ k more is' goes. stop (subst GoesOn (sym (found_once (mark_at (after_white rest)) m k after more is is').0) goes)
+pub no_goes_on : (m : Mark) (rest after : Text) → mark_at (after_white rest) ≡ Some (m, after) → (MayFollow m → ⊥) → NextIsNot MayFollow rest
+no_goes_on m rest after is stop = λ k more is' goes. stop (subst MayFollow (sym (found_once (mark_at (after_white rest)) m k after more is is').0) goes)
 
 mark_nil : mark_at [] ≡ None
 unfolding mark_at
 mark_nil = refl
 
 -- nothing follows where the text ends
-pub ends_here : (rest : Text) → after_white rest ≡ [] → NextIsNot GoesOn rest
+pub ends_here : (rest : Text) → after_white rest ≡ [] → NextIsNot MayFollow rest
 ends_here rest is = λ m more found goes. found_none (mark_at (after_white rest)) m more (ap mark_at is ∙ mark_nil) found
 
 -- an operator follows what is of its level
@@ -143,7 +143,7 @@ pub operator_follows : (i : Infix) (rest after : Text) → mark_at (after_white 
 operator_follows i rest after is = λ j more is'. omega (arith, ap level (infix_once i j (found_once (mark_at (after_white rest)) (marks.Infix i) (marks.Infix j) after more is is').0))
 
 -- no operator follows what nothing goes on behind
-pub ends_follow : (n : ℕ) (rest : Text) → NextIsNot GoesOn rest → Follows n rest
+pub ends_follow : (n : ℕ) (rest : Text) → NextIsNot MayFollow rest → Follows n rest
 ends_follow n rest ends = λ i more is. absurd (ends (marks.Infix i) more is tt)
 
 pub follows_less : (m n : ℕ) (rest : Text) → m ≤ n → Follows n rest → Follows m rest
@@ -216,7 +216,7 @@ module _ (O : Type 0) (IsOperand : Text → Text → O → ℕ → Type 0) (read
         in
         reaches_more d m bs (x, h) cut.0 left i after cut.2.1 (omega arith) (omega arith) (y, j) rest right (row_shorter O IsOperand shorter (mark (marks.Infix i)) rs cut.0 rest cut.2)
 
-    pub expr_again : {h : ℕ} {ts : List (Token O)} {e : Expr O} → IsExpr O h ts e → (d : ℕ) → h ≤ d → (bs rest : Text) → IsRow O IsOperand bs rest ts → NextIsNot GoesOn rest → whole_at read_operand d (below_at read_operand d) bs ≡ Ok ((e, h), rest)
+    pub expr_again : {h : ℕ} {ts : List (Token O)} {e : Expr O} → IsExpr O h ts e → (d : ℕ) → h ≤ d → (bs rest : Text) → IsRow O IsOperand bs rest ts → NextIsNot MayFollow rest → whole_at read_operand d (below_at read_operand d) bs ≡ Ok ((e, h), rest)
     expr_again (simple {h} {ts} {e} is) d deep bs rest row ends =
         let below = below_at read_operand d in
         whole_from read_operand d below bs (e, h) rest (reaches_end d 13 bs (e, h) rest (chain_again is d 13 deep (omega arith) bs rest row (ends_follow 13 rest ends)) (ends_follow 14 rest ends))

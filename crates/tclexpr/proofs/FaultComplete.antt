@@ -12,7 +12,7 @@ use Rattle.tclexpr.specs.Tree.{Expr, operand, unary, choice, Token, mark}
 use Rattle.tclexpr.specs.Grammar.{level, sign_of, IsChain}
 use Rattle.tclexpr.specs.Marks.{after_white, mark_at}
 use Rattle.tclexpr.specs.Row.{IsRow, IsExprText}
-use Rattle.tclexpr.specs.Faults.{NextIsNot, GoesOn, GoesOnOr, Begins, bad_next, ExprFault, in_condition, deep_choice, in_yes, no_colon, in_no, ChainFault, in_operand, no_operand, deep_prefix, in_signed, in_open, no_close, deep_operator, in_right, ExprTextFault, inside, left_over}
+use Rattle.tclexpr.specs.Faults.{NextIsNot, MayFollow, MayFollowOr, Begins, bad_next, ExprFault, in_condition, deep_choice, in_yes, no_colon, in_no, ChainFault, in_operand, no_operand, deep_prefix, in_signed, in_open, no_close, deep_operator, in_right, ExprTextFault, inside, left_over}
 use Rattle.tclexpr.specs.Reading.{Extent, whole, chain, is_close, is_colon, is_open, expected, expect, signed_at, enclosed_at, begun_at, prefix_at, join, climb_at, chain_at, branches_at, choosing_at, whole_at, below_at, ended, expr_at}
 use Rattle.tclexpr.proofs.Rows.{row_cut}
 use Rattle.tclexpr.proofs.Sound.{open_is, close_is, colon_is}
@@ -23,13 +23,13 @@ marked_false test wanted only m other true is = absurd (other (only m is))
 marked_false test wanted only m other false is = is
 
 -- a mark that has to come next and doesn't
-expect_err : (test : Mark → Bool) (wanted : Mark) → ((m : Mark) → test m ≡ true → m ≡ wanted) → (rest : Text) → NextIsNot (GoesOnOr wanted) rest → expect test rest ≡ Err (bad_next rest)
+expect_err : (test : Mark → Bool) (wanted : Mark) → ((m : Mark) → test m ≡ true → m ≡ wanted) → (rest : Text) → NextIsNot (MayFollowOr wanted) rest → expect test rest ≡ Err (bad_next rest)
 expect_err test wanted only rest none = at_mark (mark_at (after_white rest)) refl where
   at_mark : (found : Option (Mark × Text)) → mark_at (after_white rest) ≡ found → expected test (length (after_white rest)) found ≡ Err (bad_next rest)
   at_mark None is = refl
   at_mark (Some p) is = let off : test p.0 ≡ false = marked_false test wanted only p.0 (λ e. none p.0 p.1 is (inr e)) (test p.0) refl in rw off refl
 
-ends_left : (wanted : Mark) (rest : Text) → NextIsNot (GoesOnOr wanted) rest → NextIsNot GoesOn rest
+ends_left : (wanted : Mark) (rest : Text) → NextIsNot (MayFollowOr wanted) rest → NextIsNot MayFollow rest
 ends_left wanted rest none = λ m more is goes. none m more is (inl goes)
 
 no_begin : (m : Mark) → (Begins m → ⊥) → (is_open m ≡ false) × (sign_of m ≡ None)

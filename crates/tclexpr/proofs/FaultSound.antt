@@ -4,6 +4,7 @@ use Rattle.tclchars.specs.Runs.{Text}
 use Rattle.tclchars.specs.declared.fault.Fault.{Fault}
 use Rattle.tclchars.specs.declared.fault.Fault.TheVariants.{TooDeep, BadExpression}
 use Rattle.tclchars.specs.Reading.{◌>>=◌, Read}
+use Rattle.tclchars.proofs.Results.{bind_err, read_map_err}
 use Rattle.tclexpr.specs.declared.operators.UnaryOperator.{UnaryOperator}
 use Rattle.tclexpr.specs.declared.operators.Infix.{Infix}
 use Rattle.tclexpr.specs.declared.operators.Mark.{Mark}
@@ -12,9 +13,9 @@ use Rattle.tclexpr.specs.Tree.{Expr, operand, unary, choice, mark}
 use Rattle.tclexpr.specs.Grammar.{level, sign_of, IsChain}
 use Rattle.tclexpr.specs.Marks.{after_white, mark_at}
 use Rattle.tclexpr.specs.Row.{IsRow}
-use Rattle.tclexpr.specs.Faults.{NextIsNot, GoesOn, GoesOnOr, Begins, bad_next, ExprFault, in_condition, deep_choice, in_yes, no_colon, in_no, ChainFault, in_operand, no_operand, deep_prefix, in_signed, in_open, no_close, deep_operator, in_right, ExprTextFault, inside, left_over}
+use Rattle.tclexpr.specs.Faults.{NextIsNot, MayFollow, MayFollowOr, Begins, bad_next, ExprFault, in_condition, deep_choice, in_yes, no_colon, in_no, ChainFault, in_operand, no_operand, deep_prefix, in_signed, in_open, no_close, deep_operator, in_right, ExprTextFault, inside, left_over}
 use Rattle.tclexpr.specs.Reading.{Extent, whole, chain, is_close, is_colon, is_question, is_open, infix_of, expected, expect, signed_at, enclosed_at, begun_at, prefix_at, join, next_at, going_at, climb_at, chain_at, branches_at, choosing_at, whole_at, below_at, ended, expr_at}
-use Rattle.tclexpr.proofs.Results.{bind_err, read_map_err, found_once, found_none}
+use Rattle.tclexpr.proofs.Results.{found_once, found_none}
 use Rattle.tclexpr.proofs.Rows.{row_join, row_no_longer, after_white_no_longer, mark_shorter}
 use Rattle.tclexpr.proofs.Sound.{SoundBelow, TookChain, TookWhole, TookFront, front_more, prefix_front, prefix_sound, chain_sound, whole_sound, below_sound, chain_weaker, expected_ok, open_is, colon_is, question_is, infix_is, true_false, lt_is, lt_not, le_is}
 
@@ -33,7 +34,7 @@ expected_err wanted left (Some p) f h = tested (wanted p.0) refl h where
   tested false t h = (one_err {A = Text} (BadExpression left) f h, λ m rest is s. true_false (sym s ∙ ap wanted (sym (found_once (Some p) p.0 m p.1 rest refl is).0) ∙ t))
 
 -- neither what an expression goes on with nor the mark
-goes_or : (wanted : Mark) (test : Mark → Bool) → test wanted ≡ true → (rest : Text) → NextIsNot GoesOn rest → ((m : Mark) (after : Text) → mark_at (after_white rest) ≡ Some (m, after) → test m ≡ true → ⊥) → NextIsNot (GoesOnOr wanted) rest
+goes_or : (wanted : Mark) (test : Mark → Bool) → test wanted ≡ true → (rest : Text) → NextIsNot MayFollow rest → ((m : Mark) (after : Text) → mark_at (after_white rest) ≡ Some (m, after) → test m ≡ true → ⊥) → NextIsNot (MayFollowOr wanted) rest
 goes_or wanted test is rest ends none = λ m after found goes. elim goes [ inl g ↦ ends m after found g | inr e ↦ none m after found (ap test e ∙ is) ]
 
 no_sign : (m : Mark) → is_open m ≡ false → sign_of m ≡ None → Begins m → ⊥

@@ -8,7 +8,7 @@ use Rattle.tclscript.specs.declared.tree.Word as rust_word
 use Rattle.tclscript.specs.declared.tree.Command as rust_command
 use Rattle.tclscript.specs.declared.tree.Script as rust_script
 use Rattle.tclexpr.specs.View.{words_view}
-use Rattle.tclscript.specs.Tree.{Words, Word, Part, nesting, words_nesting, word_nesting, parts_nesting, part_nesting, commands_of, words_of, parts_of}
+use Rattle.tclscript.specs.Tree.{Command, Words, Word, Part, nesting, words_nesting, word_nesting, parts_nesting, part_nesting, commands_of, words_of, parts_of}
 
 max_last : (a b c : ℕ) → max a (max b c) ≡ max (max a b) c
 max_last a b c = omega arith
@@ -21,9 +21,9 @@ pub words_more : (ws : List Word) (w : Word) → words_nesting (words_of (ws ++ 
 words_more [] w = omega arith
 words_more (v ∷ ws) w = ap (max (word_nesting v)) (words_more ws w) ∙ max_last (word_nesting v) (words_nesting (words_of ws)) (word_nesting w)
 
-pub commands_more : (cs : List (Text × Words)) (c : Text × Words) → nesting (commands_of (cs ++ c ∷ [])) ≡ max (nesting (commands_of cs)) (words_nesting c.1)
+pub commands_more : (cs : List Command) (c : Command) → nesting (commands_of (cs ++ c ∷ [])) ≡ max (nesting (commands_of cs)) (words_nesting c.words)
 commands_more [] c = omega arith
-commands_more (b ∷ cs) c = ap (max (words_nesting b.1)) (commands_more cs c) ∙ max_last (words_nesting b.1) (nesting (commands_of cs)) (words_nesting c.1)
+commands_more (b ∷ cs) c = ap (max (words_nesting b.words)) (commands_more cs c) ∙ max_last (words_nesting b.words) (nesting (commands_of cs)) (words_nesting c.words)
 
 -- the height so far, where numbers up to the limit are exact
 abbrev pub Tallest : ℕ → ℕ → ℕ → Type 0
@@ -42,10 +42,10 @@ module _ {P : Type 0} (shown : P → Text) where
   pub words_step : (xs ys : List (rust_word.Word P)) (x : rust_word.Word P) → ys ≡ xs ++ x ∷ [] → words_nesting (words_view shown ys) ≡ max (words_nesting (words_view shown xs)) (word_nesting (word_view shown x))
   words_step xs ys x e = ap (λ zs. words_nesting (words_view shown zs)) e ∙ ap (λ ps. words_nesting (words_of ps)) (map_push (word_view shown) xs x) ∙ words_more (map (word_view shown) xs) (word_view shown x)
 
-  pub commands_step : (xs ys : List (rust_command.Command P)) (x : rust_command.Command P) → ys ≡ xs ++ x ∷ [] → nesting (commands_of (map (command_view shown) ys)) ≡ max (nesting (commands_of (map (command_view shown) xs))) (words_nesting (command_view shown x).1)
+  pub commands_step : (xs ys : List (rust_command.Command P)) (x : rust_command.Command P) → ys ≡ xs ++ x ∷ [] → nesting (commands_of (map (command_view shown) ys)) ≡ max (nesting (commands_of (map (command_view shown) xs))) (words_nesting (command_view shown x).words)
   commands_step xs ys x e = ap (λ zs. nesting (commands_of (map (command_view shown) zs))) e ∙ ap (λ ps. nesting (commands_of ps)) (map_push (command_view shown) xs x) ∙ commands_more (map (command_view shown) xs) (command_view shown x)
 
-  pub words_of_command : (c : rust_command.Command P) → (command_view shown c).1 ≡ words_view shown (rust_command.out-Command P c).words.items
+  pub words_of_command : (c : rust_command.Command P) → (command_view shown c).words ≡ words_view shown (rust_command.out-Command P c).words.items
   words_of_command c = search (rules, rust_command.the_lemmas)
 
   pub word_height : (w : rust_word.Word P) → word_nesting (word_view shown w) ≡ parts_nesting (parts_view shown (rust_word.out-Word P w).parts.items)

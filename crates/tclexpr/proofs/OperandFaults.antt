@@ -9,6 +9,7 @@ use Rattle.tclchars.specs.Reading.{◌>>=◌, Read, read_map, left_of}
 use Rattle.tclchars.specs.declared.fault.Fault.{Fault}
 use Rattle.tclchars.specs.declared.fault.Fault.TheVariants.{OpenBrace, BadExpression}
 use Rattle.tclchars.proofs.BraceClose.{close_sound, found_close, is_byte}
+use Rattle.tclchars.proofs.Results.{bind_err, ok_err, read_map_err}
 use Rattle.tclscript.specs.declared.context.Context.TheVariants.{InQuotes}
 use Rattle.tclscript.specs.Tree as tree
 use Rattle.tclscript.specs.Tree.{Part, Parts, nesting, parts_nesting, part_nesting}
@@ -19,7 +20,6 @@ use Rattle.tclscript.specs.Faults.{PartFault, PartsFault, NeverCloses, Expands}
 use Rattle.tclscript.specs.Ends.{class_of}
 use Rattle.tclscript.specs.Reading.{inner_at, part_at, quotes_at, taken}
 use Rattle.tclscript.proofs.Ends.{end_length}
-use Rattle.tclscript.proofs.Exact.{bind_err, read_map_err, ok_err}
 use Rattle.tclscript.proofs.PartsExact.{part_sound, part_faulty, part_again, at_dollar, at_bracket}
 use Rattle.tclscript.proofs.PartFaults.{part_met}
 use Rattle.tclscript.proofs.Operands.{quotes_exact}
@@ -28,7 +28,7 @@ use Rattle.tclscript.proofs.Whole as script_whole
 use Rattle.tclscript.proofs.Whole.{inner_exact}
 use Rattle.tclscript.proofs.Marks.{Without, run_taken, front_run, back_run, true_false}
 use Rattle.tclexpr.specs.declared.numbers.Digits.TheVariants.{Decimal}
-use Rattle.tclexpr.specs.Operands.{Operand, number, word, variable, indexed, bracket, quoted, braced, is_digit, begins_digit, announced, after_announced, after_based, begins_point, after_exponent, after_fraction, after_digits, after_decimal, first_of_both, after_number, is_truth, operand_of, substituted, quoted_at, in_braces, word_at, numeric, operand_at}
+use Rattle.tclexpr.specs.Operands.{Operand, number, word, variable, indexed, bracket, quoted, braced, is_digit, begins_digit, announced, after_announced, after_based, begins_point, after_exponent, after_fraction, after_digits, after_decimal, first_of_both, after_number, is_truth, operand_of, substituted, quoted_at, operand_in_braces, word_at, numeric, operand_at}
 use Rattle.tclexpr.specs.OperandGrammar.{IsSubstitution, IsTruthWord, IsOperand, is_opening, OperandFault, in_substitution, lone_dollar, open_brace, in_quotes, open_quote, no_operand}
 use Rattle.tclexpr.proofs.OperandSteps.{word-read, word-false, word-called}
 use Rattle.tclexpr.proofs.OperandSound.{operand_dollar, operand_bracket, operand_quote, operand_brace, operand_other, Opening, dollar, square, quote, brace, other, opening}
@@ -90,7 +90,7 @@ quoted_again d bs rest ps k h deep =
 
 braced_again : (d : ℕ) (bs rest t : Text) (k : ℕ) → IsOperand bs rest (braced t) k → operand_at d bs ≡ Ok ((braced t, k), rest)
 braced_again d bs rest t k h =
-    ap (operand_at d) h.0 ∙ operand_brace d (t ++ 125 ∷ rest) ∙ ap (in_braces (suc (length (t ++ 125 ∷ rest)))) (found_close t rest h.1) ∙ ap (λ n. Ok ((braced t, n), rest)) (sym h.2)
+    ap (operand_at d) h.0 ∙ operand_brace d (t ++ 125 ∷ rest) ∙ ap (operand_in_braces (suc (length (t ++ 125 ∷ rest)))) (found_close t rest h.1) ∙ ap (λ n. Ok ((braced t, n), rest)) (sym h.2)
 
 -- a number begins with a digit or a point
 point_byte : (b : ℕ) → (is_digit Decimal b || b == 46) ≡ true → not (is_opening b) ≡ true
@@ -284,7 +284,7 @@ quote_faulty d xs f h =
       | inr k ↦ subst (OperandFault d (34 ∷ xs)) k.3 (open_quote k.0 k.1 k.2)
     ]
 
-brace_faulty : (d : ℕ) (xs : Text) (f : Fault) (found : Option (Text × Text)) → braced_at false 0 xs ≡ found → in_braces (suc (length xs)) found ≡ Err f → OperandFault d (123 ∷ xs) f
+brace_faulty : (d : ℕ) (xs : Text) (f : Fault) (found : Option (Text × Text)) → braced_at false 0 xs ≡ found → operand_in_braces (suc (length xs)) found ≡ Err f → OperandFault d (123 ∷ xs) f
 brace_faulty d xs f None is h =
     subst (OperandFault d (123 ∷ xs)) (err_one {A = (Operand × ℕ) × Text} (OpenBrace (suc (length xs))) f h)
     (open_brace (λ inside rest e b. none_some (braced_at false 0 xs) (inside, rest) is (ap (braced_at false 0) e ∙ found_close inside rest b)))
@@ -362,7 +362,7 @@ unfolding quoted_at
 operand_met d [] f (in_substitution opens h) = absurd opens
 operand_met d (b ∷ xs) f (in_substitution opens h) = part_fails d b xs f opens h
 operand_met d _ f (lone_dollar {bs = xs} h) = operand_dollar d xs ∙ ap (λ r. r >>= substituted (suc (length xs))) (dollar_alone d (inner_at d) (inner_exact d) xs h.1 h.2)
-operand_met d _ f (open_brace {bs = xs} h) = operand_brace d xs ∙ ap (in_braces (suc (length xs))) (none_found xs (braced_at false 0 xs) refl h)
+operand_met d _ f (open_brace {bs = xs} h) = operand_brace d xs ∙ ap (operand_in_braces (suc (length xs))) (none_found xs (braced_at false 0 xs) refl h)
 operand_met d _ f (in_quotes {bs = xs} h) = operand_quote d xs ∙ ap (read_map (λ (ps : Parts). let made : Operand × ℕ = (quoted ps, parts_nesting ps) in made)) ((quotes_exact d (inner_at d) (inner_exact d)).met xs f (inl h))
 operand_met d _ f (open_quote {bs = xs} ps h k) =
     operand_quote d xs ∙ ap (read_map (λ (ps : Parts). let made : Operand × ℕ = (quoted ps, parts_nesting ps) in made)) ((quotes_exact d (inner_at d) (inner_exact d)).met xs f (inr (ps, h, k, refl)))

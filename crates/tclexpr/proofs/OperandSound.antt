@@ -6,6 +6,7 @@ use Rattle.tclchars.specs.Braces.{braced_at}
 use Rattle.tclchars.specs.Reading.{◌>>=◌, Read}
 use Rattle.tclchars.specs.declared.fault.Fault.TheVariants.{OpenQuote, BadExpression}
 use Rattle.tclchars.proofs.BraceClose.{close_sound}
+use Rattle.tclchars.proofs.Results.{bind_ok, ok_pair, read_map_ok}
 use Rattle.tclscript.specs.declared.context.Context.TheVariants.{InQuotes}
 use Rattle.tclscript.specs.Tree as tree
 use Rattle.tclscript.specs.Tree.{Part, Parts, parts_nesting, part_nesting}
@@ -15,7 +16,6 @@ use Rattle.tclscript.specs.Pieces.{IsEndOf}
 use Rattle.tclscript.specs.Reading.{on_mark, closed, inner_at, dollar_at, bracket_at, parts_with, part_at, quotes_at, taken}
 use Rattle.tclscript.proofs.Ends.{end_through, end_length}
 use Rattle.tclscript.proofs.Escapes.{back_end}
-use Rattle.tclscript.proofs.Exact.{bind_ok, read_map_ok, ok_pair}
 use Rattle.tclscript.proofs.PartsExact.{part_sound, at_dollar, at_bracket}
 use Rattle.tclscript.proofs.PartFaults.{parts_sound}
 use Rattle.tclscript.proofs.Whole.{inner_exact}
@@ -23,7 +23,7 @@ use Rattle.tclscript.proofs.Marks as script_marks
 use Rattle.tclscript.proofs.Marks.{Without, on_mark-at, on_mark-not, closed_ok, run_taken, true_false}
 use Rattle.tclexpr.specs.declared.numbers.Digits.{Digits}
 use Rattle.tclexpr.specs.declared.numbers.Digits.TheVariants.{Decimal}
-use Rattle.tclexpr.specs.Operands.{Operand, number, word, variable, indexed, bracket, quoted, braced, is_digit, begins_digit, after_digits, announced, after_announced, after_based, is_sign, after_sign, after_exponent, after_fraction, begins_point, after_decimal, first_of_both, after_number, is_truth, substituted, quoted_at, in_braces, braced_text_at, word_at, numeric, operand_at}
+use Rattle.tclexpr.specs.Operands.{Operand, number, word, variable, indexed, bracket, quoted, braced, is_digit, begins_digit, after_digits, announced, after_announced, after_based, is_sign, after_sign, after_exponent, after_fraction, begins_point, after_decimal, first_of_both, after_number, is_truth, substituted, quoted_at, operand_in_braces, braced_text_at, word_at, numeric, operand_at}
 use Rattle.tclexpr.specs.OperandGrammar.{IsOperand}
 
 -- What is read at each first byte
@@ -40,7 +40,7 @@ pub operand_quote : (d : ℕ) (bs : Text) → operand_at d (34 ∷ bs) ≡ quote
 unfolding operand_at
 operand_quote d bs = refl
 
-pub operand_brace : (d : ℕ) (bs : Text) → operand_at d (123 ∷ bs) ≡ in_braces (suc (length bs)) (braced_at false 0 bs)
+pub operand_brace : (d : ℕ) (bs : Text) → operand_at d (123 ∷ bs) ≡ operand_in_braces (suc (length bs)) (braced_at false 0 bs)
 unfolding operand_at braced_text_at
 operand_brace d bs = refl
 
@@ -132,7 +132,7 @@ quote_found d bs o rest h =
     let t = quotes_sound d bs x.0 rest x.1 in
     subst (λ o. Found d (34 ∷ bs) o rest) x.2 ((t.0, ap (λ xs. 34 ∷ xs) t.1, t.2, refl), t.3)
 
-brace_found : (d : ℕ) (bs : Text) (o : Operand × ℕ) (rest : Text) (found : Option (Text × Text)) → braced_at false 0 bs ≡ found → in_braces (suc (length bs)) found ≡ Ok (o, rest) → Found d (123 ∷ bs) o rest
+brace_found : (d : ℕ) (bs : Text) (o : Operand × ℕ) (rest : Text) (found : Option (Text × Text)) → braced_at false 0 bs ≡ found → operand_in_braces (suc (length bs)) found ≡ Ok (o, rest) → Found d (123 ∷ bs) o rest
 brace_found d bs o rest None is h = cc
 brace_found d bs o rest (Some p) is h =
     let two = ok_pair ((braced p.0, 0), p.1) (o, rest) h in

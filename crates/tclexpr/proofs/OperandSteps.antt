@@ -18,7 +18,7 @@ use Rattle.tclscript.specs.declared.tree.Part as rust
 use Rattle.tclscript.specs.declared.tree.Script.{Script}
 use Rattle.tclscript.proofs.PartsExact.{part_sound, at_dollar, at_bracket}
 use Rattle.tclscript.proofs.Whole.{inner_exact}
-use Rattle.tclexpr.specs.Operands.{Operand, word, is_truth, word_at, indexed, bracket, quoted, braced, operand_of, substituted, quoted_at, in_braces, braced_text_at, variable_at, script_at, operand_at, numeric, after_number}
+use Rattle.tclexpr.specs.Operands.{Operand, word, is_truth, word_at, indexed, bracket, quoted, braced, operand_of, substituted, quoted_at, operand_in_braces, braced_text_at, variable_operand_at, bracket_operand_at, operand_at, numeric, after_number}
 use Rattle.tclexpr.proofs.OperandSound.{quotes_sound, operand_dollar, operand_bracket, operand_quote, operand_brace, operand_other}
 use Rattle.tclscript.proofs.Marks.{Without}
 
@@ -80,11 +80,11 @@ quoted-fails d bs (errors.Fault f) h = ap (read_map (λ (ps : Parts). let made :
 
 pub braced-read : (bs inside cut rest : Text) → braced_at false 0 bs ≡ Some (inside, rest) → cut ≡ inside → braced_text_at bs ≡ Ok ((braced cut, 0), rest)
 unfolding braced_text_at
-braced-read bs inside cut rest is e = ap (in_braces (suc (length bs))) is ∙ ap (λ t. Ok ((braced t, 0), rest)) (sym e)
+braced-read bs inside cut rest is e = ap (operand_in_braces (suc (length bs))) is ∙ ap (λ t. Ok ((braced t, 0), rest)) (sym e)
 
 pub braced-open : (bs : Text) (left : ℕ) → braced_at false 0 bs ≡ None → left ≡ suc (length bs) → braced_text_at bs ≡ Err (OpenBrace left)
 unfolding braced_text_at
-braced-open bs left is e = ap (in_braces (suc (length bs))) is ∙ ap (λ n. Err (OpenBrace n)) (sym e)
+braced-open bs left is e = ap (operand_in_braces (suc (length bs))) is ∙ ap (λ n. Err (OpenBrace n)) (sym e)
 
 -- Words
 
@@ -105,11 +105,11 @@ word-called bs w r rest e f h k = word_if bs true true (ap is_truth (sym e) ∙ 
 
 -- What stands at the front
 
-pub at_variable : (d : ℕ) (bs xs : Text) → bs ≡ 36 ∷ xs → operand_at d bs ≡ variable_at d (length bs) xs
-at_variable d bs xs e = ap (operand_at d) e ∙ operand_dollar d xs ∙ ap (λ ys. variable_at d (length ys) xs) (sym e)
+pub at_variable : (d : ℕ) (bs xs : Text) → bs ≡ 36 ∷ xs → operand_at d bs ≡ variable_operand_at d (length bs) xs
+at_variable d bs xs e = ap (operand_at d) e ∙ operand_dollar d xs ∙ ap (λ ys. variable_operand_at d (length ys) xs) (sym e)
 
-pub at_script : (d : ℕ) (bs xs : Text) → bs ≡ 91 ∷ xs → operand_at d bs ≡ script_at d (length bs) xs
-at_script d bs xs e = ap (operand_at d) e ∙ operand_bracket d xs ∙ ap (λ ys. script_at d (length ys) xs) (sym e)
+pub at_script : (d : ℕ) (bs xs : Text) → bs ≡ 91 ∷ xs → operand_at d bs ≡ bracket_operand_at d (length bs) xs
+at_script d bs xs e = ap (operand_at d) e ∙ operand_bracket d xs ∙ ap (λ ys. bracket_operand_at d (length ys) xs) (sym e)
 
 pub at_quote : (d : ℕ) (bs xs : Text) → bs ≡ 34 ∷ xs → operand_at d bs ≡ quoted_at d xs
 at_quote d bs xs e = ap (operand_at d) e ∙ operand_quote d xs

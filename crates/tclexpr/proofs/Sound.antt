@@ -5,6 +5,7 @@ use Rattle.tclchars.specs.Runs.{Text}
 use Rattle.tclchars.specs.declared.fault.Fault.{Fault}
 use Rattle.tclchars.specs.declared.fault.Fault.TheVariants.{TooDeep, BadExpression}
 use Rattle.tclchars.specs.Reading.{◌>>=◌, Read}
+use Rattle.tclchars.proofs.Results.{bind_ok, ok_pair, read_map_ok}
 use Rattle.tclexpr.specs.declared.operators.UnaryOperator.{UnaryOperator}
 use Rattle.tclexpr.specs.declared.operators.BinaryOperator.TheVariants as operators
 use Rattle.tclexpr.specs.declared.operators.Infix.{Infix}
@@ -15,9 +16,9 @@ use Rattle.tclexpr.specs.Tree.{Expr, operand, unary, choice, Token, value, mark}
 use Rattle.tclexpr.specs.Grammar.{level, sign_of, IsExpr, simple, choosing, IsChain, single, in_parentheses, signed, joining}
 use Rattle.tclexpr.specs.Marks.{after_white, mark_at}
 use Rattle.tclexpr.specs.Row.{IsRow, IsExprText}
-use Rattle.tclexpr.specs.Faults.{NextIsNot, GoesOn, Follows}
+use Rattle.tclexpr.specs.Faults.{NextIsNot, MayFollow, Follows}
 use Rattle.tclexpr.specs.Reading.{Extent, whole, chain, is_close, is_colon, is_question, is_open, infix_of, expected, expect, signed_at, enclosed_at, begun_at, prefix_at, join, next_at, going_at, climb_at, chain_at, branches_at, choosing_at, whole_at, below_at, ended, expr_at}
-use Rattle.tclexpr.proofs.Results.{bind_ok, ok_pair, read_map_ok, found_once, found_none, infix_once}
+use Rattle.tclexpr.proofs.Results.{found_once, found_none, infix_once}
 use Rattle.tclexpr.proofs.Rows.{row_join}
 
 -- Marks by their tests
@@ -160,7 +161,7 @@ module _ (O : Type 0) (IsOperand : Text → Text → O → ℕ → Type 0) where
     pub row : IsRow O IsOperand bs rest tokens
     pub is : IsExpr O x.1 tokens x.0
     pub deep : x.1 < d
-    pub ends : NextIsNot GoesOn rest
+    pub ends : NextIsNot MayFollow rest
 
   abbrev pub Took : ℕ → Extent → Text → Expr O × ℕ → Text → Type 0
   Took d whole bs x rest = TookWhole d bs x rest
@@ -314,7 +315,7 @@ module _ (O : Type 0) (IsOperand : Text → Text → O → ℕ → Type 0) where
       -- Whole expressions
       expression_ends : (bs : Text) (x : Expr O × ℕ) (rest : Text) → TookChain (suc d) 13 bs x rest → ((after : Text) → mark_at (after_white rest) ≡ Some (marks.Question, after) → ⊥) → TookWhole (suc d) bs x rest
       expression_ends bs x rest t none = record { tokens = t.tokens; row = t.row; is = simple t.is; deep = t.deep; ends = ends } where
-        ends : NextIsNot GoesOn rest
+        ends : NextIsNot MayFollow rest
         ends marks.Open after is h = h
         ends marks.Close after is h = h
         ends marks.Question after is h = none after is

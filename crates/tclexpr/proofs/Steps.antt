@@ -12,7 +12,7 @@ use Rattle.tclexpr.specs.declared.operators.Mark.TheVariants as marks
 use Rattle.tclexpr.specs.Grammar.{sign_of}
 use Rattle.tclexpr.specs.Marks.{after_white, mark_at}
 use Rattle.tclexpr.specs.Operands.{Operand, operand_at}
-use Rattle.tclexpr.specs.Reading.{Extent, whole, chain, Tall, leaf_of, unary_of, choice_of, expect, is_close, is_colon, is_open, is_question, enclosed_at, branches_at, begun_at, prefix_at, signed_at, choosing_at, chain_at, whole_at, below_at}
+use Rattle.tclexpr.specs.Reading.{Extent, whole, chain, WithHeight, leaf_of, unary_of, choice_of, expect, is_close, is_colon, is_open, is_question, enclosed_at, branches_at, begun_at, prefix_at, signed_at, choosing_at, chain_at, whole_at, below_at}
 use Rattle.tclexpr.proofs.Sound.{question_is}
 use Rattle.tclexpr.proofs.Complete.{below_chain, below_whole, prefix_marked, marked_other, marked_sign, whole_from, lt_true}
 
@@ -37,7 +37,7 @@ bind_fails r s f (errors.Fault k) same h = ap (λ r. r >>= f) (same ∙ h)
 
 -- Parentheses
 
-abbrev close_from : Tall Operand × Text → Read (Tall Operand)
+abbrev close_from : WithHeight Operand × Text → Read (WithHeight Operand)
 close_from x = expect is_close x.1 >>= (λ after. Ok ((x.0.0, suc x.0.1), after))
 
 pub enclosed-deep : (d : ℕ) (bs : Text) → d ≡ 0 → enclosed_at operand_at (below_at operand_at d) bs ≡ Err TooDeep
@@ -47,17 +47,17 @@ pub enclosed-fails : (d : ℕ) (bs : Text) (e : ReadError) → 0 < d → Fails e
 enclosed-fails d bs e some h =
     bind_fails (below_at operand_at d whole bs) (whole_at operand_at (less d) (below_at operand_at (less d)) bs) close_from e (below_whole_at d (less d) bs (omega arith)) h
 
-enclosed-step : (d : ℕ) (bs : Text) (x : Tall Operand) (rest : Text) → 0 < d → whole_at operand_at (less d) (below_at operand_at (less d)) bs ≡ Ok (x, rest) → enclosed_at operand_at (below_at operand_at d) bs ≡ close_from (x, rest)
+enclosed-step : (d : ℕ) (bs : Text) (x : WithHeight Operand) (rest : Text) → 0 < d → whole_at operand_at (less d) (below_at operand_at (less d)) bs ≡ Ok (x, rest) → enclosed_at operand_at (below_at operand_at d) bs ≡ close_from (x, rest)
 enclosed-step d bs x rest some h = ap (λ r. r >>= close_from) (below_whole_at d (less d) bs (omega arith) ∙ h)
 
-pub enclosed-open : (d : ℕ) (bs : Text) (x : Tall Operand) (rest : Text) (e : ReadError) → 0 < d → whole_at operand_at (less d) (below_at operand_at (less d)) bs ≡ Ok (x, rest) → Fails e (expect is_close rest)
+pub enclosed-open : (d : ℕ) (bs : Text) (x : WithHeight Operand) (rest : Text) (e : ReadError) → 0 < d → whole_at operand_at (less d) (below_at operand_at (less d)) bs ≡ Ok (x, rest) → Fails e (expect is_close rest)
     → Fails e (enclosed_at operand_at (below_at operand_at d) bs)
 enclosed-open d bs x rest e some h k =
-    subst (Fails e) (sym (enclosed-step d bs x rest some h)) (bind_fails (expect is_close rest) (expect is_close rest) (λ (after : Text). let made : Read (Tall Operand) = Ok ((x.0, suc x.1), after) in made) e refl k)
+    subst (Fails e) (sym (enclosed-step d bs x rest some h)) (bind_fails (expect is_close rest) (expect is_close rest) (λ (after : Text). let made : Read (WithHeight Operand) = Ok ((x.0, suc x.1), after) in made) e refl k)
 
-pub enclosed-read : (d : ℕ) (bs : Text) (x : Tall Operand) (rest after : Text) → 0 < d → whole_at operand_at (less d) (below_at operand_at (less d)) bs ≡ Ok (x, rest) → expect is_close rest ≡ Ok after
+pub enclosed-read : (d : ℕ) (bs : Text) (x : WithHeight Operand) (rest after : Text) → 0 < d → whole_at operand_at (less d) (below_at operand_at (less d)) bs ≡ Ok (x, rest) → expect is_close rest ≡ Ok after
     → enclosed_at operand_at (below_at operand_at d) bs ≡ Ok ((x.0, suc x.1), after)
-enclosed-read d bs x rest after some h k = enclosed-step d bs x rest some h ∙ ap (λ r. r >>= (λ (after : Text). let made : Read (Tall Operand) = Ok ((x.0, suc x.1), after) in made)) k
+enclosed-read d bs x rest after some h k = enclosed-step d bs x rest some h ∙ ap (λ r. r >>= (λ (after : Text). let made : Read (WithHeight Operand) = Ok ((x.0, suc x.1), after) in made)) k
 
 -- Operators before an operand
 
@@ -66,9 +66,9 @@ signed-deep d u bs e = ap (read_map (unary_of u)) (below_none d (chain 1) bs e)
 
 pub signed-fails : (d : ℕ) (u : UnaryOperator) (bs : Text) (e : ReadError) → 0 < d → Fails e (chain_at operand_at (less d) (below_at operand_at (less d)) 1 bs) → Fails e (read_map (unary_of {O = Operand} u) (below_at operand_at d (chain 1) bs))
 signed-fails d u bs e some h =
-    bind_fails (below_at operand_at d (chain 1) bs) (chain_at operand_at (less d) (below_at operand_at (less d)) 1 bs) (λ (x : Tall Operand × Text). let made : Read (Tall Operand) = Ok (unary_of u x.0, x.1) in made) e (below_chain_at d (less d) 1 bs (omega arith)) h
+    bind_fails (below_at operand_at d (chain 1) bs) (chain_at operand_at (less d) (below_at operand_at (less d)) 1 bs) (λ (x : WithHeight Operand × Text). let made : Read (WithHeight Operand) = Ok (unary_of u x.0, x.1) in made) e (below_chain_at d (less d) 1 bs (omega arith)) h
 
-pub signed-read : (d : ℕ) (u : UnaryOperator) (bs : Text) (x : Tall Operand) (rest : Text) → 0 < d → chain_at operand_at (less d) (below_at operand_at (less d)) 1 bs ≡ Ok (x, rest)
+pub signed-read : (d : ℕ) (u : UnaryOperator) (bs : Text) (x : WithHeight Operand) (rest : Text) → 0 < d → chain_at operand_at (less d) (below_at operand_at (less d)) 1 bs ≡ Ok (x, rest)
     → read_map (unary_of u) (below_at operand_at d (chain 1) bs) ≡ Ok (unary_of u x, rest)
 signed-read d u bs x rest some h = ap (read_map (unary_of u)) (below_chain_at d (less d) 1 bs (omega arith) ∙ h)
 
@@ -106,65 +106,65 @@ pub whole-fails : (d : ℕ) (bs : Text) (e : ReadError) → Fails e (chain_at op
 unfolding whole_at
 whole-fails d bs e h =
     bind_fails (chain_at operand_at d (below_at operand_at d) 13 bs) (chain_at operand_at d (below_at operand_at d) 13 bs)
-    (λ (x : Tall Operand × Text). choosing_at operand_at d (below_at operand_at d) x.0 x.1 (mark_at (after_white x.1))) e refl h
+    (λ (x : WithHeight Operand × Text). choosing_at operand_at d (below_at operand_at d) x.0 x.1 (mark_at (after_white x.1))) e refl h
 
-pub whole-asks : (d : ℕ) (bs : Text) (x : Tall Operand) (rest start after : Text) → chain_at operand_at d (below_at operand_at d) 13 bs ≡ Ok (x, rest) → start ≡ after_white rest → mark_at start ≡ Some (marks.Question, after)
+pub whole-asks : (d : ℕ) (bs : Text) (x : WithHeight Operand) (rest start after : Text) → chain_at operand_at d (below_at operand_at d) 13 bs ≡ Ok (x, rest) → start ≡ after_white rest → mark_at start ≡ Some (marks.Question, after)
     → whole_at operand_at d (below_at operand_at d) bs ≡ (if nat_lt x.1 d then branches_at operand_at (below_at operand_at d) x after else Err TooDeep)
 whole-asks d bs x rest start after h e is =
     whole_from operand_at d (below_at operand_at d) bs x rest h ∙ ap (choosing_at operand_at d (below_at operand_at d) x rest) (ap mark_at (sym e) ∙ is)
 
-no_question : (d : ℕ) (x : Tall Operand) (rest : Text) (found : Option (Mark × Text)) → ((after : Text) → found ≡ Some (marks.Question, after) → ⊥) → choosing_at operand_at d (below_at operand_at d) x rest found ≡ Ok (x, rest)
+no_question : (d : ℕ) (x : WithHeight Operand) (rest : Text) (found : Option (Mark × Text)) → ((after : Text) → found ≡ Some (marks.Question, after) → ⊥) → choosing_at operand_at d (below_at operand_at d) x rest found ≡ Ok (x, rest)
 no_question d x rest None none = refl
 no_question d x rest (Some p) none = by_test (is_question p.0) refl where
   by_test : (s : Bool) → is_question p.0 ≡ s → cond s (cond (nat_lt x.1 d) (branches_at operand_at (below_at operand_at d) x p.1) (Err TooDeep)) (Ok (x, rest)) ≡ Ok (x, rest)
   by_test true s = absurd (none p.1 (ap (λ m. Some (m, p.1)) (question_is p.0 s)))
   by_test false s = refl
 
-pub whole-ends : (d : ℕ) (bs : Text) (x : Tall Operand) (rest start : Text) → chain_at operand_at d (below_at operand_at d) 13 bs ≡ Ok (x, rest) → start ≡ after_white rest → ((after : Text) → mark_at start ≡ Some (marks.Question, after) → ⊥)
+pub whole-ends : (d : ℕ) (bs : Text) (x : WithHeight Operand) (rest start : Text) → chain_at operand_at d (below_at operand_at d) 13 bs ≡ Ok (x, rest) → start ≡ after_white rest → ((after : Text) → mark_at start ≡ Some (marks.Question, after) → ⊥)
     → whole_at operand_at d (below_at operand_at d) bs ≡ Ok (x, rest)
 whole-ends d bs x rest start h e none =
     whole_from operand_at d (below_at operand_at d) bs x rest h ∙ no_question d x rest (mark_at (after_white rest)) (λ after is. none after (ap mark_at e ∙ is))
 
 -- Branches, behind a condition that nests so deep
 
-abbrev no_from : ℕ → Tall Operand → Tall Operand → Text → Read (Tall Operand)
+abbrev no_from : ℕ → WithHeight Operand → WithHeight Operand → Text → Read (WithHeight Operand)
 no_from d x y after = below_at operand_at d whole after >>= (λ z. Ok (choice_of x y z.0, z.1))
 
-abbrev yes_from : ℕ → Tall Operand → Tall Operand × Text → Read (Tall Operand)
+abbrev yes_from : ℕ → WithHeight Operand → WithHeight Operand × Text → Read (WithHeight Operand)
 yes_from d x y = expect is_colon y.1 >>= no_from d x y.0
 
-branches-start : (d : ℕ) (x : Tall Operand) (bs : Text) → x.1 < d → (if nat_lt x.1 d then branches_at operand_at (below_at operand_at d) x bs else Err TooDeep) ≡ (whole_at operand_at (less d) (below_at operand_at (less d)) bs >>= yes_from d x)
+branches-start : (d : ℕ) (x : WithHeight Operand) (bs : Text) → x.1 < d → (if nat_lt x.1 d then branches_at operand_at (below_at operand_at d) x bs else Err TooDeep) ≡ (whole_at operand_at (less d) (below_at operand_at (less d)) bs >>= yes_from d x)
 branches-start d x bs lower =
     let t : nat_lt x.1 d ≡ true = lt_true x.1 d lower in
     ap (λ s. cond s (branches_at operand_at (below_at operand_at d) x bs) (Err TooDeep)) t ∙ ap (λ r. r >>= yes_from d x) (below_whole_at d (less d) bs (omega arith))
 
-pub branches-yes : (d : ℕ) (x : Tall Operand) (bs : Text) (e : ReadError) → x.1 < d → Fails e (whole_at operand_at (less d) (below_at operand_at (less d)) bs)
+pub branches-yes : (d : ℕ) (x : WithHeight Operand) (bs : Text) (e : ReadError) → x.1 < d → Fails e (whole_at operand_at (less d) (below_at operand_at (less d)) bs)
     → Fails e (if nat_lt x.1 d then branches_at operand_at (below_at operand_at d) x bs else Err TooDeep)
 branches-yes d x bs e lower h =
     let w = whole_at operand_at (less d) (below_at operand_at (less d)) bs in
     subst (Fails e) (sym (branches-start d x bs lower)) (bind_fails w w (yes_from d x) e refl h)
 
-branches-then : (d : ℕ) (x y : Tall Operand) (bs rest : Text) → x.1 < d → whole_at operand_at (less d) (below_at operand_at (less d)) bs ≡ Ok (y, rest)
+branches-then : (d : ℕ) (x y : WithHeight Operand) (bs rest : Text) → x.1 < d → whole_at operand_at (less d) (below_at operand_at (less d)) bs ≡ Ok (y, rest)
     → (if nat_lt x.1 d then branches_at operand_at (below_at operand_at d) x bs else Err TooDeep) ≡ (expect is_colon rest >>= no_from d x y)
 branches-then d x y bs rest lower h = branches-start d x bs lower ∙ ap (λ r. r >>= yes_from d x) h
 
-pub branches-colon : (d : ℕ) (x y : Tall Operand) (bs rest : Text) (e : ReadError) → x.1 < d → whole_at operand_at (less d) (below_at operand_at (less d)) bs ≡ Ok (y, rest) → Fails e (expect is_colon rest)
+pub branches-colon : (d : ℕ) (x y : WithHeight Operand) (bs rest : Text) (e : ReadError) → x.1 < d → whole_at operand_at (less d) (below_at operand_at (less d)) bs ≡ Ok (y, rest) → Fails e (expect is_colon rest)
     → Fails e (if nat_lt x.1 d then branches_at operand_at (below_at operand_at d) x bs else Err TooDeep)
 branches-colon d x y bs rest e lower h k =
     subst (Fails e) (sym (branches-then d x y bs rest lower h)) (bind_fails (expect is_colon rest) (expect is_colon rest) (no_from d x y) e refl k)
 
-branches-else : (d : ℕ) (x y : Tall Operand) (bs rest after : Text) → x.1 < d → whole_at operand_at (less d) (below_at operand_at (less d)) bs ≡ Ok (y, rest) → expect is_colon rest ≡ Ok after
+branches-else : (d : ℕ) (x y : WithHeight Operand) (bs rest after : Text) → x.1 < d → whole_at operand_at (less d) (below_at operand_at (less d)) bs ≡ Ok (y, rest) → expect is_colon rest ≡ Ok after
     → (if nat_lt x.1 d then branches_at operand_at (below_at operand_at d) x bs else Err TooDeep) ≡ (whole_at operand_at (less d) (below_at operand_at (less d)) after >>= (λ z. Ok (choice_of x y z.0, z.1)))
 branches-else d x y bs rest after lower h k =
     branches-then d x y bs rest lower h ∙ ap (λ r. r >>= no_from d x y) k ∙ ap (λ r. r >>= (λ z. Ok (choice_of x y z.0, z.1))) (below_whole_at d (less d) after (omega arith))
 
-pub branches-no : (d : ℕ) (x y : Tall Operand) (bs rest after : Text) (e : ReadError) → x.1 < d → whole_at operand_at (less d) (below_at operand_at (less d)) bs ≡ Ok (y, rest) → expect is_colon rest ≡ Ok after
+pub branches-no : (d : ℕ) (x y : WithHeight Operand) (bs rest after : Text) (e : ReadError) → x.1 < d → whole_at operand_at (less d) (below_at operand_at (less d)) bs ≡ Ok (y, rest) → expect is_colon rest ≡ Ok after
     → Fails e (whole_at operand_at (less d) (below_at operand_at (less d)) after) → Fails e (if nat_lt x.1 d then branches_at operand_at (below_at operand_at d) x bs else Err TooDeep)
 branches-no d x y bs rest after e lower h k l =
     let w = whole_at operand_at (less d) (below_at operand_at (less d)) after in
-    subst (Fails e) (sym (branches-else d x y bs rest after lower h k)) (bind_fails w w (λ (z : Tall Operand × Text). let made : Read (Tall Operand) = Ok (choice_of x y z.0, z.1) in made) e refl l)
+    subst (Fails e) (sym (branches-else d x y bs rest after lower h k)) (bind_fails w w (λ (z : WithHeight Operand × Text). let made : Read (WithHeight Operand) = Ok (choice_of x y z.0, z.1) in made) e refl l)
 
-pub branches-read : (d : ℕ) (x y z : Tall Operand) (bs rest after end : Text) → x.1 < d → whole_at operand_at (less d) (below_at operand_at (less d)) bs ≡ Ok (y, rest) → expect is_colon rest ≡ Ok after
+pub branches-read : (d : ℕ) (x y z : WithHeight Operand) (bs rest after end : Text) → x.1 < d → whole_at operand_at (less d) (below_at operand_at (less d)) bs ≡ Ok (y, rest) → expect is_colon rest ≡ Ok after
     → whole_at operand_at (less d) (below_at operand_at (less d)) after ≡ Ok (z, end)
     → (if nat_lt x.1 d then branches_at operand_at (below_at operand_at d) x bs else Err TooDeep) ≡ Ok (choice_of x y z, end)
 branches-read d x y z bs rest after end lower h k l = branches-else d x y bs rest after lower h k ∙ ap (λ r. r >>= (λ z. Ok (choice_of x y z.0, z.1))) l

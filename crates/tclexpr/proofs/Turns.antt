@@ -20,7 +20,7 @@ use Rattle.tclexpr.specs.Row.{IsRow}
 use Rattle.tclexpr.specs.Faults.{Follows}
 use Rattle.tclexpr.specs.Operands.{Operand, operand_at}
 use Rattle.tclexpr.specs.OperandGrammar.{IsOperand}
-use Rattle.tclexpr.specs.Reading.{chain, Tall, join, prefix_at, climb_at, chain_at, whole_at, below_at, expect}
+use Rattle.tclexpr.specs.Reading.{chain, WithHeight, join, prefix_at, climb_at, chain_at, whole_at, below_at, expect}
 use Rattle.tclexpr.proofs.Rows.{before_found, longest_found, after_white_no_longer, mark_shorter}
 use Rattle.tclexpr.proofs.Sound.{prefix_sound, chain_sound, whole_sound, below_sound, lt_is, expected_ok}
 use Rattle.tclexpr.proofs.Complete.{climb_stops, climb_operator, chain_from, below_chain}
@@ -65,20 +65,20 @@ row_end (value o k ∷ ts) bs rest h = end_through bs h.0 rest (end_through bs (
 row_end (mark m ∷ ts) bs rest h = end_through bs h.0 rest (mark_end bs m h.0 h.1) (row_end ts h.0 rest h.2)
 
 -- the rest is an end of the text, and what was read nests no deeper than d
-abbrev pub Leaves : ℕ → Text → Tall Operand → Text → Type 0
+abbrev pub Leaves : ℕ → Text → WithHeight Operand → Text → Type 0
 Leaves d bs x rest = IsEndOf bs rest × (x.1 ≤ d)
 
-pub prefix_leaves : (d : ℕ) (bs : Text) (x : Tall Operand) (rest : Text) → prefix_at operand_at d (below_at operand_at d) bs ≡ Ok (x, rest) → Leaves d bs x rest
+pub prefix_leaves : (d : ℕ) (bs : Text) (x : WithHeight Operand) (rest : Text) → prefix_at operand_at d (below_at operand_at d) bs ≡ Ok (x, rest) → Leaves d bs x rest
 prefix_leaves d bs x rest h =
     let t = prefix_sound Operand IsOperand operand_at operand_sound d (below_at operand_at d) (below_sound Operand IsOperand operand_at operand_sound d) bs x rest h in
     (row_end t.tokens bs rest t.row, t.deep)
 
-pub chain_leaves : (d n : ℕ) (bs : Text) (x : Tall Operand) (rest : Text) → chain_at operand_at d (below_at operand_at d) n bs ≡ Ok (x, rest) → Leaves d bs x rest
+pub chain_leaves : (d n : ℕ) (bs : Text) (x : WithHeight Operand) (rest : Text) → chain_at operand_at d (below_at operand_at d) n bs ≡ Ok (x, rest) → Leaves d bs x rest
 chain_leaves d n bs x rest h =
     let t = chain_sound Operand IsOperand operand_at operand_sound d (below_at operand_at d) (below_sound Operand IsOperand operand_at operand_sound d) n bs x rest h in
     (row_end t.tokens bs rest t.row, omega (arith, t.deep))
 
-pub whole_leaves : (d : ℕ) (bs : Text) (x : Tall Operand) (rest : Text) → whole_at operand_at d (below_at operand_at d) bs ≡ Ok (x, rest) → Leaves d bs x rest
+pub whole_leaves : (d : ℕ) (bs : Text) (x : WithHeight Operand) (rest : Text) → whole_at operand_at d (below_at operand_at d) bs ≡ Ok (x, rest) → Leaves d bs x rest
 whole_leaves d bs x rest h =
     let t = whole_sound Operand IsOperand operand_at operand_sound d (below_at operand_at d) (below_sound Operand IsOperand operand_at operand_sound d) bs x rest h in
     (row_end t.tokens bs rest t.row, omega (arith, t.deep))
@@ -89,29 +89,29 @@ expect_end wanted bs rest h = let c = expected_ok wanted (length (after_white bs
 -- Right operands
 
 -- what is read behind an operator, whose left operand nests so deep
-abbrev pub right_at : ℕ → ℕ → ℕ → Text → Read (Tall Operand)
+abbrev pub right_at : ℕ → ℕ → ℕ → Text → Read (WithHeight Operand)
 right_at d h n bs = if nat_lt h d then below_at operand_at d (chain n) bs else Err TooDeep
 
-right_is : (d h n : ℕ) (bs : Text) (x : Tall Operand) (rest : Text) (t : Bool) → nat_lt h d ≡ t → cond t (below_at operand_at d (chain n) bs) (Err TooDeep) ≡ Ok (x, rest) → (h < d) × IsEndOf bs rest × (x.1 < d)
+right_is : (d h n : ℕ) (bs : Text) (x : WithHeight Operand) (rest : Text) (t : Bool) → nat_lt h d ≡ t → cond t (below_at operand_at d (chain n) bs) (Err TooDeep) ≡ Ok (x, rest) → (h < d) × IsEndOf bs rest × (x.1 < d)
 right_is zero h n bs x rest true t k = absurd (omega (arith, lt_is h 0 t))
 right_is (suc d) h n bs x rest true t k =
     let l = chain_leaves d n bs x rest (sym (below_chain operand_at d n bs) ∙ k) in
     (lt_is h (suc d) t, l.0, omega (arith, l.1))
 right_is d h n bs x rest false t k = cc
 
-pub right_leaves : (d h n : ℕ) (bs : Text) (x : Tall Operand) (rest : Text) → right_at d h n bs ≡ Ok (x, rest) → (h < d) × IsEndOf bs rest × (x.1 < d)
+pub right_leaves : (d h n : ℕ) (bs : Text) (x : WithHeight Operand) (rest : Text) → right_at d h n bs ≡ Ok (x, rest) → (h < d) × IsEndOf bs rest × (x.1 < d)
 right_leaves d h n bs x rest k = right_is d h n bs x rest (nat_lt h d) refl k
 
 -- The loop
 
-pub record ChainSoFar (d n : ℕ) (bs : Text) (x : Tall Operand) (rest : Text) : Type 0 where
+pub record ChainSoFar (d n : ℕ) (bs : Text) (x : WithHeight Operand) (rest : Text) : Type 0 where
   pub turns : ℕ
   pub enough : length rest < turns
   pub is : chain_at operand_at d (below_at operand_at d) n bs ≡ climb_at operand_at d (below_at operand_at d) n turns x rest
   pub deep : x.1 ≤ d
   pub end : IsEndOf bs rest
 
-pub chain-first : (d n : ℕ) (bs : Text) (x : Tall Operand) (rest : Text) → prefix_at operand_at d (below_at operand_at d) bs ≡ Ok (x, rest) → ChainSoFar d n bs x rest
+pub chain-first : (d n : ℕ) (bs : Text) (x : WithHeight Operand) (rest : Text) → prefix_at operand_at d (below_at operand_at d) bs ≡ Ok (x, rest) → ChainSoFar d n bs x rest
 chain-first d n bs x rest h =
     let l = prefix_leaves d bs x rest h in
     record { turns = suc (length rest); enough = omega arith; is = chain_from operand_at d (below_at operand_at d) n bs x rest h; deep = l.1; end = l.0 }
@@ -121,14 +121,14 @@ unfolding chain_at
 chain-starts d n bs errors.Memory h = tt
 chain-starts d n bs (errors.Fault f) h = ap (λ r. r >>= (λ x. climb_at operand_at d (below_at operand_at d) n (suc (length x.1)) x.0 x.1)) h
 
-pub chain-end : (d n : ℕ) (bs : Text) (x : Tall Operand) (rest : Text) → ChainSoFar d n bs x rest → Follows (suc n) rest → chain_at operand_at d (below_at operand_at d) n bs ≡ Ok (x, rest)
+pub chain-end : (d n : ℕ) (bs : Text) (x : WithHeight Operand) (rest : Text) → ChainSoFar d n bs x rest → Follows (suc n) rest → chain_at operand_at d (below_at operand_at d) n bs ≡ Ok (x, rest)
 chain-end d n bs x rest s f = s.is ∙ climb_stops operand_at d (below_at operand_at d) n s.turns x rest (omega (arith, s.enough)) f
 
-split : (d h n : ℕ) (bs : Text) (more : Tall Operand × Text → Read (Tall Operand)) (t : Bool) → cond t (below_at operand_at d (chain n) bs >>= more) (Err TooDeep) ≡ (cond t (below_at operand_at d (chain n) bs) (Err TooDeep) >>= more)
+split : (d h n : ℕ) (bs : Text) (more : WithHeight Operand × Text → Read (WithHeight Operand)) (t : Bool) → cond t (below_at operand_at d (chain n) bs >>= more) (Err TooDeep) ≡ (cond t (below_at operand_at d (chain n) bs) (Err TooDeep) >>= more)
 split d h n bs more true = refl
 split d h n bs more false = refl
 
-turn : (d n : ℕ) (bs : Text) (x : Tall Operand) (rest : Text) → ChainSoFar d n bs x rest → (i : Infix) (after : Text) → mark_at (after_white rest) ≡ Some (marks.Infix i, after) → level i ≤ n
+turn : (d n : ℕ) (bs : Text) (x : WithHeight Operand) (rest : Text) → ChainSoFar d n bs x rest → (i : Infix) (after : Text) → mark_at (after_white rest) ≡ Some (marks.Infix i, after) → level i ≤ n
     → (turns : ℕ) × (length rest ≤ turns)
     × (chain_at operand_at d (below_at operand_at d) n bs ≡ (right_at d x.1 (level i - 1) after >>= (λ y. climb_at operand_at d (below_at operand_at d) n turns (join i x y.0) y.1)))
 turn d n bs x rest s i after found within = go s.turns s.enough s.is where
@@ -143,25 +143,25 @@ turn d n bs x rest s i after found within = go s.turns s.enough s.is where
         ∙ split d x.1 (level i - 1) after (λ y. climb_at operand_at d (below_at operand_at d) n turns (join i x y.0) y.1) (nat_lt x.1 d),
   )
 
-pub chain-fail : (d n : ℕ) (bs : Text) (x : Tall Operand) (rest : Text) → ChainSoFar d n bs x rest → (i : Infix) (after : Text) → mark_at (after_white rest) ≡ Some (marks.Infix i, after) → level i ≤ n
+pub chain-fail : (d n : ℕ) (bs : Text) (x : WithHeight Operand) (rest : Text) → ChainSoFar d n bs x rest → (i : Infix) (after : Text) → mark_at (after_white rest) ≡ Some (marks.Infix i, after) → level i ≤ n
     → (f : Fault) → right_at d x.1 (level i - 1) after ≡ Err f → chain_at operand_at d (below_at operand_at d) n bs ≡ Err f
 chain-fail d n bs x rest s i after found within f h =
     let t = turn d n bs x rest s i after found within in
     t.2 ∙ ap (λ r. r >>= (λ y. climb_at operand_at d (below_at operand_at d) n t.0 (join i x y.0) y.1)) h
 
-pub chain-fails : (d n : ℕ) (bs : Text) (x : Tall Operand) (rest : Text) → ChainSoFar d n bs x rest → (i : Infix) (after : Text) → mark_at (after_white rest) ≡ Some (marks.Infix i, after) → level i ≤ n
+pub chain-fails : (d n : ℕ) (bs : Text) (x : WithHeight Operand) (rest : Text) → ChainSoFar d n bs x rest → (i : Infix) (after : Text) → mark_at (after_white rest) ≡ Some (marks.Infix i, after) → level i ≤ n
     → (e : ReadError) → Fails e (right_at d x.1 (level i - 1) after) → Fails e (chain_at operand_at d (below_at operand_at d) n bs)
 chain-fails d n bs x rest s i after found within errors.Memory h = tt
 chain-fails d n bs x rest s i after found within (errors.Fault f) h = chain-fail d n bs x rest s i after found within f h
 
-pub chain-shorter : (d : ℕ) (x : Tall Operand) (rest : Text) (i : Infix) (after : Text) → mark_at (after_white rest) ≡ Some (marks.Infix i, after)
-    → (y : Tall Operand) (end : Text) → right_at d x.1 (level i - 1) after ≡ Ok (y, end) → length end < length rest
+pub chain-shorter : (d : ℕ) (x : WithHeight Operand) (rest : Text) (i : Infix) (after : Text) → mark_at (after_white rest) ≡ Some (marks.Infix i, after)
+    → (y : WithHeight Operand) (end : Text) → right_at d x.1 (level i - 1) after ≡ Ok (y, end) → length end < length rest
 chain-shorter d x rest i after found y end h =
     let r = right_leaves d x.1 (level i - 1) after y end h in
     omega (arith, after_white_no_longer rest, mark_shorter (after_white rest) (marks.Infix i) after found, end_no_longer after end r.1)
 
-pub chain-more : (d n : ℕ) (bs : Text) (x : Tall Operand) (rest : Text) → ChainSoFar d n bs x rest → (i : Infix) (after : Text) → mark_at (after_white rest) ≡ Some (marks.Infix i, after) → level i ≤ n
-    → (y : Tall Operand) (end : Text) → right_at d x.1 (level i - 1) after ≡ Ok (y, end) → (z : Tall Operand) → z ≡ join i x y → ChainSoFar d n bs z end
+pub chain-more : (d n : ℕ) (bs : Text) (x : WithHeight Operand) (rest : Text) → ChainSoFar d n bs x rest → (i : Infix) (after : Text) → mark_at (after_white rest) ≡ Some (marks.Infix i, after) → level i ≤ n
+    → (y : WithHeight Operand) (end : Text) → right_at d x.1 (level i - 1) after ≡ Ok (y, end) → (z : WithHeight Operand) → z ≡ join i x y → ChainSoFar d n bs z end
 chain-more d n bs x rest s i after found within y end h z made =
     let t = turn d n bs x rest s i after found within in
     let r = right_leaves d x.1 (level i - 1) after y end h in

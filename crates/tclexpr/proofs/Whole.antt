@@ -21,7 +21,7 @@ use Rattle.tclexpr.specs.Operands.{Operand, number, word, variable, indexed, bra
 use Rattle.tclexpr.proofs.MarkLemmas.{digits_more}
 use Rattle.tclexpr.proofs.MarkLemmas as mark_lemmas
 use Rattle.tclexpr.specs.OperandGrammar.{IsOperand, OperandFault}
-use Rattle.tclexpr.specs.Reading.{Tall, whole_at, below_at, ended, expr_at}
+use Rattle.tclexpr.specs.Reading.{WithHeight, whole_at, below_at, ended, expr_at}
 use Rattle.tclexpr.specs.Text.{IsExpression, IsFault}
 use Rattle.tclexpr.proofs.Rows.{row_no_longer, after_white_no_longer, mark_shorter}
 use Rattle.tclexpr.proofs.Sound as operators
@@ -135,7 +135,7 @@ within d bs f h = fault_within (faulty d bs f h)
 
 -- The code's last step
 
-abbrev end_from : Tall Operand × Text → Result (Expr Operand) Fault
+abbrev end_from : WithHeight Operand × Text → Result (Expr Operand) Fault
 end_from x = ended x.0.0 (after_white x.1)
 
 pub expr-fails : (d : ℕ) (bs text : Text) (e : ReadError) → text ≡ bs → Fails e (whole_at operand_at d (below_at operand_at d) text) → Fails e (expr_at operand_at d bs)
@@ -143,15 +143,15 @@ unfolding expr_at
 expr-fails d bs text errors.Memory same h = tt
 expr-fails d bs text (errors.Fault f) same h = ap (λ r. r >>= end_from) (ap (whole_at operand_at d (below_at operand_at d)) (sym same) ∙ h)
 
-expr-step : (d : ℕ) (bs text : Text) (x : Tall Operand) (rest end : Text) → text ≡ bs → whole_at operand_at d (below_at operand_at d) text ≡ Ok (x, rest) → end ≡ after_white rest → expr_at operand_at d bs ≡ ended x.0 end
+expr-step : (d : ℕ) (bs text : Text) (x : WithHeight Operand) (rest end : Text) → text ≡ bs → whole_at operand_at d (below_at operand_at d) text ≡ Ok (x, rest) → end ≡ after_white rest → expr_at operand_at d bs ≡ ended x.0 end
 unfolding expr_at
 expr-step d bs text x rest end same h e = ap (λ r. r >>= end_from) (ap (whole_at operand_at d (below_at operand_at d)) (sym same) ∙ h) ∙ ap (ended x.0) (sym e)
 
-pub expr-ends : (d : ℕ) (bs text : Text) (x : Tall Operand) (rest end : Text) → text ≡ bs → whole_at operand_at d (below_at operand_at d) text ≡ Ok (x, rest) → end ≡ after_white rest → length end ≡ 0 → expr_at operand_at d bs ≡ Ok x.0
+pub expr-ends : (d : ℕ) (bs text : Text) (x : WithHeight Operand) (rest end : Text) → text ≡ bs → whole_at operand_at d (below_at operand_at d) text ≡ Ok (x, rest) → end ≡ after_white rest → length end ≡ 0 → expr_at operand_at d bs ≡ Ok x.0
 expr-ends d bs text x rest [] same h e n = expr-step d bs text x rest [] same h e
 expr-ends d bs text x rest (b ∷ end) same h e n = absurd (omega arith)
 
-pub expr-left : (d : ℕ) (bs text : Text) (x : Tall Operand) (rest end : Text) → text ≡ bs → whole_at operand_at d (below_at operand_at d) text ≡ Ok (x, rest) → end ≡ after_white rest → length end ≢ 0
+pub expr-left : (d : ℕ) (bs text : Text) (x : WithHeight Operand) (rest end : Text) → text ≡ bs → whole_at operand_at d (below_at operand_at d) text ≡ Ok (x, rest) → end ≡ after_white rest → length end ≢ 0
     → expr_at operand_at d bs ≡ Err (marks.BadExpression (length end))
 expr-left d bs text x rest [] same h e n = absurd (n refl)
 expr-left d bs text x rest (b ∷ end) same h e n = expr-step d bs text x rest (b ∷ end) same h e

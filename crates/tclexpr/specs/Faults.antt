@@ -21,13 +21,13 @@ abbrev pub Follows : ℕ → Text → Type 0
 Follows n bs = (i : Infix) (rest : Text) → mark_at (after_white bs) ≡ Some (marks.Infix i, rest) → n ≤ level i
 
 -- what an expression may go on with: an operator between two operands, or a question mark
-abbrev pub GoesOn : Mark → Type 0
-GoesOn (marks.Infix i) = Unit {0}
-GoesOn marks.Question = Unit {0}
-GoesOn m = ⊥
+abbrev pub MayFollow : Mark → Type 0
+MayFollow (marks.Infix i) = Unit {0}
+MayFollow marks.Question = Unit {0}
+MayFollow m = ⊥
 
-abbrev pub GoesOnOr : Mark → Mark → Type 0
-GoesOnOr wanted m = GoesOn m ⊎ (m ≡ wanted)
+abbrev pub MayFollowOr : Mark → Mark → Type 0
+MayFollowOr wanted m = MayFollow m ⊎ (m ≡ wanted)
 
 -- what an operand may begin with besides its own bytes: an operator before it, or a parenthesis
 abbrev pub Begins : Mark → Type 0
@@ -46,7 +46,7 @@ mutual
     in_yes : {d : ℕ} {bs : Text} {f : Fault} (cs : List (Token O)) (c : Expr O) (h : ℕ) (after : Text) → IsChain O h 13 cs c → h ≤ d → IsRow O IsOperand bs after (cs ++ mark marks.Question ∷ [])
         → ExprFault O IsOperand OperandFault d after f → ExprFault O IsOperand OperandFault (suc d) bs f
     no_colon : {d : ℕ} {bs : Text} (cs : List (Token O)) (c : Expr O) (h : ℕ) (ys : List (Token O)) (y : Expr O) (i : ℕ) (after : Text) → IsChain O h 13 cs c → h ≤ d → IsExpr O i ys y → i ≤ d
-        → IsRow O IsOperand bs after (cs ++ mark marks.Question ∷ ys) → NextIsNot (GoesOnOr marks.Colon) after → ExprFault O IsOperand OperandFault (suc d) bs (bad_next after)
+        → IsRow O IsOperand bs after (cs ++ mark marks.Question ∷ ys) → NextIsNot (MayFollowOr marks.Colon) after → ExprFault O IsOperand OperandFault (suc d) bs (bad_next after)
     in_no : {d : ℕ} {bs : Text} {f : Fault} (cs : List (Token O)) (c : Expr O) (h : ℕ) (ys : List (Token O)) (y : Expr O) (i : ℕ) (after : Text) → IsChain O h 13 cs c → h ≤ d → IsExpr O i ys y → i ≤ d
         → IsRow O IsOperand bs after (cs ++ mark marks.Question ∷ (ys ++ mark marks.Colon ∷ [])) → ExprFault O IsOperand OperandFault d after f → ExprFault O IsOperand OperandFault (suc d) bs f
 
@@ -57,7 +57,7 @@ mutual
     in_signed : {d n : ℕ} {bs : Text} {f : Fault} (m : Mark) (u : UnaryOperator) (after : Text) → mark_at (after_white bs) ≡ Some (m, after) → sign_of m ≡ Some u
         → ChainFault O IsOperand OperandFault d 1 after f → ChainFault O IsOperand OperandFault (suc d) n bs f
     in_open : {d n : ℕ} {bs : Text} {f : Fault} (after : Text) → mark_at (after_white bs) ≡ Some (marks.Open, after) → ExprFault O IsOperand OperandFault d after f → ChainFault O IsOperand OperandFault (suc d) n bs f
-    no_close : {d n : ℕ} {bs : Text} (ts : List (Token O)) (e : Expr O) (h : ℕ) (after : Text) → IsExpr O h ts e → h ≤ d → IsRow O IsOperand bs after (mark marks.Open ∷ ts) → NextIsNot (GoesOnOr marks.Close) after
+    no_close : {d n : ℕ} {bs : Text} (ts : List (Token O)) (e : Expr O) (h : ℕ) (after : Text) → IsExpr O h ts e → h ≤ d → IsRow O IsOperand bs after (mark marks.Open ∷ ts) → NextIsNot (MayFollowOr marks.Close) after
         → ChainFault O IsOperand OperandFault (suc d) n bs (bad_next after)
     deep_operator : {d n : ℕ} {bs : Text} (i : Infix) (ls : List (Token O)) (l : Expr O) (after : Text) → level i ≤ n → IsChain O d (level i) ls l → IsRow O IsOperand bs after (ls ++ mark (marks.Infix i) ∷ [])
         → ChainFault O IsOperand OperandFault d n bs TooDeep
@@ -67,5 +67,5 @@ mutual
 -- the first fault of a text
 pub data ExprTextFault (O : Type 0) (IsOperand : Text → Text → O → ℕ → Type 0) (OperandFault : ℕ → Text → Fault → Type 0) : ℕ → Text → Fault → Type 0 where
   inside : {d : ℕ} {bs : Text} {f : Fault} → ExprFault O IsOperand OperandFault d bs f → ExprTextFault O IsOperand OperandFault d bs f
-  left_over : {d : ℕ} {bs : Text} (ts : List (Token O)) (e : Expr O) (h : ℕ) (after : Text) → IsExpr O h ts e → h ≤ d → IsRow O IsOperand bs after ts → NextIsNot GoesOn after → after_white after ≢ []
+  left_over : {d : ℕ} {bs : Text} (ts : List (Token O)) (e : Expr O) (h : ℕ) (after : Text) → IsExpr O h ts e → h ≤ d → IsRow O IsOperand bs after ts → NextIsNot MayFollow after → after_white after ≢ []
       → ExprTextFault O IsOperand OperandFault d bs (bad_next after)

@@ -10,7 +10,7 @@ use Rattle.tclexpr.specs.declared.operators.Mark.{Mark}
 use Rattle.tclexpr.specs.declared.operators.Mark.TheVariants as marks
 use Rattle.tclexpr.specs.Tree.{Expr, operand, unary, choice, joined, Token, value, mark}
 
--- the levels of precedence, from the tightest on: unary operators are level 1, the choice by ? and : is level 14
+-- the levels of precedence, from the tightest on: unary operators are level 1, a choice is level 14
 abbrev pub operator_level : BinaryOperator → ℕ
 operator_level Multiply = 2
 operator_level Divide = 2

@@ -9,4 +9,5 @@ pub mod Operands
 pub mod OperandGrammar
 pub mod Text
 pub mod View
+pub mod Omitted
 pub mod Owned

@@ -1,12 +1,53 @@
 -- White space and the marks of an expression.
 use Rattle.std.specs.Prelude.{ℕ, [], ◌∷◌, Bool, false, ◌||◌, ◌&&◌, ◌==◌, if◌then◌else◌, Option, Some, None}
 use Rattle.tclchars.specs.Runs.{Text, front, back, begins}
-use Rattle.tclchars.specs.Bytes.{is_space, newline, backslash}
+use Rattle.tclchars.specs.Bytes.{is_space, newline, backslash, left_parenthesis, right_parenthesis, star, colon}
 use Rattle.tclchars.specs.Classes.{is_name}
 use Rattle.tclexpr.specs.declared.operators.BinaryOperator.TheVariants.{Multiply, Divide, Remainder, Add, Subtract, ShiftLeft, ShiftRight, Less, Greater, LessEqual, GreaterEqual, Equal, NotEqual, TextEqual, TextNotEqual, In, NotIn, BitAnd, BitXor, BitOr}
 use Rattle.tclexpr.specs.declared.operators.Infix.TheVariants.{Operator, And, Or}
 use Rattle.tclexpr.specs.declared.operators.Mark.{Mark}
 use Rattle.tclexpr.specs.declared.operators.Mark.TheVariants.{Open, Close, Question, Colon, Complement, Not, Infix}
+
+-- The signs of operators, by their codes
+
+abbrev pub exclamation_mark : ℕ
+exclamation_mark = 33
+
+abbrev pub percent_sign : ℕ
+percent_sign = 37
+
+abbrev pub ampersand : ℕ
+ampersand = 38
+
+abbrev pub plus_sign : ℕ
+plus_sign = 43
+
+abbrev pub minus_sign : ℕ
+minus_sign = 45
+
+abbrev pub slash : ℕ
+slash = 47
+
+abbrev pub less_than : ℕ
+less_than = 60
+
+abbrev pub equals_sign : ℕ
+equals_sign = 61
+
+abbrev pub greater_than : ℕ
+greater_than = 62
+
+abbrev pub question_mark : ℕ
+question_mark = 63
+
+abbrev pub caret : ℕ
+caret = 94
+
+abbrev pub vertical_bar : ℕ
+vertical_bar = 124
+
+abbrev pub tilde : ℕ
+tilde = 126
 
 -- white space stands in front, or a backslash before a newline
 abbrev pub begins_white : Text → Bool
@@ -21,35 +62,35 @@ after_white (b ∷ bs) = if begins_white (b ∷ bs) then after_white bs else b �
 -- the operators of two bytes
 abbrev pub two_bytes : ℕ → ℕ → Option Mark
 two_bytes b c =
-    if b == 60 && c == 60 then Some (Infix (Operator ShiftLeft))
-    else if b == 62 && c == 62 then Some (Infix (Operator ShiftRight))
-    else if b == 60 && c == 61 then Some (Infix (Operator LessEqual))
-    else if b == 62 && c == 61 then Some (Infix (Operator GreaterEqual))
-    else if b == 61 && c == 61 then Some (Infix (Operator Equal))
-    else if b == 33 && c == 61 then Some (Infix (Operator NotEqual))
-    else if b == 38 && c == 38 then Some (Infix And)
-    else if b == 124 && c == 124 then Some (Infix Or)
+    if b == less_than && c == less_than then Some (Infix (Operator ShiftLeft))
+    else if b == greater_than && c == greater_than then Some (Infix (Operator ShiftRight))
+    else if b == less_than && c == equals_sign then Some (Infix (Operator LessEqual))
+    else if b == greater_than && c == equals_sign then Some (Infix (Operator GreaterEqual))
+    else if b == equals_sign && c == equals_sign then Some (Infix (Operator Equal))
+    else if b == exclamation_mark && c == equals_sign then Some (Infix (Operator NotEqual))
+    else if b == ampersand && c == ampersand then Some (Infix And)
+    else if b == vertical_bar && c == vertical_bar then Some (Infix Or)
     else None
 
 -- the marks of one byte
 abbrev pub one_byte : ℕ → Option Mark
 one_byte b =
-    if b == 40 then Some Open
-    else if b == 41 then Some Close
-    else if b == 63 then Some Question
-    else if b == 58 then Some Colon
-    else if b == 126 then Some Complement
-    else if b == 33 then Some Not
-    else if b == 42 then Some (Infix (Operator Multiply))
-    else if b == 47 then Some (Infix (Operator Divide))
-    else if b == 37 then Some (Infix (Operator Remainder))
-    else if b == 43 then Some (Infix (Operator Add))
-    else if b == 45 then Some (Infix (Operator Subtract))
-    else if b == 60 then Some (Infix (Operator Less))
-    else if b == 62 then Some (Infix (Operator Greater))
-    else if b == 38 then Some (Infix (Operator BitAnd))
-    else if b == 94 then Some (Infix (Operator BitXor))
-    else if b == 124 then Some (Infix (Operator BitOr))
+    if b == left_parenthesis then Some Open
+    else if b == right_parenthesis then Some Close
+    else if b == question_mark then Some Question
+    else if b == colon then Some Colon
+    else if b == tilde then Some Complement
+    else if b == exclamation_mark then Some Not
+    else if b == star then Some (Infix (Operator Multiply))
+    else if b == slash then Some (Infix (Operator Divide))
+    else if b == percent_sign then Some (Infix (Operator Remainder))
+    else if b == plus_sign then Some (Infix (Operator Add))
+    else if b == minus_sign then Some (Infix (Operator Subtract))
+    else if b == less_than then Some (Infix (Operator Less))
+    else if b == greater_than then Some (Infix (Operator Greater))
+    else if b == ampersand then Some (Infix (Operator BitAnd))
+    else if b == caret then Some (Infix (Operator BitXor))
+    else if b == vertical_bar then Some (Infix (Operator BitOr))
     else None
 
 -- the words that are operators: eq ne in ni
@@ -75,7 +116,7 @@ abbrev pub symbol_at : Text → Option (Mark × Text)
 symbol_at [] = None
 symbol_at (b ∷ []) = before [] (one_byte b)
 symbol_at (b ∷ (c ∷ bs)) =
-    if b == 42 && c == 42 then None else longest (before bs (two_bytes b c)) (before (c ∷ bs) (one_byte b))
+    if b == star && c == star then None else longest (before bs (two_bytes b c)) (before (c ∷ bs) (one_byte b))
 
 -- the mark at the front, and what follows it
 unfoldable pub mark_at : Text → Option (Mark × Text)

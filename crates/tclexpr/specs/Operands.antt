@@ -1,5 +1,6 @@
 -- Operands of expressions: numbers, truth words, and the substitutions, quoted and braced texts of scripts.
 use Rattle.std.specs.Prelude.{ℕ, suc, ◌+◌, [], ◌∷◌, length, Bool, true, false, not, ◌||◌, ◌&&◌, ◌==◌, nat_le, if◌then◌else◌, Option, Some, None, Result, Ok, Err}
+use Rattle.tclchars.specs.Bytes.{quote, dollar, left_parenthesis, left_bracket, left_brace}
 use Rattle.tclchars.specs.Runs.{Text, front, back, begins}
 use Rattle.tclchars.specs.Classes.{is_name, begins_in}
 use Rattle.tclchars.specs.Braces.{braced_at}
@@ -125,28 +126,28 @@ abbrev pub substituted : ℕ → Part × Text → Read (Operand × ℕ)
 substituted left p = operand_of left p.0 >>= (λ o. Ok (o, p.1))
 
 -- a variable, behind its dollar, and a script, behind its bracket; so many bytes are left from that on
-abbrev pub variable_at : ℕ → ℕ → Text → Read (Operand × ℕ)
-variable_at d left bs = dollar_at (inner_at d) bs >>= substituted left
+abbrev pub variable_operand_at : ℕ → ℕ → Text → Read (Operand × ℕ)
+variable_operand_at d left bs = dollar_at (inner_at d) bs >>= substituted left
 
-abbrev pub script_at : ℕ → ℕ → Text → Read (Operand × ℕ)
-script_at d left bs = bracket_at (inner_at d) bs >>= substituted left
+abbrev pub bracket_operand_at : ℕ → ℕ → Text → Read (Operand × ℕ)
+bracket_operand_at d left bs = bracket_at (inner_at d) bs >>= substituted left
 
 -- a quoted text, behind its first quote
 unfoldable pub quoted_at : ℕ → Text → Read (Operand × ℕ)
 quoted_at d bs = read_map (λ ps. (quoted ps, parts_nesting ps)) (quotes_at (inner_at d) bs)
 
-abbrev pub in_braces : ℕ → Option (Text × Text) → Read (Operand × ℕ)
-in_braces left None = Err (OpenBrace left)
-in_braces left (Some p) = Ok ((braced p.0, 0), p.1)
+abbrev pub operand_in_braces : ℕ → Option (Text × Text) → Read (Operand × ℕ)
+operand_in_braces left None = Err (OpenBrace left)
+operand_in_braces left (Some p) = Ok ((braced p.0, 0), p.1)
 
 -- a text in braces, behind the first
 unfoldable pub braced_text_at : Text → Read (Operand × ℕ)
-braced_text_at bs = in_braces (suc (length bs)) (braced_at false 0 bs)
+braced_text_at bs = operand_in_braces (suc (length bs)) (braced_at false 0 bs)
 
 -- a word, where it is a truth word and no parenthesis follows it directly
 unfoldable pub word_at : Text → Read (Operand × ℕ)
 word_at bs =
-    if is_truth (front is_name bs) && not (begins 40 (back is_name bs)) then Ok ((word (front is_name bs), 0), back is_name bs)
+    if is_truth (front is_name bs) && not (begins left_parenthesis (back is_name bs)) then Ok ((word (front is_name bs), 0), back is_name bs)
     else Err (BadExpression (length bs))
 
 abbrev pub numeric : Text → Option Text → Read (Operand × ℕ)
@@ -156,6 +157,6 @@ numeric bs (Some rest) = Ok ((number (taken bs rest), 0), rest)
 -- the operand at the front, in which so many brackets and parentheses may nest, with how deep they do
 unfoldable pub operand_at : ℕ → Text → Read (Operand × ℕ)
 operand_at d bs =
-    on_mark 36 bs (variable_at d (length bs))
-    (on_mark 91 bs (script_at d (length bs))
-    (on_mark 34 bs (quoted_at d) (on_mark 123 bs braced_text_at (numeric bs (after_number bs)))))
+    on_mark dollar bs (variable_operand_at d (length bs))
+    (on_mark left_bracket bs (bracket_operand_at d (length bs))
+    (on_mark quote bs (quoted_at d) (on_mark left_brace bs braced_text_at (numeric bs (after_number bs)))))

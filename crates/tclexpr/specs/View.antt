@@ -9,7 +9,7 @@ use Rattle.tclexpr.specs.Tree as tree
 use Rattle.tclexpr.specs.declared.tree.Operand.{Operand}
 use Rattle.tclexpr.specs.declared.tree.Operand.TheVariants as rust_operand
 use Rattle.tclexpr.specs.declared.tree.Expr as rust
-use Rattle.tclexpr.specs.declared.tree.Tall.{Tall}
+use Rattle.tclexpr.specs.declared.tree.WithHeight.{WithHeight}
 
 abbrev pub words_view : {P : Type 0} → (P → Text) → List (script_word.Word P) → Words
 words_view shown ws = words_of (map (word_view shown) ws)
@@ -34,5 +34,5 @@ expr_step shown (rust.Expr-F.Choice c y n) = tree.choice c.value y.value n.value
 abbrev pub expr_view : {P : Type 0} → (P → Text) → rust.Expr P → tree.Expr operands.Operand
 expr_view {P} shown = rust.fold-Expr P (tree.Expr operands.Operand) (expr_step shown)
 
-abbrev pub tall_view : {P : Type 0} → (P → Text) → Tall P → tree.Expr operands.Operand × ℕ
-tall_view shown x = (expr_view shown x.tree, x.height)
+abbrev pub with_height_view : {P : Type 0} → (P → Text) → WithHeight P → tree.Expr operands.Operand × ℕ
+with_height_view shown x = (expr_view shown x.tree, x.height)

@@ -13,8 +13,10 @@ pub fn one_expression()
 
 /// A text has one fault at most, and then no tree within the limits.
 pub fn one_fault()
-    ensures one { (bs : Text) (f g : TextFault) → f ≢ OutOfMemory → g ≢ OutOfMemory → IsTextFault bs f → IsTextFault bs g → f ≡ g }
-    ensures no_tree { (bs : Text) (f : TextFault) (e : Expr Operand) → f ≢ OutOfMemory → IsTextFault bs f → IsWithin bs e → ⊥ }
+    ensures one { (bs : Text) (f g : TextFault) → f ≢ OutOfMemory → g ≢ OutOfMemory → IsTextFault bs f
+        → IsTextFault bs g → f ≡ g }
+    ensures no_tree { (bs : Text) (f : TextFault) (e : Expr Operand) → f ≢ OutOfMemory → IsTextFault bs f
+        → IsWithin bs e → ⊥ }
 {}
 
 /// `expr_of` gives a tree exactly where the grammar has it within the limits, and a fault exactly where that is the text's; want of

@@ -15,6 +15,7 @@ mod text;
 mod tree;
 
 pub use laws::{expr_of_grammar, one_expression, one_fault};
+pub use numbers::Digits;
 pub use operators::{BinaryOperator, Infix, Mark, UnaryOperator};
 pub use owned::{OwnedExpr, own_expr};
 pub use text::{parse_expr, parse_expr_pieces};

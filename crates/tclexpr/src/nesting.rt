@@ -15,7 +15,8 @@ fn larger(a: usize, b: usize) -> usize
 /// How deep brackets and the parentheses of indexes nest in a script. A number that is no `usize` is cut.
 #[cycle(nesting)]
 pub(crate) fn script_nesting<P: Drop>(script: &Script<P>) -> usize
-    ensures { (shown : P → Text) → nesting (script_view shown script.now) ≤ usize.MAX → result ≡ nesting (script_view shown script.now) }
+    ensures { (shown : P → Text) → nesting (script_view shown script.now) ≤ usize.MAX
+        → result ≡ nesting (script_view shown script.now) }
 {
     let mut height = 0;
     for command in &script.commands {
@@ -27,7 +28,8 @@ pub(crate) fn script_nesting<P: Drop>(script: &Script<P>) -> usize
 // The same in words.
 #[cycle(nesting)]
 fn words_nesting<P: Drop>(words: &Vec<Word<P>>) -> usize
-    ensures { (shown : P → Text) → words_nesting (words_view shown words.now.items) ≤ usize.MAX → result ≡ words_nesting (words_view shown words.now.items) }
+    ensures { (shown : P → Text) → words_nesting (words_view shown words.now.items) ≤ usize.MAX
+        → result ≡ words_nesting (words_view shown words.now.items) }
 {
     let mut height = 0;
     for word in words {
@@ -39,7 +41,8 @@ fn words_nesting<P: Drop>(words: &Vec<Word<P>>) -> usize
 /// The same in parts.
 #[cycle(nesting)]
 pub(crate) fn parts_nesting<P: Drop>(parts: &Vec<Part<P>>) -> usize
-    ensures { (shown : P → Text) → parts_nesting (parts_view shown parts.now.items) ≤ usize.MAX → result ≡ parts_nesting (parts_view shown parts.now.items) }
+    ensures { (shown : P → Text) → parts_nesting (parts_view shown parts.now.items) ≤ usize.MAX
+        → result ≡ parts_nesting (parts_view shown parts.now.items) }
 {
     let mut height = 0;
     for part in parts {
@@ -51,7 +54,8 @@ pub(crate) fn parts_nesting<P: Drop>(parts: &Vec<Part<P>>) -> usize
 // The same in a part.
 #[cycle(nesting)]
 fn part_nesting<P: Drop>(part: &Part<P>) -> usize
-    ensures { (shown : P → Text) → part_nesting (part_view shown part.now) ≤ usize.MAX → result ≡ part_nesting (part_view shown part.now) }
+    ensures { (shown : P → Text) → part_nesting (part_view shown part.now) ≤ usize.MAX
+        → result ≡ part_nesting (part_view shown part.now) }
 {
     match part {
         Part::Indexed(_, parts) => parts_nesting(parts).saturating_add(1),

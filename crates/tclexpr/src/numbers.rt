@@ -3,12 +3,16 @@ ghost use Rattle.tclexpr.specs.Operands.{is_digit, begins_digit, after_digits, a
 
 use crate::marks::after_first;
 
-/// The digits of a base.
+/// The digits of a base, in the spelling of a number.
 #[derive(Clone, Copy, Debug, PartialEq, Eq)]
-pub(crate) enum Digits {
+pub enum Digits {
+    /// 0 and 1.
     Binary,
+    /// 0 to 7.
     Octal,
+    /// 0 to 9.
     Decimal,
+    /// 0 to 9, and a to f in either case.
     Hexadecimal,
 }
 

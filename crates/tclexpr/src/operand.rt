@@ -5,7 +5,7 @@ ghost use Rattle.tclscript.specs.Pieces.{IsEndOf};
 ghost use Rattle.tclscript.specs.Tree.{part_nesting};
 ghost use Rattle.tclscript.specs.Reading.{taken};
 ghost use Rattle.tclscript.specs.View.{part_view};
-ghost use Rattle.tclexpr.specs.Operands.{after_number, lower, is_front, begins_truth, begins_switch, is_truth, operand_of, variable_at, script_at, quoted_at, braced_text_at, word_at, numeric, operand_at};
+ghost use Rattle.tclexpr.specs.Operands.{after_number, lower, is_front, begins_truth, begins_switch, is_truth, operand_of, variable_operand_at, bracket_operand_at, quoted_at, braced_text_at, word_at, numeric, operand_at};
 ghost use Rattle.tclexpr.specs.View.{operand_view};
 
 use crate::nesting::{parts_nesting, script_nesting};
@@ -108,7 +108,8 @@ fn read_variable<'a, S: Source<P>, P: Drop>(
 ) -> Result<(Operand<P>, usize, &'a str), ReadError>
     requires text { IsEndOf (S.text source.now) text.now }
     requires dollar { text.now ≡ 36 ∷ behind.now }
-    ensures { Gives (λ x. ((operand_view (S.shown source.now) x.0, x.1), x.2.now)) result (variable_at depth (length text.now) behind.now) }
+    ensures { Gives (λ x. ((operand_view (S.shown source.now) x.0, x.1), x.2.now)) result
+        (variable_operand_at depth (length text.now) behind.now) }
 {
     let (part, rest) = read_dollar(alloc, source, text, behind, depth)?;
     let (operand, height) = operand_of(part, text.len())?;
@@ -125,7 +126,8 @@ fn read_script<'a, S: Source<P>, P: Drop>(
 ) -> Result<(Operand<P>, usize, &'a str), ReadError>
     requires text { IsEndOf (S.text source.now) text.now }
     requires bracket { text.now ≡ 91 ∷ behind.now }
-    ensures { Gives (λ x. ((operand_view (S.shown source.now) x.0, x.1), x.2.now)) result (script_at depth (length text.now) behind.now) }
+    ensures { Gives (λ x. ((operand_view (S.shown source.now) x.0, x.1), x.2.now)) result
+        (bracket_operand_at depth (length text.now) behind.now) }
 {
     let (part, rest) = read_bracket(alloc, source, behind, depth)?;
     let (operand, height) = operand_of(part, text.len())?;
@@ -185,7 +187,8 @@ fn read_numeric<'a, S: Source<P>, P: Drop>(
     text: &'a str,
 ) -> Result<(Operand<P>, usize, &'a str), ReadError>
     requires { IsEndOf (S.text source.now) text.now }
-    ensures { Gives (λ x. ((operand_view (S.shown source.now) x.0, x.1), x.2.now)) result (numeric text.now (after_number text.now)) }
+    ensures { Gives (λ x. ((operand_view (S.shown source.now) x.0, x.1), x.2.now)) result
+        (numeric text.now (after_number text.now)) }
 {
     match after_number(text) {
         Some(rest) => Ok((Operand::Number(taken(source, text, rest)), 0, rest)),

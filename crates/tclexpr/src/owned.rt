@@ -1,6 +1,6 @@
 ghost use Rattle.std.specs.Prelude.{◌≡◌, string_bytes, IfOk, IfErr, MatchResult};
 ghost use Rattle.tclchars.specs.declared.fault.TextFault.TheVariants.{OutOfMemory};
-ghost use Rattle.tclscript.specs.Text.{Reads};
+ghost use Rattle.tclchars.specs.Whole.{Reads};
 ghost use Rattle.tclexpr.specs.Tree as tree;
 ghost use Rattle.tclexpr.specs.Operands as operands;
 ghost use Rattle.tclexpr.specs.Text.{IsWithin, IsTextFault, expr_of};
@@ -28,7 +28,8 @@ pub fn own_expr(alloc: Global, text: String) -> Result<OwnedExpr, TextFault>
     ensures found { IfOk result (λ o. IsWithin (string_bytes text) (owned_view o)) }
 
     // A text that has a tree within the limits is read, unless memory runs out.
-    ensures only { (e : tree.Expr operands.Operand) → IsWithin (string_bytes text) e → MatchResult result (λ o. owned_view o ≡ e) (λ f. f ≡ OutOfMemory) }
+    ensures only { (e : tree.Expr operands.Operand) → IsWithin (string_bytes text) e
+        → MatchResult result (λ o. owned_view o ≡ e) (λ f. f ≡ OutOfMemory) }
 
     // A fault is the text's first, at its place.
     ensures fault { IfErr result (IsTextFault (string_bytes text)) }

@@ -9,12 +9,12 @@ ghost use Rattle.tclexpr.specs.Marks.{mark_at, after_white};
 ghost use Rattle.tclexpr.specs.Faults.{Follows};
 ghost use Rattle.tclexpr.specs.Operands.{operand_at};
 ghost use Rattle.tclexpr.specs.Reading.{whole, chain, is_close, is_colon, is_open, is_question, expect, join, prefix_at, leaf_of, unary_of, choice_of, enclosed_at, branches_at, chain_at, whole_at, below_at, expr_at};
-ghost use Rattle.tclexpr.specs.View.{tall_view, expr_view};
+ghost use Rattle.tclexpr.specs.View.{with_height_view, expr_view};
 
 use crate::marks::{level, read_mark, sign_of, skip_white};
 use crate::operand::read_operand;
 use crate::operators::{Infix, Mark, UnaryOperator};
-use crate::tree::{Expr, Tall};
+use crate::tree::{Expr, WithHeight};
 use std::alloc::{AllocError, Global};
 use tclchars::{Fault, ReadError};
 use tclscript::Source;
@@ -78,13 +78,14 @@ fn right_level(between: Infix) -> usize
 fn unary<P: Drop>(
     alloc: Global,
     operator: UnaryOperator,
-    operand: Tall<P>,
-) -> Result<Tall<P>, AllocError>
+    operand: WithHeight<P>,
+) -> Result<WithHeight<P>, AllocError>
     requires { operand.height < usize.MAX }
-    ensures { (shown : P → Text) → IfOk result (λ t. tall_view shown t ≡ unary_of operator (tall_view shown operand)) }
+    ensures { (shown : P → Text)
+        → IfOk result (λ t. with_height_view shown t ≡ unary_of operator (with_height_view shown operand)) }
 {
     let height = operand.height + 1;
-    Ok(Tall {
+    Ok(WithHeight {
         tree: Expr::Unary(operator, Box::new(alloc, operand.tree)?),
         height,
     })
@@ -94,12 +95,14 @@ fn unary<P: Drop>(
 fn join<P: Drop>(
     alloc: Global,
     between: Infix,
-    left: Tall<P>,
-    right: Tall<P>,
-) -> Result<Tall<P>, AllocError>
+    left: WithHeight<P>,
+    right: WithHeight<P>,
+) -> Result<WithHeight<P>, AllocError>
     requires left { left.height < usize.MAX }
     requires right { right.height < usize.MAX }
-    ensures { (shown : P → Text) → IfOk result (λ t. tall_view shown t ≡ join between (tall_view shown left) (tall_view shown right)) }
+    ensures { (shown : P → Text)
+        → IfOk result
+        (λ t. with_height_view shown t ≡ join between (with_height_view shown left) (with_height_view shown right)) }
 {
     let height = left.height.max(right.height) + 1;
     let left = Box::new(alloc, left.tree)?;
@@ -109,37 +112,40 @@ fn join<P: Drop>(
         Infix::And => Expr::And(left, right),
         Infix::Or => Expr::Or(left, right),
     };
-    Ok(Tall { tree, height })
+    Ok(WithHeight { tree, height })
 }
 
 // A condition and the two expressions that it chooses from.
 fn choice<P: Drop>(
     alloc: Global,
-    condition: Tall<P>,
-    yes: Tall<P>,
-    no: Tall<P>,
-) -> Result<Tall<P>, AllocError>
+    condition: WithHeight<P>,
+    yes: WithHeight<P>,
+    no: WithHeight<P>,
+) -> Result<WithHeight<P>, AllocError>
     requires condition { condition.height < usize.MAX }
     requires positive { yes.height < usize.MAX }
     requires negative { no.height < usize.MAX }
-    ensures { (shown : P → Text) → IfOk result (λ t. tall_view shown t ≡ choice_of (tall_view shown condition) (tall_view shown yes) (tall_view shown no)) }
+    ensures { (shown : P → Text)
+        → IfOk result
+        (λ t. with_height_view shown t ≡ choice_of (with_height_view shown condition) (with_height_view shown yes)
+        (with_height_view shown no)) }
 {
     let height = condition.height.max(yes.height.max(no.height)) + 1;
     let condition = Box::new(alloc, condition.tree)?;
     let yes = Box::new(alloc, yes.tree)?;
     let no = Box::new(alloc, no.tree)?;
-    Ok(Tall {
+    Ok(WithHeight {
         tree: Expr::Choice(condition, yes, no),
         height,
     })
 }
 
 // An expression in parentheses, as high as those make it.
-fn enclosed<P: Drop>(inner: Tall<P>) -> Tall<P>
+fn enclosed<P: Drop>(inner: WithHeight<P>) -> WithHeight<P>
     requires { inner.height < usize.MAX }
-    ensures { (shown : P → Text) → tall_view shown result ≡ (expr_view shown inner.tree, suc inner.height) }
+    ensures { (shown : P → Text) → with_height_view shown result ≡ (expr_view shown inner.tree, suc inner.height) }
 {
-    Tall {
+    WithHeight {
         tree: inner.tree,
         height: inner.height + 1,
     }
@@ -152,9 +158,10 @@ pub(crate) fn read_whole<'a, S: Source<P>, P: Drop>(
     source: &S,
     text: &'a str,
     depth: usize,
-) -> Result<(Tall<P>, &'a str), ReadError>
+) -> Result<(WithHeight<P>, &'a str), ReadError>
     requires { IsEndOf (S.text source.now) text.now }
-    ensures { Gives (λ x. (tall_view (S.shown source.now) x.0, x.1.now)) result (whole_at operand_at depth (below_at operand_at depth) text.now) }
+    ensures { Gives (λ x. (with_height_view (S.shown source.now) x.0, x.1.now)) result
+        (whole_at operand_at depth (below_at operand_at depth) text.now) }
 {
     let (condition, rest) = read_chain(alloc, source, text, depth, LOOSEST)?;
     let Some((mark, behind)) = read_mark(skip_white(rest)) else {
@@ -172,13 +179,13 @@ pub(crate) fn read_whole<'a, S: Source<P>, P: Drop>(
 fn read_branches<'a, S: Source<P>, P: Drop>(
     alloc: Global,
     source: &S,
-    condition: Tall<P>,
+    condition: WithHeight<P>,
     text: &'a str,
     depth: usize,
-) -> Result<(Tall<P>, &'a str), ReadError>
+) -> Result<(WithHeight<P>, &'a str), ReadError>
     requires { IsEndOf (S.text source.now) text.now }
-    ensures { Gives (λ x. (tall_view (S.shown source.now) x.0, x.1.now)) result
-        (if nat_lt condition.height depth then branches_at operand_at (below_at operand_at depth) (tall_view (S.shown source.now) condition) text.now else Err TooDeep) }
+    ensures { Gives (λ x. (with_height_view (S.shown source.now) x.0, x.1.now)) result
+        (if nat_lt condition.height depth then branches_at operand_at (below_at operand_at depth) (with_height_view (S.shown source.now) condition) text.now else Err TooDeep) }
 {
     if condition.height >= depth {
         return Err(ReadError::Fault(Fault::TooDeep));
@@ -197,9 +204,10 @@ fn read_chain<'a, S: Source<P>, P: Drop>(
     text: &'a str,
     depth: usize,
     limit: usize,
-) -> Result<(Tall<P>, &'a str), ReadError>
+) -> Result<(WithHeight<P>, &'a str), ReadError>
     requires { IsEndOf (S.text source.now) text.now }
-    ensures { Gives (λ x. (tall_view (S.shown source.now) x.0, x.1.now)) result (chain_at operand_at depth (below_at operand_at depth) limit text.now) }
+    ensures { Gives (λ x. (with_height_view (S.shown source.now) x.0, x.1.now)) result
+        (chain_at operand_at depth (below_at operand_at depth) limit text.now) }
 {
     let (mut left, mut rest) = read_prefix(alloc, source, text, depth)?;
     loop {
@@ -221,9 +229,9 @@ fn read_right<'a, S: Source<P>, P: Drop>(
     depth: usize,
     height: usize,
     between: Infix,
-) -> Result<(Tall<P>, &'a str), ReadError>
+) -> Result<(WithHeight<P>, &'a str), ReadError>
     requires { IsEndOf (S.text source.now) text.now }
-    ensures { Gives (λ x. (tall_view (S.shown source.now) x.0, x.1.now)) result
+    ensures { Gives (λ x. (with_height_view (S.shown source.now) x.0, x.1.now)) result
         (if nat_lt height depth then below_at operand_at depth (chain (level between - 1)) text.now else Err TooDeep) }
 {
     if height >= depth {
@@ -239,9 +247,10 @@ fn read_prefix<'a, S: Source<P>, P: Drop>(
     source: &S,
     text: &'a str,
     depth: usize,
-) -> Result<(Tall<P>, &'a str), ReadError>
+) -> Result<(WithHeight<P>, &'a str), ReadError>
     requires { IsEndOf (S.text source.now) text.now }
-    ensures { Gives (λ x. (tall_view (S.shown source.now) x.0, x.1.now)) result (prefix_at operand_at depth (below_at operand_at depth) text.now) }
+    ensures { Gives (λ x. (with_height_view (S.shown source.now) x.0, x.1.now)) result
+        (prefix_at operand_at depth (below_at operand_at depth) text.now) }
 {
     let start = skip_white(text);
     let Some((mark, behind)) = read_mark(start) else {
@@ -262,13 +271,14 @@ fn read_leaf<'a, S: Source<P>, P: Drop>(
     source: &S,
     text: &'a str,
     depth: usize,
-) -> Result<(Tall<P>, &'a str), ReadError>
+) -> Result<(WithHeight<P>, &'a str), ReadError>
     requires { IsEndOf (S.text source.now) text.now }
-    ensures { Gives (λ x. (tall_view (S.shown source.now) x.0, x.1.now)) result (read_map leaf_of (operand_at depth text.now)) }
+    ensures { Gives (λ x. (with_height_view (S.shown source.now) x.0, x.1.now)) result
+        (read_map leaf_of (operand_at depth text.now)) }
 {
     let (operand, height, rest) = read_operand(alloc, source, text, depth)?;
     Ok((
-        Tall {
+        WithHeight {
             tree: Expr::Operand(operand),
             height,
         },
@@ -283,9 +293,10 @@ fn read_enclosed<'a, S: Source<P>, P: Drop>(
     source: &S,
     text: &'a str,
     depth: usize,
-) -> Result<(Tall<P>, &'a str), ReadError>
+) -> Result<(WithHeight<P>, &'a str), ReadError>
     requires { IsEndOf (S.text source.now) text.now }
-    ensures { Gives (λ x. (tall_view (S.shown source.now) x.0, x.1.now)) result (enclosed_at operand_at (below_at operand_at depth) text.now) }
+    ensures { Gives (λ x. (with_height_view (S.shown source.now) x.0, x.1.now)) result
+        (enclosed_at operand_at (below_at operand_at depth) text.now) }
 {
     if depth == 0 {
         return Err(ReadError::Fault(Fault::TooDeep));
@@ -303,9 +314,10 @@ fn read_signed<'a, S: Source<P>, P: Drop>(
     operator: UnaryOperator,
     text: &'a str,
     depth: usize,
-) -> Result<(Tall<P>, &'a str), ReadError>
+) -> Result<(WithHeight<P>, &'a str), ReadError>
     requires { IsEndOf (S.text source.now) text.now }
-    ensures { Gives (λ x. (tall_view (S.shown source.now) x.0, x.1.now)) result (read_map (unary_of operator) (below_at operand_at depth (chain 1) text.now)) }
+    ensures { Gives (λ x. (with_height_view (S.shown source.now) x.0, x.1.now)) result
+        (read_map (unary_of operator) (below_at operand_at depth (chain 1) text.now)) }
 {
     if depth == 0 {
         return Err(ReadError::Fault(Fault::TooDeep));

@@ -2,7 +2,7 @@ ghost use Rattle.std.specs.Prelude.{◌≡◌, IfOk, IfErr, MatchResult};
 ghost use Rattle.tclchars.specs.Reading.{Gives};
 ghost use Rattle.tclchars.specs.Faults.{max_nesting};
 ghost use Rattle.tclchars.specs.declared.fault.TextFault.TheVariants.{OutOfMemory};
-ghost use Rattle.tclscript.specs.Text.{Reads};
+ghost use Rattle.tclchars.specs.Whole.{Reads};
 ghost use Rattle.tclexpr.specs.Tree as tree;
 ghost use Rattle.tclexpr.specs.Operands as operands;
 ghost use Rattle.tclexpr.specs.Operands.{operand_at};
@@ -14,8 +14,8 @@ use crate::marks::skip_white;
 use crate::reading::read_whole;
 use crate::tree::Expr;
 use std::alloc::Global;
-use tclchars::{Fault, ReadError, TextFault, place};
-use tclscript::{MAX_BYTES, MAX_NESTING, Source};
+use tclchars::{Fault, MAX_BYTES, MAX_NESTING, ReadError, TextFault, place};
+use tclscript::Source;
 
 /// The tree of an expression (expr(n)), whose pieces are slices of the text. Takes memory in proportion to the text's length, time
 /// in proportion to that and, behind operands, to how deep they nest, and copies no text.
@@ -27,7 +27,8 @@ pub fn parse_expr(alloc: Global, text: &str) -> Result<Expr<&str>, TextFault>
     ensures found { IfOk result (λ e. IsWithin text.now (expr_view (λ piece. piece.now) e)) }
 
     // A text that has a tree within the limits is read, unless memory runs out.
-    ensures only { (e : tree.Expr operands.Operand) → IsWithin text.now e → MatchResult result (λ t. expr_view (λ piece. piece.now) t ≡ e) (λ f. f ≡ OutOfMemory) }
+    ensures only { (e : tree.Expr operands.Operand) → IsWithin text.now e
+        → MatchResult result (λ t. expr_view (λ piece. piece.now) t ≡ e) (λ f. f ≡ OutOfMemory) }
 
     // A fault is the text's first, at its place.
     ensures fault { IfErr result (IsTextFault text.now) }
@@ -44,7 +45,8 @@ pub fn parse_expr_pieces<S: Source<P>, P: Drop>(
     source: &S,
 ) -> Result<Expr<P>, TextFault>
     ensures found { IfOk result (λ e. IsWithin (S.text source.now) (expr_view (S.shown source.now) e)) }
-    ensures only { (e : tree.Expr operands.Operand) → IsWithin (S.text source.now) e → MatchResult result (λ t. expr_view (S.shown source.now) t ≡ e) (λ f. f ≡ OutOfMemory) }
+    ensures only { (e : tree.Expr operands.Operand) → IsWithin (S.text source.now) e
+        → MatchResult result (λ t. expr_view (S.shown source.now) t ≡ e) (λ f. f ≡ OutOfMemory) }
     ensures fault { IfErr result (IsTextFault (S.text source.now)) }
     ensures read { Reads (expr_view (S.shown source.now)) result (expr_of (S.text source.now)) }
 {

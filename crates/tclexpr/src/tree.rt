@@ -39,7 +39,7 @@ pub enum Expr<P> {
 
 /// An expression, with how deep operators, parentheses and brackets nest in it.
 #[derive(Debug, Drop)]
-pub(crate) struct Tall<P> {
+pub(crate) struct WithHeight<P> {
     pub tree: Expr<P>,
     pub height: usize,
 }

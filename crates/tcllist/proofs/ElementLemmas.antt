@@ -13,7 +13,7 @@ use Rattle.tcllist.specs.ListGrammar as grammar
 use Rattle.tcllist.specs.ListGrammar.{Piece, Bare, is_quote, begins_element, IsElement}
 use Rattle.tcllist.specs.ListFaults as faults
 use Rattle.tcllist.specs.ListFaults.{IsJoined, IsLast, StandsForNothing, IsWrong}
-use Rattle.tcllist.specs.ListReading.{mark_at, piece_at, piece_of, parted_at, parted, in_braces, in_quotes, quoted_at, element_at}
+use Rattle.tcllist.specs.ListReading.{escaped_at, piece_at, piece_of, parted_at, parted, element_in_braces, element_in_quotes, quoted_at, element_at}
 use Rattle.tcllist.proofs.Runs.{is_byte, true_false, not_true}
 use Rattle.tcllist.proofs.Pieces.{PieceGives, PieceLeft, piece_left, piece_gives, piece-end, piece-none, piece-backslash, to_end}
 
@@ -43,9 +43,9 @@ piece_of-end ends off bs e (b ∷ rest) m h = to_end ends off bs e (b ∷ rest) 
 pub piece_of-backslash : (ends : ℕ → Bool) → ends backslash ≡ false → (bs e : Text) → Piece ends bs e (backslash ∷ []) → piece_of ends bs ≡ Ok (e ++ backslash ∷ [], [])
 piece_of-backslash ends off bs e m = to_end ends off bs e (backslash ∷ []) (backslash ∷ []) [] (piece_of-left ends off m) (λ n. piece-backslash ends off n [])
 
-nothing_mark : (more : Text → Read Text) (rest : Text) → StandsForNothing rest → mark_at more rest (after_backslash rest) ≡ Err (marks.BadCharacter (suc (length rest)))
+nothing_mark : (more : Text → Read Text) (rest : Text) → StandsForNothing rest → escaped_at more rest (after_backslash rest) ≡ Err (marks.BadCharacter (suc (length rest)))
 nothing_mark more [] h = absurd h
-nothing_mark more (b ∷ rest) h = ap (mark_at more (b ∷ rest)) h
+nothing_mark more (b ∷ rest) h = ap (escaped_at more (b ∷ rest)) h
 
 pub piece_of-bad : (ends : ℕ → Bool) → ends backslash ≡ false → (bs e rest : Text) → Piece ends bs e (backslash ∷ rest) → StandsForNothing rest → piece_of ends bs ≡ Err (marks.BadCharacter (suc (length rest)))
 unfolding piece_of
@@ -88,26 +88,26 @@ unclosed bs inside rest h w is = none_some (inside, rest) (sym h ∙ ap (braced_
   none_some : (p : Text × Text) → (let left : Option (Text × Text) = None in left ≡ Some p) → ⊥
   none_some p h = cc
 
-braces_give : (bs : Text) (found : Option (Text × Text)) → braced_at false 0 bs ≡ found → ElementGives (123 ∷ bs) (in_braces (suc (length bs)) found)
+braces_give : (bs : Text) (found : Option (Text × Text)) → braced_at false 0 bs ≡ found → ElementGives (123 ∷ bs) (element_in_braces (suc (length bs)) found)
 braces_give bs None e = faults.IsWrong.open_brace (λ inside rest w is. unclosed bs inside rest e w is)
 braces_give bs (Some p) e =
     let closed = close_sound bs false 0 p.0 p.1 e in
     after_close (123 ∷ bs) p.0 p.1 (parted_at p.1) (parts p.1) (grammar.IsElement.in_braces p.1 closed.0 closed.1) (λ joined. faults.IsWrong.joined_to_brace p.0 p.1 closed.0 closed.1 joined)
 
 -- Elements in quotes
-quote_cases : (bs e : Text) (b : ℕ) (rest : Text) (t : Bool) → is_quote b ≡ t → Piece is_quote bs e (b ∷ rest) → MayBegin is_quote (b ∷ rest) → ElementGives (34 ∷ bs) (in_quotes (suc (length bs)) e (b ∷ rest))
+quote_cases : (bs e : Text) (b : ℕ) (rest : Text) (t : Bool) → is_quote b ≡ t → Piece is_quote bs e (b ∷ rest) → MayBegin is_quote (b ∷ rest) → ElementGives (34 ∷ bs) (element_in_quotes (suc (length bs)) e (b ∷ rest))
 quote_cases bs e b rest true t m h =
     let closed : Piece is_quote bs e (34 ∷ rest) = subst (λ x. Piece is_quote bs e (x ∷ rest)) (is_byte b 34 t) m in
     rw t (after_close (34 ∷ bs) e rest (parted_at rest) (parts rest) (grammar.IsElement.in_quotes closed) (λ joined. faults.IsWrong.joined_to_quote closed joined))
 quote_cases bs e b rest false t m h = absurd (true_false (sym h ∙ t))
 
-quote_closes : (bs e rest : Text) → Piece is_quote bs e rest → MayBegin is_quote rest → ElementGives (34 ∷ bs) (in_quotes (suc (length bs)) e rest)
+quote_closes : (bs e rest : Text) → Piece is_quote bs e rest → MayBegin is_quote rest → ElementGives (34 ∷ bs) (element_in_quotes (suc (length bs)) e rest)
 quote_closes bs e [] m h = faults.IsWrong.open_quote m (inl refl)
 quote_closes bs e (b ∷ rest) m h = quote_cases bs e b rest (is_quote b) refl m h
 
-quotes_give : (bs : Text) (r : Read Text) → PieceGives is_quote bs r → ElementGives (34 ∷ bs) (r >>= (λ p. in_quotes (suc (length bs)) p.0 p.1))
+quotes_give : (bs : Text) (r : Read Text) → PieceGives is_quote bs r → ElementGives (34 ∷ bs) (r >>= (λ p. element_in_quotes (suc (length bs)) p.0 p.1))
 quotes_give bs (Ok p) (inl g) = quote_closes bs p.0 p.1 g.0 g.1
-quotes_give bs (Ok p) (inr g) = subst (λ r. ElementGives (34 ∷ bs) (in_quotes (suc (length bs)) p.0 r)) (sym g.3) (faults.IsWrong.open_quote g.1 (inr refl))
+quotes_give bs (Ok p) (inr g) = subst (λ r. ElementGives (34 ∷ bs) (element_in_quotes (suc (length bs)) p.0 r)) (sym g.3) (faults.IsWrong.open_quote g.1 (inr refl))
 quotes_give bs (Err f) g = subst (IsWrong (34 ∷ bs)) (sym g.4) (faults.IsWrong.bad_in_quotes g.2 g.3)
 
 -- Bare elements
@@ -123,7 +123,7 @@ element_begins b h k l = grind (arith, nat_tests)
 
 element_cases : (b : ℕ) (bs : Text) (t u : Bool) → (b == 123) ≡ t → (b == 34) ≡ u → not (is_space b) ≡ true → ElementGives (b ∷ bs) (element_at (b ∷ bs))
 unfolding element_at
-element_cases b bs true u t' u' h = rw t' (subst (λ x. ElementGives (x ∷ bs) (in_braces (suc (length bs)) (braced_at false 0 bs))) (sym (is_byte b 123 t')) (braces_give bs (braced_at false 0 bs) refl))
+element_cases b bs true u t' u' h = rw t' (subst (λ x. ElementGives (x ∷ bs) (element_in_braces (suc (length bs)) (braced_at false 0 bs))) (sym (is_byte b 123 t')) (braces_give bs (braced_at false 0 bs) refl))
 element_cases b bs false true t' u' h = rw (t', u') (subst (λ x. ElementGives (x ∷ bs) (quoted_at bs)) (sym (is_byte b 34 u')) (quotes_give bs (piece_of is_quote bs) (piece_of-gives is_quote quote_off bs)))
 element_cases b bs false false t' u' h = rw (t', u') (bare_gives (b ∷ bs) (piece_of is_space (b ∷ bs)) (element_begins b h t' u') (piece_of-gives is_space space_off (b ∷ bs)))
 
@@ -143,7 +143,7 @@ unfolding element_at
 element-bare [] h = absurd h
 element-bare (b ∷ bs) h = rw (begins_no_brace b h, begins_no_quote b h) refl
 
-element-brace : (bs : Text) → element_at (123 ∷ bs) ≡ in_braces (suc (length bs)) (braced_at false 0 bs)
+element-brace : (bs : Text) → element_at (123 ∷ bs) ≡ element_in_braces (suc (length bs)) (braced_at false 0 bs)
 unfolding element_at
 element-brace bs = refl
 
@@ -152,11 +152,11 @@ unfolding element_at
 element-quote bs = refl
 
 quoted-close : (bs e rest : Text) → Piece is_quote bs e (34 ∷ rest) → quoted_at bs ≡ parted e rest
-quoted-close bs e rest m = ap (λ r. r >>= (λ p. in_quotes (suc (length bs)) p.0 p.1)) (piece_of-end is_quote quote_off bs e (34 ∷ rest) m refl)
+quoted-close bs e rest m = ap (λ r. r >>= (λ p. element_in_quotes (suc (length bs)) p.0 p.1)) (piece_of-end is_quote quote_off bs e (34 ∷ rest) m refl)
 
 pub element_read : {bs e rest : Text} → IsElement bs e rest → MayBegin is_space rest → element_at bs ≡ Ok (e, rest)
 element_read (grammar.IsElement.in_braces {bs} {e} rest w is) h =
-    element-brace bs ∙ ap (in_braces (suc (length bs))) (ap (braced_at false 0) w ∙ found_close e rest is) ∙ parted-on e rest h
+    element-brace bs ∙ ap (element_in_braces (suc (length bs))) (ap (braced_at false 0) w ∙ found_close e rest is) ∙ parted-on e rest h
 element_read (grammar.IsElement.in_quotes {bs} {e} {rest} m) h = element-quote bs ∙ quoted-close bs e rest m ∙ parted-on e rest h
 element_read (grammar.IsElement.bare {bs} starts (grammar.Bare.parted {e} {rest} m k)) h = element-bare bs starts ∙ piece_of-end is_space space_off bs e rest m k
 element_read (grammar.IsElement.bare {bs} starts (grammar.Bare.backslash_last {e} m)) h = element-bare bs starts ∙ piece_of-backslash is_space space_off bs e m
@@ -166,16 +166,16 @@ never_closes bs none_closes None e = refl
 never_closes bs none_closes (Some p) e = let closed = close_sound bs false 0 p.0 p.1 e in absurd (none_closes p.0 p.1 closed.0 closed.1)
 
 quoted-open : (bs e rest : Text) → Piece is_quote bs e rest → IsLast rest → quoted_at bs ≡ Err (marks.OpenQuote (suc (length bs)))
-quoted-open bs e rest m (inl h) = ap (λ r. r >>= (λ p. in_quotes (suc (length bs)) p.0 p.1)) (piece_of-end is_quote quote_off bs e [] (subst (Piece is_quote bs e) h m) tt)
-quoted-open bs e rest m (inr h) = ap (λ r. r >>= (λ p. in_quotes (suc (length bs)) p.0 p.1)) (piece_of-backslash is_quote quote_off bs e (subst (Piece is_quote bs e) h m))
+quoted-open bs e rest m (inl h) = ap (λ r. r >>= (λ p. element_in_quotes (suc (length bs)) p.0 p.1)) (piece_of-end is_quote quote_off bs e [] (subst (Piece is_quote bs e) h m) tt)
+quoted-open bs e rest m (inr h) = ap (λ r. r >>= (λ p. element_in_quotes (suc (length bs)) p.0 p.1)) (piece_of-backslash is_quote quote_off bs e (subst (Piece is_quote bs e) h m))
 
 pub element_wrong : {bs : Text} {f : Fault} → IsWrong bs f → element_at bs ≡ Err f
-element_wrong (faults.IsWrong.open_brace {bs} none_closes) = element-brace bs ∙ ap (in_braces (suc (length bs))) (never_closes bs none_closes (braced_at false 0 bs) refl)
+element_wrong (faults.IsWrong.open_brace {bs} none_closes) = element-brace bs ∙ ap (element_in_braces (suc (length bs))) (never_closes bs none_closes (braced_at false 0 bs) refl)
 element_wrong (faults.IsWrong.joined_to_brace {bs} inside rest w is joined) =
-    element-brace bs ∙ ap (in_braces (suc (length bs))) (ap (braced_at false 0) w ∙ found_close inside rest is) ∙ parted-joined inside rest joined
+    element-brace bs ∙ ap (element_in_braces (suc (length bs))) (ap (braced_at false 0) w ∙ found_close inside rest is) ∙ parted-joined inside rest joined
 element_wrong (faults.IsWrong.open_quote {bs} {e} {rest} m last) = element-quote bs ∙ quoted-open bs e rest m last
 element_wrong (faults.IsWrong.joined_to_quote {bs} {e} {rest} m joined) = element-quote bs ∙ quoted-close bs e rest m ∙ parted-joined e rest joined
-element_wrong (faults.IsWrong.bad_in_quotes {bs} {e} {rest} m nothing) = element-quote bs ∙ ap (λ r. r >>= (λ p. in_quotes (suc (length bs)) p.0 p.1)) (piece_of-bad is_quote quote_off bs e rest m nothing)
+element_wrong (faults.IsWrong.bad_in_quotes {bs} {e} {rest} m nothing) = element-quote bs ∙ ap (λ r. r >>= (λ p. element_in_quotes (suc (length bs)) p.0 p.1)) (piece_of-bad is_quote quote_off bs e rest m nothing)
 element_wrong (faults.IsWrong.bad_in_bare {bs} {e} {rest} starts m nothing) = element-bare bs starts ∙ piece_of-bad is_space space_off bs e rest m nothing
 
 -- What stands in front of white space
@@ -200,7 +200,7 @@ wrong_starts (faults.IsWrong.bad_in_quotes m nothing) = refl
 wrong_starts (faults.IsWrong.bad_in_bare {bs} starts m nothing) = free_start bs starts
 
 -- What reading an element does at each mark
-pub at_brace : (bs inside : Text) → bs ≡ 123 ∷ inside → element_at bs ≡ in_braces (suc (length inside)) (braced_at false 0 inside)
+pub at_brace : (bs inside : Text) → bs ≡ 123 ∷ inside → element_at bs ≡ element_in_braces (suc (length inside)) (braced_at false 0 inside)
 at_brace bs inside e = ap element_at e ∙ element-brace inside
 
 pub at_quote : (bs inside : Text) → bs ≡ 34 ∷ inside → element_at bs ≡ quoted_at inside

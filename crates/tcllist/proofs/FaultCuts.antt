@@ -16,12 +16,12 @@ use Rattle.tcllist.proofs.Nothing.{nothing_more}
 use Rattle.tcllist.proofs.ReadLemmas.{no_list}
 
 -- an element in front of y is one whatever follows y
-record ElementCut (bs e : Text) (y : ℕ) (rest : Text) : Type 0 where
+pub record ElementCut (bs e : Text) (y : ℕ) (rest : Text) : Type 0 where
   pub taken : Text
   pub whole : bs ≡ taken ++ y ∷ rest
   pub again : (other : Text) → IsElement (taken ++ y ∷ other) e (y ∷ other)
 
-same_start : (p : ℕ → Bool) (taken bs : Text) (y : ℕ) (rest other : Text) → bs ≡ taken ++ y ∷ rest → DoesBegin p bs → DoesBegin p (taken ++ y ∷ other)
+pub same_start : (p : ℕ → Bool) (taken bs : Text) (y : ℕ) (rest other : Text) → bs ≡ taken ++ y ∷ rest → DoesBegin p bs → DoesBegin p (taken ++ y ∷ other)
 same_start p [] bs y rest other w h = subst (DoesBegin p) w h
 same_start p (z ∷ taken) bs y rest other w h = subst (DoesBegin p) w h
 
@@ -31,7 +31,7 @@ close_after e c rest = append_assoc e (c ∷ []) rest
 not_empty : (y : ℕ) (rest : Text) → [] ≡ y ∷ rest → ⊥
 not_empty y rest h = cc
 
-element_cut : {bs e tail : Text} → IsElement bs e tail → (y : ℕ) (rest : Text) → tail ≡ y ∷ rest → MayBegin is_space tail → ElementCut bs e y rest
+pub element_cut : {bs e tail : Text} → IsElement bs e tail → (y : ℕ) (rest : Text) → tail ≡ y ∷ rest → MayBegin is_space tail → ElementCut bs e y rest
 element_cut (grammar.IsElement.in_braces {bs} {e} tail w is) y rest t h = record {
   taken = 123 ∷ (e ++ 125 ∷ []);
   whole = ap (λ xs. 123 ∷ xs) (w ∙ ap (λ xs. e ++ 125 ∷ xs) t ∙ sym (close_after e 125 (y ∷ rest)));
@@ -150,8 +150,8 @@ up_to taken y rest more = ap (λ xs. xs ++ more) (take-append-add taken (y ∷ r
 
 pub no_further : (bs more : Text) (at : ℕ) (es : List Text) → IsListFault bs (JoinedToClose at) → IsList (take (at + 1) bs ++ more) es → ⊥
 no_further bs more at es h is =
-    let k = faulty_cut h.1.2 h.1.0 refl in
-    let place : at ≡ length k.taken = omega (arith, h.1.1, k.place, ap length k.whole, length-append k.taken (k.y ∷ k.rest)) in
+    let k = faulty_cut h.3 h.1 refl in
+    let place : at ≡ length k.taken = omega (arith, h.2, k.place, ap length k.whole, length-append k.taken (k.y ∷ k.rest)) in
     let front : take (at + 1) bs ++ more ≡ k.taken ++ k.y ∷ more = ap (λ n. take (n + 1) bs ++ more) place ∙ ap (λ xs. take (length k.taken + 1) xs ++ more) k.whole ∙ up_to k.taken k.y k.rest more in
     no_list (k.taken ++ k.y ∷ more) (k.again more).0 es (k.again more).1 (subst (λ xs. IsList xs es) front is)
 
@@ -190,7 +190,7 @@ behind_more spaces body e (z ∷ tail) more pass is h some k =
     in
     (k.0, subst (λ xs. IsFaulty xs k.0) (sym whole) (behind spaces (c.taken ++ z ∷ (tail ++ more)) pass (c.again (tail ++ more)) h k.1))
 
-some_text : {bs : Text} {f : Fault} → IsFaulty bs f → bs ≡ [] → ⊥
+pub some_text : {bs : Text} {f : Fault} → IsFaulty bs f → bs ≡ [] → ⊥
 some_text {bs} {f} h e = no_list [] f [] (subst (λ xs. IsFaulty xs f) e h) tt
 
 faulty_more : {bs : Text} {f : Fault} → IsFaulty bs f → (left : ℕ) → f ≡ marks.BadCharacter left → (more : Text) → StaysWrong IsFaulty (bs ++ more)
@@ -200,4 +200,4 @@ faulty_more (here spaces body pass wrong) left e more =
 faulty_more (behind spaces body {e = el} {rest} pass is h next) left e more = behind_more spaces body el rest more pass is h (some_text next) (faulty_more next left e more)
 
 pub no_more : (bs more : Text) (at : ℕ) (es : List Text) → IsListFault bs (BadCharacter at) → IsList (bs ++ more) es → ⊥
-no_more bs more at es h is = let k = faulty_more h.1.2 h.1.0 refl more in no_list (bs ++ more) k.0 es k.1 is
+no_more bs more at es h is = let k = faulty_more h.3 h.1 refl more in no_list (bs ++ more) k.0 es k.1 is

@@ -11,4 +11,5 @@ pub mod ListAnswers
 pub mod Cuts
 pub mod Nothing
 pub mod FaultCuts
+pub mod Beginnings
 pub mod RoundTrip

@@ -11,7 +11,7 @@ use Rattle.tcllist.specs.declared.read.End.{End}
 use Rattle.tcllist.specs.declared.read.End.TheVariants.{Space, Quote}
 use Rattle.tcllist.specs.ListGrammar as grammar
 use Rattle.tcllist.specs.ListGrammar.{Piece}
-use Rattle.tcllist.specs.ListReading.{mark_at, piece_at, piece_of}
+use Rattle.tcllist.specs.ListReading.{escaped_at, piece_at, piece_of}
 use Rattle.tcllist.specs.Ends.{ends_piece, is_plain_before}
 use Rattle.tcllist.proofs.Runs.{front_back, front_passes, back_fails, back_no_longer}
 use Rattle.tcllist.proofs.BackslashTaken.{taken_length}
@@ -95,9 +95,9 @@ piece-last end bs value rest run marked behind value' r m is len v s =
     on_rest end bs (value ++ run) (backslash ∷ []) (backslash ∷ []) [] here (λ n. piece-backslash (ends_piece end) (backslash_off end) n [])
     ∙ ap (λ t. Ok (t, [])) (sym v) ∙ ap (λ t. Ok (value', t)) (sym none)
 
-nothing_mark : (more : Text → Read Text) (rest : Text) → 0 < length rest → after_backslash rest ≡ None → mark_at more rest (after_backslash rest) ≡ Err (marks.BadCharacter (suc (length rest)))
+nothing_mark : (more : Text → Read Text) (rest : Text) → 0 < length rest → after_backslash rest ≡ None → escaped_at more rest (after_backslash rest) ≡ Err (marks.BadCharacter (suc (length rest)))
 nothing_mark more [] some h = absurd (omega arith)
-nothing_mark more (b ∷ rest) some h = ap (mark_at more (b ∷ rest)) h
+nothing_mark more (b ∷ rest) some h = ap (escaped_at more (b ∷ rest)) h
 
 pub piece-bad : (end : End) (bs value rest run marked behind : Text) (left : ℕ) → run ≡ front (is_plain_before end) rest → marked ≡ back (is_plain_before end) rest → marked ≡ backslash ∷ behind → 0 < length behind
     → after_backslash behind ≡ None → left ≡ length marked → PieceSoFar end bs value rest → piece_of (ends_piece end) bs ≡ Err (marks.BadCharacter left)
@@ -121,7 +121,7 @@ piece-more end bs value rest run marked behind v after value' r m is stands made
     turns = n;
     enough = omega (arith, taken_length behind v after stands);
     whole =
-        w ∙ ap (read_map (λ t. (value ++ run) ++ t)) (piece-backslash (ends_piece end) (backslash_off end) n behind ∙ ap (mark_at (piece_at (ends_piece end) n) behind) stands)
+        w ∙ ap (read_map (λ t. (value ++ run) ++ t)) (piece-backslash (ends_piece end) (backslash_off end) n behind ∙ ap (escaped_at (piece_at (ends_piece end) n) behind) stands)
         ∙ read_map-append (value ++ run) v (piece_at (ends_piece end) n after) ∙ ap (λ x. read_map (λ t. x ++ t) (piece_at (ends_piece end) n after)) (sym made);
   }
 

@@ -9,7 +9,7 @@ use Rattle.tclchars.specs.declared.fault.Fault.TheVariants as marks
 use Rattle.tcllist.specs.ListGrammar as grammar
 use Rattle.tcllist.specs.ListGrammar.{Piece}
 use Rattle.tcllist.specs.ListFaults.{StandsForNothing}
-use Rattle.tcllist.specs.ListReading.{mark_at, piece_on, piece_at, piece_of}
+use Rattle.tcllist.specs.ListReading.{escaped_at, piece_on, piece_at, piece_of}
 use Rattle.tcllist.proofs.Runs.{is_byte}
 use Rattle.tcllist.proofs.BackslashTaken.{taken_length}
 
@@ -57,7 +57,7 @@ module _ (ends : ℕ → Bool) (backslash_on : ends backslash ≡ false) where
   pub piece-none : (n : ℕ) → piece_at ends (suc n) [] ≡ Ok ([], [])
   piece-none n = piece-suc n []
 
-  pub piece-backslash : (n : ℕ) (bs : Text) → piece_at ends (suc n) (backslash ∷ bs) ≡ mark_at (piece_at ends n) bs (after_backslash bs)
+  pub piece-backslash : (n : ℕ) (bs : Text) → piece_at ends (suc n) (backslash ∷ bs) ≡ escaped_at (piece_at ends n) bs (after_backslash bs)
   piece-backslash n bs = piece-suc n (backslash ∷ bs) ∙ rw backslash_on refl
 
   -- a piece is read
@@ -77,7 +77,7 @@ module _ (ends : ℕ → Bool) (backslash_on : ends backslash ≡ false) where
       record {
         turns = more.turns;
         enough = more.enough;
-        whole = piece-backslash n bs ∙ ap (mark_at (piece_at ends n) bs) e ∙ ap (read_map (λ t. v ++ t)) more.whole ∙ read_map-append v ts (piece_at ends more.turns rest);
+        whole = piece-backslash n bs ∙ ap (escaped_at (piece_at ends n) bs) e ∙ ap (read_map (λ t. v ++ t)) more.whole ∙ read_map-append v ts (piece_at ends more.turns rest);
       }
 
   -- what is read is a piece
@@ -91,14 +91,14 @@ module _ (ends : ℕ → Bool) (backslash_on : ends backslash ≡ false) where
   gives_substituted bs v q e (Ok p) (inr g) = inr (v ++ g.0, grammar.Piece.substituted v q e g.1, ap (λ t. v ++ t) g.2 ∙ sym (append_assoc v g.0 (backslash ∷ [])), g.3)
   gives_substituted bs v q e (Err f) g = (v ++ g.0, g.1, grammar.Piece.substituted v q e g.2, g.3, g.4)
 
-  gives_mark : (more : Text → Read Text) (bs : Text) (found : Option (Text × Text)) → after_backslash bs ≡ found → ((q : Text) → length q ≤ length bs → PieceGives ends q (more q)) → PieceGives ends (backslash ∷ bs) (mark_at more bs found)
+  gives_mark : (more : Text → Read Text) (bs : Text) (found : Option (Text × Text)) → after_backslash bs ≡ found → ((q : Text) → length q ≤ length bs → PieceGives ends q (more q)) → PieceGives ends (backslash ∷ bs) (escaped_at more bs found)
   gives_mark more bs (Some s) e all = gives_substituted bs s.0 s.1 e (more s.1) (all s.1 (taken_length bs s.0 s.1 e))
   gives_mark more [] None e all = inr ([], grammar.Piece.nothing, refl, refl)
   gives_mark more (b ∷ bs) None e all = ([], b ∷ bs, grammar.Piece.nothing, e, refl)
 
   gives_cases : (more : Text → Read Text) (b : ℕ) (bs : Text) (t u : Bool) → ends b ≡ t → (b == backslash) ≡ u → ((q : Text) → length q ≤ length bs → PieceGives ends q (more q)) → PieceGives ends (b ∷ bs) (piece_on ends more (b ∷ bs))
   gives_cases more b bs true u t' u' all = rw t' (inl (grammar.Piece.nothing, t'))
-  gives_cases more b bs false true t' u' all = rw (t', u') (subst (λ x. PieceGives ends (x ∷ bs) (mark_at more bs (after_backslash bs))) (sym (is_byte b backslash u')) (gives_mark more bs (after_backslash bs) refl all))
+  gives_cases more b bs false true t' u' all = rw (t', u') (subst (λ x. PieceGives ends (x ∷ bs) (escaped_at more bs (after_backslash bs))) (sym (is_byte b backslash u')) (gives_mark more bs (after_backslash bs) refl all))
   gives_cases more b bs false false t' u' all = rw (t', u') (gives_plain b bs t' u' (more bs) (all bs (omega arith)))
 
   gives_on : (more : Text → Read Text) (bs : Text) → ((q : Text) → length q < length bs → PieceGives ends q (more q)) → PieceGives ends bs (piece_on ends more bs)

@@ -5,6 +5,7 @@ use Rattle.tclchars.specs.Bytes.{is_space, AllPass, MayBegin, DoesBegin}
 use Rattle.tclchars.specs.Runs.{Text, front, back}
 use Rattle.tclchars.specs.Reading.{◌>>=◌, Read, read_map, items_at, items_step}
 use Rattle.tclchars.specs.declared.fault.Fault.{Fault}
+use Rattle.tclchars.proofs.Results.{ok_same, err_same, ok_err}
 use Rattle.tcllist.specs.ListGrammar as grammar
 use Rattle.tcllist.specs.ListGrammar.{Piece, begins_element, IsElement, IsList}
 use Rattle.tcllist.specs.ListFaults.{IsFaulty, here, behind}
@@ -143,15 +144,6 @@ list_at-sound bs es h = subst (Gives bs) h (list_at-gives bs)
 
 pub list_at-faulty : (bs : Text) (f : Fault) → list_at bs ≡ Err f → IsFaulty bs f
 list_at-faulty bs f h = subst (Gives bs) h (list_at-gives bs)
-
-ok_same : {A B : Type 0} (x y : A) → (let left : Result A B = Ok x in left ≡ Ok y) → x ≡ y
-ok_same x y h = cc
-
-err_same : {A B : Type 0} (x y : B) → (let left : Result A B = Err x in left ≡ Err y) → x ≡ y
-err_same x y h = cc
-
-ok_err : {A B : Type 0} (x : A) (y : B) → (let left : Result A B = Ok x in left ≡ Err y) → ⊥
-ok_err x y h = cc
 
 pub one_list : (bs : Text) (es fs : List Text) → IsList bs es → IsList bs fs → es ≡ fs
 one_list bs es fs h k = ok_same es fs (sym (list_at-read bs es h) ∙ list_at-read bs fs k)

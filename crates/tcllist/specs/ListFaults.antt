@@ -1,14 +1,13 @@
 -- What is wrong with a text that is no list.
 use Rattle.std.specs.Prelude.{◌≡◌, ℕ, suc, ◌+◌, ◌<◌, ◌≤◌, [], ◌∷◌, ◌++◌, ◌⊎◌, length, not, None}
-use Rattle.tclchars.specs.Bytes.{backslash, is_space, AllPass, MayBegin, DoesBegin}
+use Rattle.tclchars.specs.Bytes.{backslash, is_space, AllPass, MayBegin, DoesBegin, quote, left_brace, right_brace}
 use Rattle.tclchars.specs.Runs.{Text}
 use Rattle.tclchars.specs.Backslash.{after_backslash}
 use Rattle.tclchars.specs.Braces.{Balanced}
-use Rattle.tclchars.specs.Faults.{max_bytes}
+use Rattle.tclchars.specs.Whole.{IsFaultOf}
 use Rattle.tclchars.specs.declared.fault.Fault.{Fault}
 use Rattle.tclchars.specs.declared.fault.Fault.TheVariants as marks
 use Rattle.tclchars.specs.declared.fault.TextFault.{TextFault}
-use Rattle.tclchars.specs.declared.fault.TextFault.TheVariants.{OutOfMemory, OpenBrace, OpenQuote, OpenBracket, JoinedToClose, TooDeep, BadCharacter, BadExpression, TooLong}
 use Rattle.tcllist.specs.ListGrammar.{Piece, is_quote, begins_element, IsElement}
 
 -- a first byte that is no white space
@@ -27,11 +26,11 @@ StandsForNothing (b ∷ bs) = after_backslash (b ∷ bs) ≡ None
 -- An element that is wrong stands in front of the text. A fault has the number of bytes from its mark on: from the mark that nothing
 -- closes, the character that is joined to what closes, or the backslash that stands for nothing
 pub data IsWrong : Text → Fault → Type 0 where
-  open_brace : {bs : Text} → ((inside rest : Text) → bs ≡ inside ++ 125 ∷ rest → Balanced inside → ⊥) → IsWrong (123 ∷ bs) (marks.OpenBrace (suc (length bs)))
-  joined_to_brace : {bs : Text} (inside rest : Text) → bs ≡ inside ++ 125 ∷ rest → Balanced inside → IsJoined rest → IsWrong (123 ∷ bs) (marks.JoinedToClose (length rest))
-  open_quote : {bs e rest : Text} → Piece is_quote bs e rest → IsLast rest → IsWrong (34 ∷ bs) (marks.OpenQuote (suc (length bs)))
-  joined_to_quote : {bs e rest : Text} → Piece is_quote bs e (34 ∷ rest) → IsJoined rest → IsWrong (34 ∷ bs) (marks.JoinedToClose (length rest))
-  bad_in_quotes : {bs e rest : Text} → Piece is_quote bs e (backslash ∷ rest) → StandsForNothing rest → IsWrong (34 ∷ bs) (marks.BadCharacter (suc (length rest)))
+  open_brace : {bs : Text} → ((inside rest : Text) → bs ≡ inside ++ right_brace ∷ rest → Balanced inside → ⊥) → IsWrong (left_brace ∷ bs) (marks.OpenBrace (suc (length bs)))
+  joined_to_brace : {bs : Text} (inside rest : Text) → bs ≡ inside ++ right_brace ∷ rest → Balanced inside → IsJoined rest → IsWrong (left_brace ∷ bs) (marks.JoinedToClose (length rest))
+  open_quote : {bs e rest : Text} → Piece is_quote bs e rest → IsLast rest → IsWrong (quote ∷ bs) (marks.OpenQuote (suc (length bs)))
+  joined_to_quote : {bs e rest : Text} → Piece is_quote bs e (quote ∷ rest) → IsJoined rest → IsWrong (quote ∷ bs) (marks.JoinedToClose (length rest))
+  bad_in_quotes : {bs e rest : Text} → Piece is_quote bs e (backslash ∷ rest) → StandsForNothing rest → IsWrong (quote ∷ bs) (marks.BadCharacter (suc (length rest)))
   bad_in_bare : {bs e rest : Text} → DoesBegin begins_element bs → Piece is_space bs e (backslash ∷ rest) → StandsForNothing rest → IsWrong bs (marks.BadCharacter (suc (length rest)))
 
 -- white space and elements, as in a list, and then an element that is wrong
@@ -39,18 +38,6 @@ pub data IsFaulty : Text → Fault → Type 0 where
   here : (spaces body : Text) {f : Fault} → AllPass is_space spaces → IsWrong body f → IsFaulty (spaces ++ body) f
   behind : (spaces body : Text) {e rest : Text} {f : Fault} → AllPass is_space spaces → IsElement body e rest → MayBegin is_space rest → IsFaulty rest f → IsFaulty (spaces ++ body) f
 
--- a fault with that many bytes from its mark on stands at that place of the text
-abbrev pub StandsAt : Text → (ℕ → Fault) → ℕ → Type 0
-StandsAt bs fault at = (length bs ≤ max_bytes) × ((left : ℕ) × (at + left ≡ length bs) × IsFaulty bs (fault left))
-
--- the fault is the text's: one past the limit is too long, whatever else is wrong
+-- what is wrong with a text: it is too long, or its fault
 abbrev pub IsListFault : Text → TextFault → Type 0
-IsListFault bs OutOfMemory = Unit {0}
-IsListFault bs (OpenBrace at) = StandsAt bs marks.OpenBrace at
-IsListFault bs (OpenQuote at) = StandsAt bs marks.OpenQuote at
-IsListFault bs (OpenBracket at) = ⊥
-IsListFault bs (JoinedToClose at) = StandsAt bs marks.JoinedToClose at
-IsListFault bs TooDeep = ⊥
-IsListFault bs (BadCharacter at) = StandsAt bs marks.BadCharacter at
-IsListFault bs (BadExpression at) = ⊥
-IsListFault bs TooLong = max_bytes < length bs
+IsListFault bs f = IsFaultOf IsFaulty bs f

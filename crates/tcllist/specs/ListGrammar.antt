@@ -1,6 +1,6 @@
 -- The grammar of lists: which texts are lists, with their elements (Tcl(n), list words as lindex(n) reads them), by cases on the elements.
 use Rattle.std.specs.Prelude.{◌≡◌, ℕ, List, [], ◌∷◌, ◌++◌, Bool, false, not, ◌||◌, ◌==◌, Some}
-use Rattle.tclchars.specs.Bytes.{backslash, is_space, AllPass, MayBegin, DoesBegin}
+use Rattle.tclchars.specs.Bytes.{backslash, is_space, AllPass, MayBegin, DoesBegin, quote, left_brace, right_brace}
 use Rattle.tclchars.specs.Runs.{Text}
 use Rattle.tclchars.specs.Backslash.{after_backslash}
 use Rattle.tclchars.specs.Braces.{Balanced}
@@ -13,7 +13,7 @@ pub data Piece (ends : ℕ → Bool) : Text → Text → Text → Type 0 where
   substituted : {bs ts rest : Text} (v r : Text) → after_backslash bs ≡ Some (v, r) → Piece ends r ts rest → Piece ends (backslash ∷ bs) (v ++ ts) rest
 
 abbrev pub is_quote : ℕ → Bool
-is_quote b = b == 34
+is_quote b = b == quote
 
 -- a bare element stands in front of the text, up to white space or the end. A backslash at the text's end is itself
 pub data Bare : Text → Text → Text → Type 0 where
@@ -22,12 +22,12 @@ pub data Bare : Text → Text → Text → Type 0 where
 
 -- what a bare element begins with
 abbrev pub begins_element : ℕ → Bool
-begins_element b = not (is_space b || b == 34 || b == 123)
+begins_element b = not (is_space b || b == quote || b == left_brace)
 
 -- an element stands in front of the text, with its value and what follows; in braces it is taken as it stands
 pub data IsElement : Text → Text → Text → Type 0 where
-  in_braces : {bs e : Text} (rest : Text) → bs ≡ e ++ 125 ∷ rest → Balanced e → IsElement (123 ∷ bs) e rest
-  in_quotes : {bs e rest : Text} → Piece is_quote bs e (34 ∷ rest) → IsElement (34 ∷ bs) e rest
+  in_braces : {bs e : Text} (rest : Text) → bs ≡ e ++ right_brace ∷ rest → Balanced e → IsElement (left_brace ∷ bs) e rest
+  in_quotes : {bs e rest : Text} → Piece is_quote bs e (quote ∷ rest) → IsElement (quote ∷ bs) e rest
   bare : {bs e rest : Text} → DoesBegin begins_element bs → Bare bs e rest → IsElement bs e rest
 
 -- white space, an element, and then white space or the end
@@ -45,3 +45,7 @@ pub record Elements (bs e : Text) (More : Text → Type 0) : Type 0 where
 abbrev pub IsList : Text → List Text → Type 0
 IsList bs [] = AllPass is_space bs
 IsList bs (e ∷ es) = Elements bs e (λ rest. IsList rest es)
+
+-- some list begins with the text
+abbrev pub BeginsList : Text → Type 0
+BeginsList bs = (more : Text) × (es : List Text) × IsList (bs ++ more) es

@@ -3,30 +3,29 @@ use Rattle.std.specs.Prelude.{◌≡◌, ℕ, zero, suc, List, [], ◌∷◌, �
 use Rattle.std.specs.declared.vec.Vec.{Vec}
 use Rattle.std.specs.declared.string.String.{String}
 use Rattle.std.specs.declared.alloc.Global.{Global}
-use Rattle.tclchars.specs.Bytes.{backslash, is_space}
+use Rattle.tclchars.specs.Bytes.{backslash, is_space, quote, left_brace}
 use Rattle.tclchars.specs.Runs.{Text, back}
 use Rattle.tclchars.specs.Backslash.{after_backslash}
 use Rattle.tclchars.specs.Braces.{braced_at}
-use Rattle.tclchars.specs.Faults.{max_bytes}
+use Rattle.tclchars.specs.Whole.{whole_of, Reads}
 use Rattle.tclchars.specs.Reading.{◌>>=◌, Read, read_map, items_at, placed}
 use Rattle.tclchars.specs.declared.fault.Fault.{Fault}
 use Rattle.tclchars.specs.declared.fault.Fault.TheVariants as marks
 use Rattle.tclchars.specs.declared.fault.TextFault.{TextFault}
-use Rattle.tclchars.specs.declared.fault.TextFault.TheVariants.{OutOfMemory, TooLong}
 use Rattle.tcllist.specs.ListGrammar.{is_quote}
 
 -- what a backslash, what it stands for, and what is read behind them give
-abbrev pub mark_at : (Text → Read Text) → Text → Option (Text × Text) → Read Text
-mark_at more bs (Some s) = read_map (λ t. s.0 ++ t) (more s.1)
-mark_at more [] None = Ok (backslash ∷ [], [])
-mark_at more (b ∷ bs) None = Err (marks.BadCharacter (suc (suc (length bs))))
+abbrev pub escaped_at : (Text → Read Text) → Text → Option (Text × Text) → Read Text
+escaped_at more bs (Some s) = read_map (λ t. s.0 ++ t) (more s.1)
+escaped_at more [] None = Ok (backslash ∷ [], [])
+escaped_at more (b ∷ bs) None = Err (marks.BadCharacter (suc (suc (length bs))))
 
 -- a piece up to what ends it, or to the text's end. The number bounds the turns: one more than the length is enough
 abbrev pub piece_on : (ℕ → Bool) → (Text → Read Text) → Text → Read Text
 piece_on ends more [] = Ok ([], [])
 piece_on ends more (b ∷ bs) =
     if ends b then Ok ([], b ∷ bs)
-    else if b == backslash then mark_at more bs (after_backslash bs)
+    else if b == backslash then escaped_at more bs (after_backslash bs)
     else read_map (λ t. b ∷ t) (more bs)
 
 unfoldable pub piece_at : (ℕ → Bool) → ℕ → Text → Read Text
@@ -45,23 +44,23 @@ abbrev pub parted : Text → Text → Read Text
 parted e rest = parted_at rest >>= (λ r. Ok (e, r))
 
 -- the element from behind its brace, where that is what closes it
-abbrev pub in_braces : ℕ → Option (Text × Text) → Read Text
-in_braces left None = Err (marks.OpenBrace left)
-in_braces left (Some p) = parted p.0 p.1
+abbrev pub element_in_braces : ℕ → Option (Text × Text) → Read Text
+element_in_braces left None = Err (marks.OpenBrace left)
+element_in_braces left (Some p) = parted p.0 p.1
 
 -- the element from behind its quote, where that is its piece and what follows it
-abbrev pub in_quotes : ℕ → Text → Text → Read Text
-in_quotes left e [] = Err (marks.OpenQuote left)
-in_quotes left e (b ∷ rest) = if b == 34 then parted e rest else Err (marks.OpenQuote left)
+abbrev pub element_in_quotes : ℕ → Text → Text → Read Text
+element_in_quotes left e [] = Err (marks.OpenQuote left)
+element_in_quotes left e (b ∷ rest) = if b == quote then parted e rest else Err (marks.OpenQuote left)
 
 abbrev pub quoted_at : Text → Read Text
-quoted_at bs = piece_of is_quote bs >>= (λ p. in_quotes (suc (length bs)) p.0 p.1)
+quoted_at bs = piece_of is_quote bs >>= (λ p. element_in_quotes (suc (length bs)) p.0 p.1)
 
 unfoldable pub element_at : Text → Read Text
 element_at [] = Ok ([], [])
 element_at (b ∷ bs) =
-    if b == 123 then in_braces (suc (length bs)) (braced_at false 0 bs)
-    else if b == 34 then quoted_at bs
+    if b == left_brace then element_in_braces (suc (length bs)) (braced_at false 0 bs)
+    else if b == quote then quoted_at bs
     else piece_of is_space (b ∷ bs)
 
 abbrev pub text_ends : Text → Bool
@@ -71,16 +70,10 @@ text_ends (b ∷ bs) = false
 unfoldable pub list_at : Text → Result (List Text) Fault
 list_at bs = items_at (back is_space) text_ends element_at (suc (length bs)) bs >>= (λ x. Ok x.0)
 
-abbrev pub placed_list : ℕ → Result (List Text) Fault → Result (List Text) TextFault
-placed_list len (Ok es) = Ok es
-placed_list len (Err f) = Err (placed len f)
-
--- the elements of a text, or its fault: a text past the limit is too long, whatever else is wrong
+-- the elements of a text, or its fault
 unfoldable pub list_of : Text → Result (List Text) TextFault
-list_of bs = if nat_lt max_bytes (length bs) then Err TooLong else placed_list (length bs) (list_at bs)
+list_of bs = whole_of list_at bs
 
 -- a call's result is these elements or that fault, unless memory ran out
 abbrev pub ReadsList : Result (Vec (String Global) Global) TextFault → Result (List Text) TextFault → Type 0
-ReadsList (Ok es) read = read ≡ Ok (map string_bytes es.items)
-ReadsList (Err OutOfMemory) read = Unit {0}
-ReadsList (Err e) read = read ≡ Err e
+ReadsList result read = Reads (λ (es : Vec (String Global) Global). map string_bytes es.items) result read

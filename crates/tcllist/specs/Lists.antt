@@ -1,7 +1,7 @@
 -- The text that stands for a list of texts.
 use Rattle.std.specs.Prelude.{ℕ, zero, suc, List, [], ◌∷◌, ◌++◌, Bool, false, not, ◌||◌, ◌&&◌, ◌==◌, if◌then◌else◌, Option, Some, None, flat_map}
 use Rattle.std.specs.List.{list_all}
-use Rattle.tclchars.specs.Bytes.{is_gap, is_special, is_plain, backslash, hash}
+use Rattle.tclchars.specs.Bytes.{is_gap, is_special, is_plain, backslash, hash, space, tab, newline, vertical_tab, form_feed, carriage_return, left_brace, right_brace}
 use Rattle.tclchars.specs.Runs.{Text}
 
 -- what has a meaning in a list or a script: white space, " $ ; [ ] { } \
@@ -26,7 +26,7 @@ closed_one zero = None
 closed_one (suc depth) = Some depth
 
 abbrev pub depth_after : ℕ → ℕ → Option ℕ
-depth_after depth b = if b == backslash then None else if b == 123 then Some (suc depth) else if b == 125 then closed_one depth else Some depth
+depth_after depth b = if b == backslash then None else if b == left_brace then Some (suc depth) else if b == right_brace then closed_one depth else Some depth
 
 abbrev pub goes_on : (ℕ → Bool) → Option ℕ → Bool
 goes_on more None = false
@@ -40,7 +40,9 @@ balances depth (b ∷ bs) = goes_on (λ d. balances d bs) (depth_after depth b)
 
 -- what stands behind a backslash for a marked byte: a letter for newline, tab, carriage return, vertical tab and form feed, else itself
 abbrev pub letter_of : ℕ → ℕ
-letter_of b = if b == 10 then 110 else if b == 9 then 116 else if b == 13 then 114 else if b == 11 then 118 else if b == 12 then 102 else b
+letter_of b =
+    if b == newline then 110 else if b == tab then 116 else if b == carriage_return then 114 else if b == vertical_tab then 118
+    else if b == form_feed then 102 else b
 
 abbrev pub escape : ℕ → Text
 escape b = if is_marked b then backslash ∷ (letter_of b ∷ []) else b ∷ []
@@ -50,7 +52,7 @@ escaped [] = []
 escaped (b ∷ bs) = if b == hash then backslash ∷ (hash ∷ flat_map escape bs) else flat_map escape (b ∷ bs)
 
 abbrev pub braced : Text → Text
-braced e = 123 ∷ (e ++ 125 ∷ [])
+braced e = left_brace ∷ (e ++ right_brace ∷ [])
 
 -- the text of an element
 abbrev pub element_text : Text → Text
@@ -59,7 +61,7 @@ element_text e = if is_bare e then e else if balances 0 e then braced e else esc
 -- the elements' texts, joined by one space
 abbrev pub list_rest : List Text → Text
 list_rest [] = []
-list_rest (e ∷ es) = 32 ∷ (element_text e ++ list_rest es)
+list_rest (e ∷ es) = space ∷ (element_text e ++ list_rest es)
 
 abbrev pub list_text : List Text → Text
 list_text [] = []

@@ -7,6 +7,9 @@ mod read;
 mod tests;
 mod write;
 
-pub use laws::{list_of_grammar, list_round_trip, no_list_begins_so, one_list, one_list_fault};
+pub use laws::{
+    before_list_fault, list_of_grammar, list_round_trip, no_list_begins_so, one_list,
+    one_list_fault,
+};
 pub use read::parse_list;
 pub use write::write_list;

@@ -6,13 +6,13 @@ ghost use Rattle.tclchars.specs.Reading.{Gives};
 ghost use Rattle.tclchars.specs.declared.fault.TextFault.TheVariants.{OutOfMemory};
 ghost use Rattle.tcllist.specs.ListGrammar.{IsList};
 ghost use Rattle.tcllist.specs.ListFaults.{IsListFault};
-ghost use Rattle.tcllist.specs.ListReading.{piece_of, parted_at, in_braces, quoted_at, element_at, list_at, list_of, ReadsList};
+ghost use Rattle.tcllist.specs.ListReading.{piece_of, parted_at, element_in_braces, quoted_at, element_at, list_at, list_of, ReadsList};
 ghost use Rattle.tcllist.specs.declared.read.End.TheVariants.{Quote};
 ghost use Rattle.tcllist.specs.Ends.{ends_piece, is_plain_before};
 
 use std::alloc::Global;
 use tclchars::{
-    Class, Fault, ReadError, TextFault, after_mark, begins_class, place, read_backslash,
+    Class, Fault, MAX_BYTES, ReadError, TextFault, after_mark, begins_class, place, read_backslash,
     split_close, split_front,
 };
 
@@ -39,7 +39,15 @@ pub fn parse_list(alloc: Global, text: &str) -> Result<Vec<String>, TextFault>
     // The result is the elements or the fault that the definition computes, unless memory runs out.
     ensures read { ReadsList result (list_of text.now) }
 {
-    if text.len() > 1_048_576 {
+    read_whole(alloc, text)
+}
+
+// The elements of a text within the limit, or its fault.
+#[tactic(auto, unfolding(crate::specs::ListReading::list_of))]
+fn read_whole(alloc: Global, text: &str) -> Result<Vec<String>, TextFault>
+    ensures { ReadsList result (list_of text.now) }
+{
+    if text.len() > MAX_BYTES {
         return Err(TextFault::TooLong);
     }
     match read_elements(alloc, text) {
@@ -80,7 +88,8 @@ fn read_element(alloc: Global, text: &str) -> Result<(String, &str), ReadError>
 
 // An element in braces, from behind its brace.
 fn read_braced(alloc: Global, text: &str) -> Result<(String, &str), ReadError>
-    ensures { Gives (λ x. (string_bytes x.0, x.1.now)) result (in_braces (suc (length text.now)) (braced_at false 0 text.now)) }
+    ensures { Gives (λ x. (string_bytes x.0, x.1.now)) result
+        (element_in_braces (suc (length text.now)) (braced_at false 0 text.now)) }
 {
     let Some((inside, rest)) = split_close(text) else {
         return Err(ReadError::Fault(Fault::OpenBrace(text.len() + 1)));

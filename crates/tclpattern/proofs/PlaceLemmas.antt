@@ -1,18 +1,15 @@
 -- Stars that a match comes to.
-use Rattle.std.proofs.Common.{◌≡◌, ◌↔◌, ℕ, suc, List, [], ◌∷◌, length, Bool, true, false, ◌==◌, IsTrue, refl, sym, ap, subst, ◌∙◌, arith}
+use Rattle.std.proofs.Common.{◌≡◌, ◌≢◌, ◌↔◌, ℕ, suc, List, [], ◌∷◌, length, Bool, true, false, ◌==◌, IsTrue, refl, sym, ap, subst, ◌∙◌, arith}
 use Rattle.std.specs.Prelude.{encode_utf8_all}
 use Rattle.std.specs.Str.{chars, IsUtf8}
 use Rattle.std.proofs.lemmas.Str.{chars-nil, encodes-chars}
 use Rattle.std.proofs.lemmas.Bool.Decides.{nat_tests}
-use Rattle.tclpattern.specs.Patterns.{IsMatch}
-use Rattle.tclpattern.specs.Tails.{GoesOnAs}
+use Rattle.tclpattern.specs.Patterns.{star, IsMatch}
+use Rattle.tclpattern.specs.Search.Steps as steps
+use Rattle.tclpattern.specs.Search.Steps.{OneStep, StepsOnly, StepsNowhere, Leads}
 use Rattle.tclpattern.proofs.PatternLemmas.{pattern_ends}
-
-pub then_iff : {A B C : Type 0} → (A ↔ B) → (B ↔ C) → (A ↔ C)
-then_iff p q = (λ a. q.0 (p.0 a), λ c. p.1 (q.1 c))
-
-pub same_iff : {A : Type 0} → (A ↔ A)
-same_iff = (λ a. a, λ a. a)
+use Rattle.tclpattern.proofs.StepLemmas.{steps_go, match_steps}
+use Rattle.tclpattern.proofs.TakeLemmas.{not_so}
 
 -- a text without characters is empty
 chars_empty : (bs : List ℕ) → IsUtf8 bs → chars bs ≡ [] → bs ≡ []
@@ -38,7 +35,24 @@ run-ends pattern text goal t e u none same =
     (λ h. same.0 (here.1 (left.0 h)), λ h. left.1 (here.0 (same.1 h)))
 
 -- a character of the pattern, and one of the text
-pub run-more : (ps cs : List ℕ) (p : ℕ) (ps' : List ℕ) (c : ℕ) (cs' rest : List ℕ) (goal : Type 0) → ps ≡ p ∷ ps' → cs ≡ c ∷ cs' → GoesOnAs (p ∷ ps') c rest → IsMatch ps cs ↔ goal → IsMatch rest cs' ↔ goal
-run-more ps cs p ps' c cs' rest goal e k goes same =
+pub run-more : (ps cs : List ℕ) (p : ℕ) (ps' : List ℕ) (c : ℕ) (cs' rest : List ℕ) (goal : Type 0) → ps ≡ p ∷ ps' → cs ≡ c ∷ cs' → p ≢ star → StepsOnly p ps' c rest → IsMatch ps cs ↔ goal → IsMatch rest cs' ↔ goal
+run-more ps cs p ps' c cs' rest goal e k n only same =
     let here : IsMatch (p ∷ ps') (c ∷ cs') ↔ goal = subst (λ x. IsMatch (p ∷ ps') x ↔ goal) k (subst (λ x. IsMatch x cs ↔ goal) e same) in
-    (λ m. here.0 ((goes cs').1 m), λ g. (goes cs').0 (here.1 g))
+    let goes = steps_go p c ps' rest n only cs' in
+    (λ m. here.0 (goes.1 m), λ g. goes.0 (here.1 g))
+
+pub leads-more : (ps cs : List ℕ) (p : ℕ) (ps' : List ℕ) (c : ℕ) (cs' rest whole text : List ℕ) → ps ≡ p ∷ ps' → cs ≡ c ∷ cs' → OneStep p ps' c rest → ((qs ds : List ℕ) → Leads ps cs qs ds → Leads whole text qs ds)
+    → (qs ds : List ℕ) → Leads rest cs' qs ds → Leads whole text qs ds
+leads-more ps cs p ps' c cs' rest whole text e k one same qs ds l =
+    same qs ds (subst (λ x. Leads x cs qs ds) (sym e) (subst (λ x. Leads (p ∷ ps') x qs ds) (sym k) (steps.Leads.step rest one l)))
+
+pub leads-star : (ps cs : List ℕ) (p : ℕ) (ps' whole text : List ℕ) → ps ≡ p ∷ ps' → p ≡ star → ((qs ds : List ℕ) → Leads ps cs qs ds → Leads whole text qs ds) → Leads whole text ps' cs
+leads-star ps cs p ps' whole text e k same =
+    same ps' cs (subst (λ x. Leads x cs ps' cs) (sym e) (subst (λ x. Leads (x ∷ ps') cs ps' cs) (sym k) steps.Leads.at_star))
+
+pub run-none : (ps cs : List ℕ) (p : ℕ) (ps' : List ℕ) (c : ℕ) (cs' : List ℕ) (goal : Type 0) → ps ≡ p ∷ ps' → cs ≡ c ∷ cs' → p ≢ star → StepsNowhere p ps' c → IsMatch ps cs ↔ goal → IsTrue false ↔ goal
+run-none ps cs p ps' c cs' goal e k n nowhere same = not_so (λ g.
+    (let s = match_steps p c ps' cs' n (subst (λ x. IsMatch (p ∷ ps') x) k (subst (λ x. IsMatch x cs) e (same.1 g))) in nowhere s.0 s.1.0))
+
+pub chars_none : (bs : List ℕ) (t : Bool) → t ≡ true → t ≡ (length bs == 0) → chars bs ≡ []
+chars_none bs t h e = ap chars (length_empty bs (sym e ∙ h)) ∙ chars-nil

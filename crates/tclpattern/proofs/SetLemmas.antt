@@ -1,11 +1,12 @@
 -- Sets: item by item.
-use Rattle.std.proofs.Common.{◌≡◌, ◌↔◌, ℕ, List, [], ◌∷◌, ◌++◌, Bool, true, false, not, ◌==◌, Option, Some, None, refl, sym, ap, subst, ◌∙◌, arith, ◌⊎◌, inl, inr, append_assoc}
+use Rattle.std.proofs.Common.{◌≡◌, ◌↔◌, ℕ, List, [], ◌∷◌, ◌++◌, Bool, true, false, not, ◌==◌, Option, Some, None, refl, sym, ap, subst, ◌∙◌, arith, IsTrue, ◌⊎◌, inl, inr, append_assoc}
 use Rattle.std.specs.Prelude.{MatchOption, MatchBool}
 use Rattle.std.proofs.lemmas.Bool.Decides.{nat_tests}
 use Rattle.tclpattern.specs.Patterns as pattern
-use Rattle.tclpattern.specs.Patterns.{dash, close_bracket, is_between, no_dash, behind_close, HoldsIn}
-use Rattle.tclpattern.specs.Items.{Item, range_at, item_from, item_at}
-use Rattle.tclpattern.specs.Tails.{IsTail, HoldsNowhere, HoldsOnly}
+use Rattle.tclpattern.specs.Patterns.{dash, close_bracket, is_between, no_dash, behind_close, HoldsIn, IsMatch}
+use Rattle.tclpattern.specs.Search.Items.{Item, range_at, item_from, item_at}
+use Rattle.tclpattern.specs.Search.Tails.{IsTail, HoldsOnly, SetMatches}
+use Rattle.tclpattern.specs.Search.Windows.{first_of, behind_first}
 
 abbrev pub item : ℕ → ℕ → List ℕ → Item
 item low high rest = record { low = low; high = high; rest = rest }
@@ -100,9 +101,6 @@ holds_later c ps rest i (inr h) k m = subst (λ xs. HoldsIn c xs rest) (sym h.0)
 abbrev pub HoldsAs : ℕ → List ℕ → List ℕ → Type 0
 HoldsAs c xs ys = (rest : List ℕ) → HoldsIn c xs rest ↔ HoldsIn c ys rest
 
-pub holds_as-itself : (c : ℕ) (xs : List ℕ) → HoldsAs c xs xs
-holds_as-itself c xs = λ rest. (λ h. h, λ h. h)
-
 first_later : (c : ℕ) (rest : List ℕ) (i : Item) → is_between i.low i.high c ≡ false → ItemHolds c rest i → HoldsIn c i.rest rest
 first_later c rest i k h = rw k at h
 
@@ -123,9 +121,6 @@ holds_as-here c set xs rest i e k is same = (
   (same rest).0 (subst (HoldsIn c xs) (sym is) (holds_here c xs i (item_is xs i e) k)),
   λ other h. first_here c other i k (of_first c xs other i e ((same other).1 h)) ∙ sym is,
 )
-
-pub holds_as-none : (c : ℕ) (set xs : List ℕ) → item_at xs ≡ None → HoldsAs c xs set → HoldsNowhere c set
-holds_as-none c set xs e same = λ rest h. subst (FirstHolds c rest) e (holds_first ((same rest).1 h))
 
 -- Tails
 pub tail-itself : (xs : List ℕ) → IsTail xs xs
@@ -172,3 +167,56 @@ holds_tail (pattern.HoldsIn.in_range {low} {high} {ps} h k) =
     tail-under low (dash ∷ (high ∷ ps)) (behind_close ps) (tail-under dash (high ∷ ps) (behind_close ps) (tail-under high ps (behind_close ps) (close_tail ps)))
 holds_tail (pattern.HoldsIn.past_item {b} {ps} {rest} h k l m) = tail-under b ps rest (holds_tail m)
 holds_tail (pattern.HoldsIn.past_range {low} {high} {ps} {rest} h k m) = tail-under low (dash ∷ (high ∷ ps)) rest (tail-under dash (high ∷ ps) rest (tail-under high ps rest (holds_tail m)))
+
+-- A set of which what follows it matches
+pub set_here : (c : ℕ) (set cs : List ℕ) (i : Item) → item_at set ≡ Some i → is_between i.low i.high c ≡ true → IsMatch (behind_close i.rest) cs ↔ SetMatches c set cs
+set_here c set cs i e b = (
+  λ m. (behind_close i.rest, holds_here c set i (item_is set i e) b, m),
+  λ h. subst (λ xs. IsMatch xs cs) (first_here c h.0 i b (of_first c set h.0 i e h.1)) h.2,
+)
+
+pub set_past : (c : ℕ) (set cs : List ℕ) (i : Item) → item_at set ≡ Some i → is_between i.low i.high c ≡ false → SetMatches c i.rest cs ↔ SetMatches c set cs
+set_past c set cs i e b = (
+  λ h. (h.0, holds_later c set h.0 i (item_is set i e) b h.1, h.2),
+  λ h. (h.0, first_later c h.0 i b (of_first c set h.0 i e h.1), h.2),
+)
+
+pub set_ends : (c : ℕ) (set cs : List ℕ) → item_at set ≡ None → IsTrue false ↔ SetMatches c set cs
+set_ends c set cs e = (λ h. absurd (never h), λ h. absurd (subst (FirstHolds c h.0) e (holds_first h.1))) where
+  never : false ≡ true → ⊥
+  never h = cc
+
+pub item_at-close : (p : ℕ) (xs : List ℕ) → p ≡ close_bracket → item_at (p ∷ xs) ≡ None
+item_at-close p xs e = subst (λ x. item_at (x ∷ xs) ≡ None) (sym e) refl
+
+dash_first : (d : ℕ) → Some d ≡ Some dash → d ≡ dash
+dash_first d e = cc
+
+not_dash : (d : ℕ) → (Some d ≡ Some dash → ⊥) → (d == dash) ≡ false
+not_dash d h = other d (λ e. h (ap (λ x. Some x) e)) where
+  other : (d : ℕ) → (d ≡ dash → ⊥) → (d == dash) ≡ false
+  other d h = grind (arith, nat_tests)
+
+pub item_at-one : (p : ℕ) (xs : List ℕ) → (p ≡ close_bracket → ⊥) → (first_of xs ≡ Some dash → ⊥) → item_at (p ∷ xs) ≡ Some (item p p xs)
+item_at-one p [] n m = item-one p [] (no_close p n) refl
+item_at-one p (d ∷ xs) n m = item-one p (d ∷ xs) (no_close p n) (ap not (not_dash d m))
+
+pub item_at-range : (p high : ℕ) (xs : List ℕ) → (p ≡ close_bracket → ⊥) → first_of xs ≡ Some dash → first_of (behind_first xs) ≡ Some high → item_at (p ∷ xs) ≡ Some (item p high (behind_first (behind_first xs)))
+item_at-range p high [] n e k = absurd (nothing e) where
+  nothing : None ≡ Some dash → ⊥
+  nothing e = cc
+item_at-range p high (d ∷ []) n e k = absurd (nothing k) where
+  nothing : None ≡ Some high → ⊥
+  nothing e = cc
+item_at-range p high (d ∷ (h ∷ xs)) n e k =
+    let same : h ≡ high = cc in
+    ap (λ x. item_at (p ∷ (x ∷ (h ∷ xs)))) (dash_first d e) ∙ item-range p h xs (no_close p n) ∙ ap (λ x. Some (item p x xs)) same
+
+pub item_at-open : (p : ℕ) (xs : List ℕ) → (p ≡ close_bracket → ⊥) → first_of xs ≡ Some dash → first_of (behind_first xs) ≡ None → item_at (p ∷ xs) ≡ None
+item_at-open p [] n e k = absurd (nothing e) where
+  nothing : None ≡ Some dash → ⊥
+  nothing e = cc
+item_at-open p (d ∷ []) n e k = ap (λ x. item_at (p ∷ (x ∷ []))) (dash_first d e) ∙ rw (no_close p n) refl
+item_at-open p (d ∷ (h ∷ xs)) n e k = absurd (nothing k) where
+  nothing : Some h ≡ None → ⊥
+  nothing e = cc

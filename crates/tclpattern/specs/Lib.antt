@@ -1,6 +1,4 @@
+-- for whoever calls: which texts match a pattern
 pub mod Patterns
-pub mod Items
-pub mod View
-pub mod Tails
-pub mod Places
-pub mod Hops
+-- for this crate's own contracts alone: how `glob_match` looks for a match
+pub mod Search

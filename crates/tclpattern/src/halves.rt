@@ -1,173 +1,134 @@
-ghost use Rattle.std.specs.Prelude.{◌≡◌, ◌↔◌, ◌≤◌, ◌-◌, ◌/◌, ℕ, List, length, false, IsTrue};
+//! The search for a match without a table.
+ghost use Rattle.std.specs.Prelude.{◌≡◌, ◌≢◌, ◌↔◌, [], ◌∷◌, ◌≤◌, length, take, drop, IsTrue};
 ghost use Rattle.std.specs.Str.{chars};
-ghost use Rattle.tclpattern.specs.Places.{StarMatches};
-ghost use Rattle.tclpattern.specs.Tails.{IsTail};
-ghost use Rattle.tclpattern.specs.Hops.{Hop, IsDirect, IsLast, Reaches, IsText, LeadsTo, ReachesBy, MatchesBy};
+ghost use Rattle.tclpattern.specs.Patterns.{star, IsMatch};
+ghost use Rattle.tclpattern.specs.Search.Steps.{Run, RunsBy};
 
-use crate::place::{Outcome, Place, read_to_star};
-use crate::reading::split_char;
+use crate::reading::{behind_one, split_char};
 
-/// Whether the pattern matches from that star on. It keeps no stars, and looks instead for one in the middle of the way, again
-/// and again: the stack is small for every pattern, but the time grows fast with the number of stars.
-pub(crate) fn matches(first: Place<'_>) -> bool
-    requires { IsText first }
-    ensures { IsTrue result ↔ StarMatches first.entry }
+/// Whether the pattern behind a star matches. It looks for what of the pattern is left in the middle of the text, and
+/// so again for each half: the stack is small for every text, but the time grows fast with the lengths.
+pub(crate) fn matches(pattern: &str, text: &str) -> bool
+    ensures { IsTrue result ↔ IsMatch (star ∷ chars pattern.now) (chars text.now) }
 {
-    let mut pattern = first.pattern;
+    let mut rest = text;
     loop {
-        if matches_by(first, pattern) {
+        if runs(pattern, rest, rest.len(), "") {
             return true;
         }
-        match split_char(pattern) {
+        match split_char(rest) {
             None => return false,
-            Some((_, rest)) => pattern = rest,
+            Some((_, after)) => rest = after,
         }
     }
 }
 
-// Whether it matches by way of a last star with that pattern behind it.
-fn matches_by(first: Place<'_>, pattern: &str) -> bool
-    requires { IsText first }
-    ensures { IsTrue result ↔ MatchesBy first.entry (chars pattern.now) }
+// Whether one pattern comes to the other by so many characters of the text, or by all where there are fewer.
+#[cycle(halves)]
+fn runs(from: &str, text: &str, count: usize, to: &str) -> bool
+    ensures { IsTrue result ↔ Run (chars from.now) (take count (chars text.now)) (chars to.now) }
 {
-    let mut text = first.text;
+    if count < 2 {
+        return runs_short(from, text, count, to);
+    }
+    let mut middle = from;
     loop {
-        if matches_through(first, Place { pattern, text }) {
+        if runs_by(from, text, middle, count, to) {
             return true;
         }
-        match split_char(text) {
+        match split_char(middle) {
             None => return false,
-            Some((_, rest)) => text = rest,
+            Some((_, rest)) => middle = rest,
         }
     }
 }
 
-fn matches_through(first: Place<'_>, last: Place<'_>) -> bool
-    requires first { IsText first }
-    requires last { IsText last }
-    ensures { IsTrue result ↔ (Reaches (length first.entry.pattern.now) first.entry last.entry × IsLast (chars last.entry.pattern.now) (chars last.entry.text.now)) }
+// The same with that pattern left behind half of the characters.
+#[cycle(halves)]
+fn runs_by(from: &str, text: &str, middle: &str, count: usize, to: &str) -> bool
+    requires { 2 ≤ count }
+    ensures { IsTrue result ↔ RunsBy (chars from.now) (chars text.now) (chars middle.now) count (chars to.now) }
 {
-    reaches(first, last, first.pattern.len()) && is_last(last)
+    runs(from, text, count / 2, middle)
+        && runs(middle, skip(text, count / 2), count - count / 2, to)
 }
 
-// Whether one star leads to another by way of so many at most.
-#[cycle(ways)]
-fn reaches(from: Place<'_>, to: Place<'_>, hops: usize) -> bool
-    requires from { IsText from }
-    requires to { IsText to }
-    ensures { IsTrue result ↔ Reaches hops from.entry to.entry }
+// The text behind so many characters, or its end.
+fn skip(text: &str, count: usize) -> &str
+    ensures { chars result.now ≡ drop count (chars text.now) }
 {
-    if hops < 2 {
-        return is_same(from, to) || hops == 1 && hop(from, to);
+    let mut rest = text;
+    let mut left = count;
+    while left > 0 {
+        let Some((_, after)) = split_char(rest) else {
+            return rest;
+        };
+        rest = after;
+        left -= 1;
     }
-    let mut pattern = from.pattern;
-    loop {
-        if reaches_by(from, pattern, to, hops) {
+    rest
+}
+
+// The same as `runs` for one character at most.
+fn runs_short(from: &str, text: &str, count: usize, to: &str) -> bool
+    requires { count ≤ 1 }
+    ensures { IsTrue result ↔ Run (chars from.now) (take count (chars text.now)) (chars to.now) }
+{
+    if count == 0 {
+        return runs_none(from, to);
+    }
+    match split_char(text) {
+        Some((c, _)) => runs_one(from, c, to),
+        None => runs_none(from, to),
+    }
+}
+
+// Whether one pattern comes to the other by that character.
+fn runs_one(from: &str, c: char, to: &str) -> bool
+    ensures { IsTrue result ↔ Run (chars from.now) (c ∷ []) (chars to.now) }
+{
+    let mut pattern = from;
+    while let Some((first, rest)) = split_char(pattern) {
+        if first != '*' {
+            return steps_to(first, rest, c, to);
+        }
+        if runs_none(pattern, to) {
             return true;
         }
-        match split_char(pattern) {
-            None => return false,
-            Some((_, rest)) => pattern = rest,
-        }
+        pattern = rest;
+    }
+    false
+}
+
+fn steps_to(first: char, rest: &str, c: char, to: &str) -> bool
+    requires { first ≢ star }
+    ensures { IsTrue result ↔ Run (first ∷ chars rest.now) (c ∷ []) (chars to.now) }
+{
+    match behind_one(first, rest, c) {
+        Some(more) => runs_none(more, to),
+        None => false,
     }
 }
 
-// The same by way of a star in the middle with that pattern behind it.
-#[cycle(ways)]
-fn reaches_by(from: Place<'_>, pattern: &str, to: Place<'_>, hops: usize) -> bool
-    requires from { IsText from }
-    requires to { IsText to }
-    requires many { 2 ≤ hops }
-    ensures { IsTrue result ↔ ReachesBy hops from.entry (chars pattern.now) to.entry }
+// Whether the one pattern is the other, with nothing but stars in front of it.
+fn runs_none(from: &str, to: &str) -> bool
+    ensures { IsTrue result ↔ Run (chars from.now) [] (chars to.now) }
 {
-    let mut text = from.text;
-    loop {
-        if reaches_through(from, Place { pattern, text }, to, hops) {
-            return true;
+    let mut pattern = from;
+    while !is_same(pattern, to) {
+        let Some((first, rest)) = split_char(pattern) else {
+            return false;
+        };
+        if first != '*' {
+            return false;
         }
-        match split_char(text) {
-            None => return false,
-            Some((_, rest)) => text = rest,
-        }
+        pattern = rest;
     }
+    true
 }
 
-// The same by way of that star in the middle.
-#[cycle(ways)]
-fn reaches_through(from: Place<'_>, middle: Place<'_>, to: Place<'_>, hops: usize) -> bool
-    requires from { IsText from }
-    requires middle { IsText middle }
-    requires to { IsText to }
-    requires many { 2 ≤ hops }
-    ensures { IsTrue result ↔ (Reaches (hops - hops / 2) from.entry middle.entry × Reaches (hops / 2) middle.entry to.entry) }
-{
-    reaches(from, middle, hops - hops / 2) && reaches(middle, to, hops / 2)
-}
-
-fn is_same_text(a: &str, b: &str) -> bool
+fn is_same(a: &str, b: &str) -> bool
     ensures { IsTrue result ↔ (chars a.now ≡ chars b.now) }
 {
     a == b
-}
-
-fn is_same(a: Place<'_>, b: Place<'_>) -> bool
-    requires a { IsText a }
-    requires b { IsText b }
-    ensures { IsTrue result ↔ ((chars a.entry.pattern.now ≡ chars b.entry.pattern.now) × (chars a.entry.text.now ≡ chars b.entry.text.now)) }
-{
-    is_same_text(a.pattern, b.pattern) && is_same_text(a.text, b.text)
-}
-
-// Whether a star leads to another one with none between them.
-fn hop(from: Place<'_>, to: Place<'_>) -> bool
-    requires from { IsText from }
-    requires to { IsText to }
-    ensures { IsTrue result ↔ Hop (chars from.entry.pattern.now) (chars from.entry.text.now) (chars to.entry.pattern.now) (chars to.entry.text.now) }
-{
-    let mut text = from.text;
-    loop {
-        if leads_to(from.pattern, text, to) {
-            return true;
-        }
-        match split_char(text) {
-            None => return false,
-            Some((_, rest)) => text = rest,
-        }
-    }
-}
-
-fn leads_to(pattern: &str, text: &str, to: Place<'_>) -> bool
-    requires { IsText to }
-    ensures { IsTrue result ↔ LeadsTo (chars pattern.now) (chars text.now) to.entry }
-{
-    match read_to_star(pattern, text) {
-        Outcome::Ended(_) => false,
-        Outcome::Star(place) => is_same(place, to),
-    }
-}
-
-// Whether the pattern matches behind a star without another one.
-fn is_last(place: Place<'_>) -> bool
-    requires { IsText place }
-    ensures { IsTrue result ↔ IsLast (chars place.entry.pattern.now) (chars place.entry.text.now) }
-{
-    let mut text = place.text;
-    loop {
-        if is_direct(place.pattern, text) {
-            return true;
-        }
-        match split_char(text) {
-            None => return false,
-            Some((_, rest)) => text = rest,
-        }
-    }
-}
-
-fn is_direct(pattern: &str, text: &str) -> bool
-    ensures { IsTrue result ↔ IsDirect (chars pattern.now) (chars text.now) }
-{
-    match read_to_star(pattern, text) {
-        Outcome::Ended(matches) => matches,
-        Outcome::Star(_) => false,
-    }
 }

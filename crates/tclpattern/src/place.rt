@@ -1,13 +1,12 @@
-ghost use Rattle.std.specs.Prelude.{◌≡◌, ◌≤◌, ◌<◌, ◌↔◌, length};
+ghost use Rattle.std.specs.Prelude.{◌≡◌, ◌+◌, ◌≤◌, ◌<◌, ◌↔◌, length};
 ghost use Rattle.std.specs.Str.{chars};
 ghost use Rattle.tclpattern.specs.Patterns.{IsMatch};
-ghost use Rattle.tclpattern.specs.Places.{OutcomeMatches, IsOutcomeIn, OutcomeIsBelow};
-ghost use Rattle.tclpattern.specs.Hops.{LeadsAs};
+ghost use Rattle.tclpattern.specs.Search.Places.{OutcomeMatches, OutcomeIsText, LeadsAs, OutcomeIsBelow};
 
 use crate::reading::{behind_one, split_char};
 
 /// A star, by what of the pattern stands behind it, and what of the text it and the pattern behind it have to match.
-#[derive(Clone, Copy, Default)]
+#[derive(Clone, Copy)]
 pub(crate) struct Place<'a> {
     pub(crate) pattern: &'a str,
     pub(crate) text: &'a str,
@@ -25,9 +24,9 @@ pub(crate) enum Outcome<'a> {
 /// Reads a pattern and a text side by side up to the pattern's next star.
 pub(crate) fn read_to_star<'a>(pattern: &'a str, text: &'a str) -> Outcome<'a>
     ensures same { OutcomeMatches result ↔ IsMatch (chars pattern.now) (chars text.now) }
-    ensures inside { IsOutcomeIn (chars pattern.now) (chars text.now) result }
     ensures leads { LeadsAs (chars pattern.now) (chars text.now) result }
-    ensures shorter { OutcomeIsBelow (length pattern.now) result }
+    ensures text { OutcomeIsText result }
+    ensures shorter { OutcomeIsBelow (length pattern.now + length text.now) result }
 {
     let mut place = Place { pattern, text };
     while let Some((first, rest)) = split_char(place.pattern) {

@@ -8,6 +8,7 @@ use Rattle.tclchars.specs.Reading.{◌>>=◌, Read, read_map}
 use Rattle.tclchars.specs.declared.runs.Class.TheVariants.{InName}
 use Rattle.tclchars.specs.declared.fault.Fault.{Fault}
 use Rattle.tclchars.specs.declared.fault.Fault.TheVariants.{OpenBrace, TooDeep, BadCharacter}
+use Rattle.tclchars.proofs.Results.{bind_err, bind_ok, ok_err, ok_pair, read_map_err, read_map_ok}
 use Rattle.tclscript.specs.declared.context.Context.{Context}
 use Rattle.tclscript.specs.declared.context.Context.TheVariants.{InIndex}
 use Rattle.tclscript.specs.declared.runs.Passing.TheVariants.{Name}
@@ -20,7 +21,7 @@ use Rattle.tclscript.specs.Faults as faults
 use Rattle.tclscript.specs.Reading.{Inner, closed, index_at, braced_name_at, plain_variable, after_name, dollar_at}
 use Rattle.tclscript.proofs.PassedOver.{pass_whole}
 use Rattle.tclscript.proofs.Names.{name_longest, name_again, longest_before}
-use Rattle.tclscript.proofs.Exact.{Took, Exact, bind_ok, bind_err, ok_pair, read_map_ok, read_map_err, ok_err}
+use Rattle.tclscript.proofs.Exact.{Took, Exact}
 use Rattle.tclscript.proofs.Marks.{Without, mark_at, on_mark-at, on_mark-not, closed_ok, closed_err, closed-at, none_before, run_taken, front_run, back_run}
 
 abbrev pub Anywhere : Text → Type 0
@@ -37,7 +38,7 @@ IndexFault (suc d) bs f = PartsFault d InIndex bs f
 
 -- they read scripts and parts that nest less deep than the number
 pub record IsExactInner (d : ℕ) (inner : Inner) : Type 0 where
-  pub script : Exact inner.script Anywhere (λ s t r. IsCommands true s t r × (nesting s < d)) (ScriptFault d)
+  pub script : Exact inner.script Anywhere (λ s t r. IsCommands (length t) true s t r × (nesting s < d)) (ScriptFault d)
   pub index : Exact inner.index Anywhere (λ ps t r. IsParts InIndex ps t r × (parts_nesting ps < d)) (IndexFault d)
 
 -- parts go on up to their end

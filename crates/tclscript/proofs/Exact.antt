@@ -3,6 +3,7 @@ use Rattle.std.proofs.Common.{◌≡◌, ℕ, zero, suc, ◌<◌, ◌≤◌, Lis
 use Rattle.tclchars.specs.Runs.{Text}
 use Rattle.tclchars.specs.Reading.{◌>>=◌, Read, read_map, items_step, items_at}
 use Rattle.tclchars.specs.declared.fault.Fault.{Fault}
+use Rattle.tclchars.proofs.Results.{bind_ok, bind_err, ok_pair, read_map_ok, read_map_err, ok_err, err_ok}
 
 -- what was taken of a text, before the rest
 pub record Took {X : Type 0} (L : X → Text → Text → Type 0) (bs : Text) (x : X) (r : Text) : Type 0 where
@@ -17,38 +18,6 @@ pub record Exact {X : Type 0} (read : Text → Read X) (B : Text → Type 0) (L 
   pub again : (x : X) (t r : Text) → L x t r → read (t ++ r) ≡ Ok (x, r)
   pub faulty : (bs : Text) (f : Fault) → B bs → read bs ≡ Err f → F bs f
   pub met : (bs : Text) (f : Fault) → F bs f → read bs ≡ Err f
-
--- Results
-
-pub bind_ok : {A B : Type 0} (r : Result A Fault) (f : A → Result B Fault) (y : B) → (r >>= f) ≡ Ok y → (x : A) × (r ≡ Ok x) × (f x ≡ Ok y)
-bind_ok (Ok x) f y h = (x, refl, h)
-bind_ok (Err e) f y h = cc
-
-pub bind_err : {A B : Type 0} (r : Result A Fault) (f : A → Result B Fault) (e : Fault) → (r >>= f) ≡ Err e → (r ≡ Err e) ⊎ ((x : A) × (r ≡ Ok x) × (f x ≡ Err e))
-bind_err (Ok x) f e h = inr (x, refl, h)
-bind_err (Err d) f e h = inl (let same : d ≡ e = cc in ap (λ k. Err k) same)
-
-pub ok_pair : {A B : Type 0} (p q : A × B) → (let left : Result (A × B) Fault = Ok p in left ≡ Ok q) → (p.0 ≡ q.0) × (p.1 ≡ q.1)
-ok_pair {A} {B} p q h =
-    let e : p ≡ q = cc in
-    (ap (λ (x : A × B). x.0) e, ap (λ (x : A × B). x.1) e)
-
-pub read_map_ok : {A B : Type 0} (f : A → B) (r : Read A) (y : B) (rest : Text) → read_map f r ≡ Ok (y, rest) → (x : A) × (r ≡ Ok (x, rest)) × (f x ≡ y)
-read_map_ok f (Ok p) y rest h = let two = ok_pair (f p.0, p.1) (y, rest) h in (p.0, ap (λ s. Ok (p.0, s)) two.1, two.0)
-read_map_ok f (Err e) y rest h = cc
-
-pub read_map_err : {A B : Type 0} (f : A → B) (r : Read A) (e : Fault) → read_map f r ≡ Err e → r ≡ Err e
-read_map_err f (Ok p) e h = cc
-read_map_err f (Err d) e h = let same : d ≡ e = cc in ap (λ k. Err k) same
-
-pub ok_err : {A : Type 0} (x : A) (f : Fault) → (let ok : Result A Fault = Ok x in ok) ≡ Err f → ⊥
-ok_err x f h = cc
-
-pub err_ok : {A : Type 0} (x : A) (f : Fault) → (let err : Result A Fault = Err f in err) ≡ Ok x → ⊥
-err_ok x f h = cc
-
-pub err_same : {A : Type 0} (f g : Fault) → (let err : Result A Fault = Err f in err) ≡ Err g → f ≡ g
-err_same f g h = cc
 
 pub some_less : (t r : Text) → 0 < length t → length r < length (t ++ r)
 some_less t r h = omega (arith, length-append t r)

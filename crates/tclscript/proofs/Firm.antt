@@ -2,14 +2,14 @@
 use Rattle.std.proofs.Common.{◌≡◌, ◌≢◌, ℕ, suc, ◌≤◌, [], ◌∷◌, ◌++◌, length, Bool, true, false, not, ◌||◌, ◌==◌, ◌&&◌, Option, Some, None, refl, sym, ap, ap₂, subst, ◌∙◌, arith, append_assoc, inl, inr}
 use Rattle.std.proofs.lemmas.Bool.Decides.{nat_tests}
 use Rattle.tclchars.specs.Runs.{Text, begins}
-use Rattle.tclchars.specs.Bytes.{newline, MayBegin, DoesBegin}
+use Rattle.tclchars.specs.Bytes.{newline, MayBegin, DoesBegin, colon}
 use Rattle.tclchars.specs.Classes.{in_class}
 use Rattle.tclchars.specs.Backslash.{after_backslash}
 use Rattle.tclscript.specs.declared.context.Context.{Context}
 use Rattle.tclscript.specs.declared.context.Context.TheVariants.{InScript, InBracket, InIndex, InQuotes}
 use Rattle.tclscript.specs.declared.runs.Passing.{Passing}
 use Rattle.tclscript.specs.declared.runs.Passing.TheVariants.{Blanks, Joined, Gap, Comment, Escaped, Name, Colons}
-use Rattle.tclscript.specs.Passing.{colon, step, put_before, pass_on, pass}
+use Rattle.tclscript.specs.Passing.{step, put_before, pass_on, pass}
 use Rattle.tclscript.specs.Tree as tree
 use Rattle.tclscript.specs.Tree.{Commands, no_commands, command, Words, no_words, word, Word, word_of, Parts, no_parts, part, Part, literal, variable, indexed, bracket}
 use Rattle.tclscript.specs.Ends.{script_ends, command_ends, word_ends, stands_before, parts_end, class_of, bare}
@@ -182,16 +182,16 @@ plain-like nested ps x p s t h all (e, inr (inl k)) = (sym (word_ends-like neste
 plain-like nested ps x p s t h all (e, inr (inr k)) = (sym (word_ends-like nested p s t h) ∙ e, inr (inr (k.0, all (bare nested) x p h k.1)))
 
 mutual
-  pub commands-like : (nested : Bool) (cs : Commands) (x p s t : Text) → Like p s t → IsCommands nested cs x (p ++ s) → IsCommands nested cs x (p ++ t)
-  commands-like nested no_commands x p s t h k = (gap-any k.0 (like_some p s t h) (p ++ t), sym (script_ends-like nested p s t h) ∙ k.1)
-  commands-like nested (command source ws cs) x p s t h k =
+  pub commands-like : (size : ℕ) (nested : Bool) (cs : Commands) (x p s t : Text) → Like p s t → IsCommands size nested cs x (p ++ s) → IsCommands size nested cs x (p ++ t)
+  commands-like size nested no_commands x p s t h k = (gap-any k.0 (like_some p s t h) (p ++ t), sym (script_ends-like nested p s t h) ∙ k.1)
+  commands-like size nested (command place source ws cs) x p s t h k =
       let body = k.is_second.first in
       let rest = k.is_second.second in
       record {
         first = k.first;
         second = k.second;
         whole = k.whole;
-        is_first = gap-any k.is_first (subst (λ xs. xs ≢ []) (append_assoc k.second p s) (like_some (k.second ++ p) s t (like_before k.second p s t h))) (k.second ++ (p ++ t));
+        is_first = (gap-any k.is_first.0 (subst (λ xs. xs ≢ []) (append_assoc k.second p s) (like_some (k.second ++ p) s t (like_before k.second p s t h))) (k.second ++ (p ++ t)), k.is_first.1);
         is_second = record {
           first = body;
           second = rest;
@@ -201,7 +201,7 @@ mutual
             subst (λ ys. IsCommand nested source ws body ys) (append_assoc rest p t)
                 (command-like nested source ws body (rest ++ p) s t (like_before rest p s t h) (subst (λ ys. IsCommand nested source ws body ys) (sym (append_assoc rest p s)) k.is_second.is_first.1)),
           );
-          is_second = commands-like nested cs rest p s t h k.is_second.is_second;
+          is_second = commands-like size nested cs rest p s t h k.is_second.is_second;
         };
       }
 
@@ -269,7 +269,7 @@ mutual
   part-like c (variable name) x p s t h (inl k) = inl (k.0, k.1, longest-like name p s t h k.2, may_begin-like (λ b. not (b == 40)) p s t h k.3)
   part-like c (variable name) x p s t h (inr k) = inr k
   part-like c (indexed name ps) x p s t h k = (k.0, k.1, k.2, parts-like InIndex ps k.0 (41 ∷ p) s t (like_before (41 ∷ []) p s t h) k.3)
-  part-like c (bracket s') x p s t h k = (k.0, k.1, commands-like true s' k.0 (93 ∷ p) s t (like_before (93 ∷ []) p s t h) k.2)
+  part-like c (bracket s') x p s t h k = (k.0, k.1, commands-like (length k.0) true s' k.0 (93 ∷ p) s t (like_before (93 ∷ []) p s t h) k.2)
 
 -- Where what follows is firm
 
@@ -284,8 +284,8 @@ does_begin-firm q p s t h = does_begin-like q p s t (firm_like p s t h)
 pub parts_end-firm : (c : Context) (p s t : Text) → Firm p → parts_end c (p ++ s) ≡ parts_end c (p ++ t)
 parts_end-firm c p s t h = parts_end-like c p s t (firm_like p s t h)
 
-pub commands-firm : (nested : Bool) (cs : Commands) (x p s t : Text) → Firm p → IsCommands nested cs x (p ++ s) → IsCommands nested cs x (p ++ t)
-commands-firm nested cs x p s t h = commands-like nested cs x p s t (firm_like p s t h)
+pub commands-firm : (size : ℕ) (nested : Bool) (cs : Commands) (x p s t : Text) → Firm p → IsCommands size nested cs x (p ++ s) → IsCommands size nested cs x (p ++ t)
+commands-firm size nested cs x p s t h = commands-like size nested cs x p s t (firm_like p s t h)
 
 pub command-firm : (nested : Bool) (source : Text) (ws : Words) (x p s t : Text) → Firm p → IsCommand nested source ws x (p ++ s) → IsCommand nested source ws x (p ++ t)
 command-firm nested source ws x p s t h = command-like nested source ws x p s t (firm_like p s t h)

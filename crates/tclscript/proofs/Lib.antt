@@ -19,7 +19,6 @@ pub mod PartFaults
 pub mod WordsExact
 pub mod ScriptExact
 pub mod Whole
-pub mod Clauses
 pub mod Ranges
 pub mod Examples
 pub mod NextByte

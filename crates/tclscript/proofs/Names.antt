@@ -2,11 +2,11 @@
 use Rattle.std.proofs.Common.{◌≡◌, ℕ, zero, suc, ◌<◌, [], ◌∷◌, ◌++◌, length, Bool, true, false, ◌||◌, ◌&&◌, ◌==◌, Some, None, refl, sym, ap, ap₂, subst, ◌∙◌, arith, append_assoc, append-nil, length-append}
 use Rattle.std.proofs.lemmas.Bool.Decides.{nat_tests}
 use Rattle.tclchars.specs.Runs.{Text, begins}
-use Rattle.tclchars.specs.Bytes.{AllPass}
+use Rattle.tclchars.specs.Bytes.{AllPass, colon}
 use Rattle.tclchars.specs.Classes.{is_name}
 use Rattle.tclscript.specs.declared.runs.Passing.{Passing}
 use Rattle.tclscript.specs.declared.runs.Passing.TheVariants.{Name, Colons}
-use Rattle.tclscript.specs.Passing.{colon, step, put_before, pass}
+use Rattle.tclscript.specs.Passing.{step, put_before, pass}
 use Rattle.tclscript.specs.Grammar as grammar
 use Rattle.tclscript.specs.Grammar.{IsName, IsLongestName, is_colon}
 use Rattle.tclscript.proofs.PassedOver.{pass_whole, pass-nil, pass-on, pass-stop, is_byte}

@@ -6,6 +6,7 @@ use Rattle.tclchars.specs.Backslash.{after_backslash}
 use Rattle.tclchars.specs.Braces.{Balanced}
 use Rattle.tclchars.specs.declared.fault.Fault.{Fault}
 use Rattle.tclchars.specs.declared.fault.Fault.TheVariants.{OpenBrace, OpenQuote, OpenBracket, JoinedToClose, TooDeep, BadCharacter, BadExpression}
+use Rattle.tclchars.proofs.Results.{err_same}
 use Rattle.tclscript.specs.declared.context.Context.{Context}
 use Rattle.tclscript.specs.declared.context.Context.TheVariants.{InIndex, InQuotes}
 use Rattle.tclscript.specs.Tree.{Words, Word, Parts, Part, words_nesting, word_nesting, parts_nesting, part_nesting}
@@ -14,7 +15,6 @@ use Rattle.tclscript.specs.Grammar.{IsBlanks, IsGap, IsCommand, IsName, IsWord, 
 use Rattle.tclscript.specs.Faults as faults
 use Rattle.tclscript.specs.Faults.{Expands, CommandsFault, CommandFault, WordsFault, WordFault, PlainFault, PartsFault, PartFault, IsFault}
 use Rattle.tclscript.specs.Reading.{inner_at, plain_word_at}
-use Rattle.tclscript.proofs.Exact.{err_same}
 use Rattle.tclscript.proofs.WordsExact.{plain_met, plain_fault_goes_on, star_joined}
 use Rattle.tclscript.proofs.Whole.{inner_exact}
 use Rattle.tclscript.specs.Offending.{IsOffender, IsBadEscape}

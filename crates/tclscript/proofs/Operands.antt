@@ -5,13 +5,14 @@ use Rattle.tclchars.specs.Runs.{Text}
 use Rattle.tclchars.specs.Reading.{◌>>=◌, Read}
 use Rattle.tclchars.specs.declared.fault.Fault.{Fault}
 use Rattle.tclchars.specs.declared.fault.Fault.TheVariants.{OpenQuote}
+use Rattle.tclchars.proofs.Results.{bind_err, bind_ok, ok_err, ok_pair}
 use Rattle.tclscript.specs.declared.context.Context.{Context}
 use Rattle.tclscript.specs.declared.context.Context.TheVariants.{InQuotes}
 use Rattle.tclscript.specs.Tree.{Parts, Part, parts_nesting, part_nesting}
 use Rattle.tclscript.specs.Grammar.{IsParts, IsPart}
 use Rattle.tclscript.specs.Faults.{PartsFault, PartFault}
 use Rattle.tclscript.specs.Reading.{Inner, closed, bracket_at, dollar_at, parts_with, quotes_at}
-use Rattle.tclscript.proofs.Exact.{Took, Exact, bind_ok, bind_err, ok_pair, ok_err}
+use Rattle.tclscript.proofs.Exact.{Took, Exact}
 use Rattle.tclscript.proofs.Marks.{closed_ok, closed_err, closed-at, none_before}
 use Rattle.tclscript.proofs.Dollars.{Anywhere, IsExactInner, DollarIs, parts_close, dollar_sound, dollar_faulty}
 use Rattle.tclscript.proofs.PartsExact.{part_some, at_dollar, at_bracket, part_again, bracket_sound, bracket_faulty}

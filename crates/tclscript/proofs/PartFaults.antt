@@ -3,6 +3,7 @@ use Rattle.std.proofs.Common.{◌≡◌, ℕ, zero, suc, ◌<◌, ◌≤◌, Lis
 use Rattle.tclchars.specs.Runs.{Text}
 use Rattle.tclchars.specs.Reading.{Read, read_map, items_at}
 use Rattle.tclchars.specs.declared.fault.Fault.{Fault}
+use Rattle.tclchars.proofs.Results.{read_map_err, read_map_ok}
 use Rattle.tclscript.specs.declared.context.Context.{Context}
 use Rattle.tclscript.specs.Tree.{Parts, no_parts, part, Part, parts_of, parts_nesting}
 use Rattle.tclscript.specs.Ends.{parts_end}
@@ -10,7 +11,7 @@ use Rattle.tclscript.specs.Grammar.{IsParts}
 use Rattle.tclscript.specs.Faults as faults
 use Rattle.tclscript.specs.Faults.{PartsFault, PartFault}
 use Rattle.tclscript.specs.Reading.{Inner, part_at, parts_with}
-use Rattle.tclscript.proofs.Exact.{Took, Exact, read_map_ok, read_map_err, Items, items-end, items-more, items-fail, items_sound, items_faulty}
+use Rattle.tclscript.proofs.Exact.{Took, Exact, Items, items-end, items-more, items-fail, items_sound, items_faulty}
 use Rattle.tclscript.proofs.Dollars.{Anywhere, IsExactInner, braced_met, indexed_met, indexed_open}
 use Rattle.tclscript.proofs.PartsExact.{faulty_goes_on, part_some, PartIs, GoesOn, part_sound, part_faulty, part_again, at_dollar, at_bracket, at_backslash, bracket_met, bracket_open, backslash_met}
 

@@ -8,6 +8,7 @@ use Rattle.tclchars.specs.Backslash.{after_backslash}
 use Rattle.tclchars.specs.Reading.{◌>>=◌, Read}
 use Rattle.tclchars.specs.declared.fault.Fault.{Fault}
 use Rattle.tclchars.specs.declared.fault.Fault.TheVariants.{OpenBracket, BadCharacter}
+use Rattle.tclchars.proofs.Results.{bind_err, bind_ok, err_same, ok_err, ok_pair}
 use Rattle.tclscript.specs.declared.context.Context.{Context}
 use Rattle.tclscript.specs.declared.context.Context.TheVariants.{InScript, InBracket, InIndex, InQuotes}
 use Rattle.tclscript.specs.Tree as tree
@@ -19,14 +20,14 @@ use Rattle.tclscript.specs.Faults.{CommandsFault, PartsFault, PartFault}
 use Rattle.tclscript.specs.Reading.{Inner, on_mark, closed, bracket_at, dollar_at, escaped, backslash_at, literal_at, part_at}
 use Rattle.tclscript.specs.Pieces.{IsEndOf}
 use Rattle.tclscript.proofs.Escapes.{LeavesSome, backslash_end}
-use Rattle.tclscript.proofs.Exact.{Took, bind_ok, bind_err, ok_pair, ok_err, err_same}
+use Rattle.tclscript.proofs.Exact.{Took}
 use Rattle.tclscript.proofs.Marks.{true_false, Without, mark_at, on_mark-not, closed_ok, closed_err, closed-at, none_before, run_taken, front_run, back_run}
 use Rattle.tclscript.proofs.Dollars.{ScriptFault, IsExactInner, DollarIs, dollar_sound, dollar_faulty, dollar_alone, variable_again, braced_variable_again, indexed_again}
 
 -- commands go on up to their end
-pub commands_close : (nested : Bool) (s : Commands) (t r : Text) → IsCommands nested s t r → script_ends nested r ≡ true
-commands_close nested no_commands t r h = h.1
-commands_close nested (command source ws cs) t r h = commands_close nested cs h.is_second.second r h.is_second.is_second
+pub commands_close : (size : ℕ) (nested : Bool) (s : Commands) (t r : Text) → IsCommands size nested s t r → script_ends nested r ≡ true
+commands_close size nested no_commands t r h = h.1
+commands_close size nested (command place source ws cs) t r h = commands_close size nested cs h.is_second.second r h.is_second.is_second
 
 bracket_or_end : (r : Text) → script_ends true r ≡ true → stands_before 93 r ≡ true
 bracket_or_end [] h = refl
@@ -140,7 +141,7 @@ module _ (d : ℕ) (inner : Inner) (exact : IsExactInner d inner) where
       let made : Took (DollarIs d c) (91 ∷ bs) (bracket x.0.0) r = record {
         taken = 91 ∷ (k.taken ++ 93 ∷ []);
         whole = ap (λ xs. 91 ∷ xs) (k.whole ∙ ap (λ ys. k.taken ++ ys) after ∙ sym (append_assoc k.taken (93 ∷ []) r));
-        is = ((k.taken, refl, subst (λ ys. IsCommands true x.0.0 k.taken ys) after k.is.0), omega (arith, k.is.1));
+        is = ((k.taken, refl, subst (λ ys. IsCommands (length k.taken) true x.0.0 k.taken ys) after k.is.0), omega (arith, k.is.1));
       } in
       subst (λ p. Took (DollarIs d c) (91 ∷ bs) p r) two.0 made
 
@@ -156,7 +157,7 @@ module _ (d : ℕ) (inner : Inner) (exact : IsExactInner d inner) where
         deeper zero h = subst (PartFault zero (91 ∷ bs)) (sym h) faults.PartFault.bracket_too_deep
         deeper (suc d) h = faults.PartFault.in_bracket h
 
-        open_at : (d : ℕ) (s : Commands) → IsCommands true s bs [] → nesting s < d → PartFault d (91 ∷ bs) (OpenBracket (suc (length bs)))
+        open_at : (d : ℕ) (s : Commands) → IsCommands (length bs) true s bs [] → nesting s < d → PartFault d (91 ∷ bs) (OpenBracket (suc (length bs)))
         open_at zero s h less = absurd (omega arith)
         open_at (suc d) s h less = faults.PartFault.open_bracket s h (omega arith)
 
@@ -167,15 +168,15 @@ module _ (d : ℕ) (inner : Inner) (exact : IsExactInner d inner) where
               | inl bad ↦ (
                   let e = closed_err 93 mark r f bad in
                   let k = exact.script.sound bs s r tt was in
-                  let none : r ≡ [] = none_before 93 r (bracket_or_end r (commands_close true s k.taken r k.is.0)) e.1 in
+                  let none : r ≡ [] = none_before 93 r (bracket_or_end r (commands_close (length k.taken) true s k.taken r k.is.0)) e.1 in
                   let whole : k.taken ≡ bs = sym (append-nil k.taken) ∙ ap (λ ys. k.taken ++ ys) (sym none) ∙ sym k.whole in
-                  let inside : IsCommands true s bs [] = subst (λ xs. IsCommands true s xs []) whole (subst (λ ys. IsCommands true s k.taken ys) none k.is.0) in
+                  let inside : IsCommands (length bs) true s bs [] = subst (λ xs. IsCommands (length xs) true s xs []) whole (subst (λ ys. IsCommands (length k.taken) true s k.taken ys) none k.is.0) in
                   subst (PartFault d (91 ∷ bs)) e.0 (open_at d s inside k.is.1)
                   )
               | inr k ↦ absurd (ok_err (bracket s, k.0) f k.2)
             ]
 
-  pub bracket_again : (inside r : Text) (s : Commands) → IsCommands true s inside (93 ∷ r) → nesting s < d → bracket_at inner (inside ++ 93 ∷ r) ≡ Ok (bracket s, r)
+  pub bracket_again : (inside r : Text) (s : Commands) → IsCommands (length inside) true s inside (93 ∷ r) → nesting s < d → bracket_at inner (inside ++ 93 ∷ r) ≡ Ok (bracket s, r)
   unfolding bracket_at
   bracket_again inside r s h less =
       let bs = inside ++ 93 ∷ r in
@@ -187,7 +188,7 @@ module _ (d : ℕ) (inner : Inner) (exact : IsExactInner d inner) where
   unfolding bracket_at
   bracket_met bs f h = ap (λ x. x >>= (λ x. close_bracket (OpenBracket (suc (length bs))) x.0 x.1)) (exact.script.met bs f h)
 
-  pub bracket_open : (bs : Text) (s : Commands) → IsCommands true s bs [] → nesting s < d → bracket_at inner bs ≡ Err (OpenBracket (suc (length bs)))
+  pub bracket_open : (bs : Text) (s : Commands) → IsCommands (length bs) true s bs [] → nesting s < d → bracket_at inner bs ≡ Err (OpenBracket (suc (length bs)))
   unfolding bracket_at
   bracket_open bs s h less =
       let mark = OpenBracket (suc (length bs)) in

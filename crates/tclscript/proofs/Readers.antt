@@ -1,5 +1,5 @@
 -- What each reader leaves is an end of its text, and shorter where something was read.
-use Rattle.std.proofs.Common.{◌≡◌, ℕ, zero, suc, ◌<◌, ◌≤◌, [], ◌∷◌, ◌++◌, length, Bool, true, false, ◌==◌, Option, Some, None, Ok, Err, refl, sym, subst, ◌∙◌, arith, append_assoc}
+use Rattle.std.proofs.Common.{◌≡◌, ℕ, zero, suc, ◌-◌, ◌<◌, ◌≤◌, [], ◌∷◌, ◌++◌, length, Bool, true, false, ◌==◌, Option, Some, None, Ok, Err, refl, sym, subst, ◌∙◌, arith, append_assoc}
 use Rattle.std.proofs.lemmas.Bool.Decides.{nat_tests}
 use Rattle.tclchars.specs.Runs.{Text, back, begins}
 use Rattle.tclchars.specs.Classes.{in_class}
@@ -17,7 +17,7 @@ use Rattle.tclscript.specs.Pieces.{IsEndOf}
 use Rattle.tclscript.specs.Tree.{word_of, parts_of, commands_of, indexed}
 use Rattle.tclscript.specs.Ends.{script_ends, command_ends, word_ends, parts_end, class_of, bare}
 use Rattle.tclscript.specs.Passing.{pass, skip_blanks, skip_gap}
-use Rattle.tclscript.specs.Reading.{on_mark, closed, ended, Inner, bracket_at, index_at, braced_name_at, plain_variable, after_name, dollar_at, escaped, backslash_at, part_at, parts_with, in_braces, braced_word_at, quoted_word_at, plain_word_at, unless_word_ends, after_expansion, word_from, word_at, words_at, command_at, script_with, inner_at}
+use Rattle.tclscript.specs.Reading.{on_mark, closed, ended, Inner, bracket_at, index_at, braced_name_at, plain_variable, after_name, dollar_at, escaped, backslash_at, part_at, parts_with, word_in_braces, braced_word_at, quoted_word_at, plain_word_at, unless_word_ends, after_expansion, word_from, word_at, words_at, command_at, command_in, script_with, inner_at}
 use Rattle.tclscript.proofs.Ends.{end_same, end_through, end_no_longer, IsBehind, behind_mark, behind_through, end_mark}
 use Rattle.tclscript.proofs.Escapes.{either, back_end, LeavesSome, backslash_end}
 use Rattle.tclscript.proofs.Passes.{pass_end}
@@ -158,7 +158,7 @@ module _ (inner : Inner) (inside : InnerLeaves inner) where
 
 -- Words
 
-in_braces_leave : (nested : Bool) (bs : Text) (left : ℕ) (found : Option (Text × Text)) → LeavesSome (IsEndOf bs) found → Leaves (IsEndOf bs) (in_braces nested left found)
+in_braces_leave : (nested : Bool) (bs : Text) (left : ℕ) (found : Option (Text × Text)) → LeavesSome (IsEndOf bs) found → Leaves (IsEndOf bs) (word_in_braces nested left found)
 in_braces_leave nested bs left None e = tt
 in_braces_leave nested bs left (Some p) e = text_then (IsEndOf p.1) (IsEndOf bs) (ended nested p.1) _ (ended_leaves nested p.1) (λ rest f. end_through bs p.1 rest e f)
 
@@ -247,19 +247,19 @@ module _ (inner : Inner) (inside : InnerLeaves inner) (nested : Bool) where
   words_leave : (bs : Text) → Leaves (IsEndOf bs) (words_at nested inner bs)
   words_leave bs = items_leave skip_blanks (command_ends nested) (word_at nested inner) blanks_end word_leaves (suc (length bs)) bs
 
-  pub command_leaves : (bs : Text) → Leaves (IsEndOf bs) (command_at nested inner bs)
+  pub command_leaves : (place : ℕ) (bs : Text) → Leaves (IsEndOf bs) (command_at place nested inner bs)
   unfolding command_at
-  command_leaves bs = leaves_then (IsEndOf bs) (IsEndOf bs) (word_at nested inner bs) _ (word_leaves bs)
+  command_leaves place bs = leaves_then (IsEndOf bs) (IsEndOf bs) (word_at nested inner bs) _ (word_leaves bs)
       (λ w rest e. leaves_map (IsEndOf bs) _ (words_at nested inner rest) (leaves_also (IsEndOf rest) (IsEndOf bs) _ (λ last f. end_through bs rest last e f) (words_leave rest)))
 
-  pub command_behind : (bs : Text) → word_ends nested bs ≡ false → Leaves (IsBehind bs) (command_at nested inner bs)
+  pub command_behind : (place : ℕ) (bs : Text) → word_ends nested bs ≡ false → Leaves (IsBehind bs) (command_at place nested inner bs)
   unfolding command_at
-  command_behind bs h = leaves_then (IsBehind bs) (IsBehind bs) (word_at nested inner bs) _ (word_behind bs h)
+  command_behind place bs h = leaves_then (IsBehind bs) (IsBehind bs) (word_at nested inner bs) _ (word_behind bs h)
       (λ w rest b. leaves_map (IsBehind bs) _ (words_at nested inner rest) (leaves_also (IsEndOf rest) (IsBehind bs) _ (λ last f. behind_through bs rest last b f) (words_leave rest)))
 
   pub script_leaves : (bs : Text) → Leaves (IsEndOf bs) (script_with nested inner bs)
   unfolding script_with
-  script_leaves bs = leaves_map (IsEndOf bs) commands_of _ (items_leave skip_gap (script_ends nested) (command_at nested inner) gap_end command_leaves (suc (length bs)) bs)
+  script_leaves bs = leaves_map (IsEndOf bs) commands_of _ (items_leave skip_gap (script_ends nested) (command_in (length bs) nested inner) gap_end (λ xs. command_leaves (length bs - length xs) xs) (suc (length bs)) bs)
 
 pub inner_leaves : (depth : ℕ) → InnerLeaves (inner_at depth)
 unfolding inner_at

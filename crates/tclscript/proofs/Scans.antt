@@ -6,12 +6,12 @@ use Rattle.std.proofs.lemmas.Bool.Decides.{nat_tests}
 use Rattle.std.proofs.Math.ListN.{drop_of_length-le}
 use Rattle.std.specs.Str.{IsUtf8, IsCharBoundary}
 use Rattle.std.proofs.lemmas.Str.{IsCharBoundary-start, IsCharBoundary-after_ascii}
-use Rattle.tclchars.specs.Bytes.{newline, hash, backslash, is_gap, is_blank}
+use Rattle.tclchars.specs.Bytes.{newline, hash, backslash, is_gap, is_blank, colon}
 use Rattle.tclchars.specs.Classes.{is_name}
 use Rattle.tclchars.specs.Runs.{Text, begins}
 use Rattle.tclscript.specs.declared.runs.Passing.{Passing}
 use Rattle.tclscript.specs.declared.runs.Passing.TheVariants.{Blanks, Joined, Gap, Comment, Escaped, Name, Colons}
-use Rattle.tclscript.specs.Passing.{step, step_blanks, step_joined, step_gap, step_comment, step_name, pass, pass_on, put_before, colon}
+use Rattle.tclscript.specs.Passing.{step, step_blanks, step_joined, step_gap, step_comment, step_name, pass, pass_on, put_before}
 use Rattle.tclscript.proofs.Passes.{pass-nil, pass-cons}
 
 -- what was passed over may end here

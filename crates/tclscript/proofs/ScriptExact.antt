@@ -1,21 +1,22 @@
 -- Commands and scripts are read exactly.
-use Rattle.std.proofs.Common.{◌≡◌, ℕ, zero, suc, ◌-◌, ◌<◌, ◌≤◌, List, [], ◌∷◌, ◌++◌, length, take, Bool, true, false, not, ◌||◌, ◌&&◌, ◌==◌, Ok, Err, refl, sym, ap, ap₂, subst, ◌∙◌, arith, append_assoc, length-append, inl, inr}
+use Rattle.std.proofs.Common.{◌≡◌, ℕ, zero, suc, ◌+◌, ◌-◌, ◌<◌, ◌≤◌, List, [], ◌∷◌, ◌++◌, length, take, Bool, true, false, not, ◌||◌, ◌&&◌, ◌==◌, Ok, Err, refl, sym, ap, ap₂, subst, ◌∙◌, arith, append_assoc, length-append, inl, inr}
 use Rattle.std.proofs.lemmas.Bool.Decides.{nat_tests}
 use Rattle.std.proofs.Math.Seq.{take-append_seam}
 use Rattle.tclchars.specs.Runs.{Text}
 use Rattle.tclchars.specs.Bytes.{hash, is_blank, is_end, is_gap, DoesBegin}
 use Rattle.tclchars.specs.Reading.{◌>>=◌, Read, read_map, items_at}
 use Rattle.tclchars.specs.declared.fault.Fault.{Fault}
+use Rattle.tclchars.proofs.Results.{bind_err, bind_ok, read_map_err, read_map_ok}
 use Rattle.tclscript.specs.declared.runs.Passing.TheVariants.{Blanks, Gap}
-use Rattle.tclscript.specs.Tree.{Commands, no_commands, command, Words, no_words, word, Word, words_of, commands_of, nesting, words_nesting}
+use Rattle.tclscript.specs.Tree.{Commands, no_commands, command, Command, Words, no_words, word, Word, words_of, commands_of, nesting, words_nesting}
 use Rattle.tclscript.specs.Ends.{script_ends, command_ends, word_ends}
 use Rattle.tclscript.specs.Passing.{pass, skip_blanks, skip_gap}
 use Rattle.tclscript.specs.Grammar.{IsBlanks, IsGap, IsCommands, IsCommand, IsWords, IsWord}
 use Rattle.tclscript.specs.Faults as faults
 use Rattle.tclscript.specs.Faults.{CommandsFault, CommandFault, WordsFault, WordFault}
-use Rattle.tclscript.specs.Reading.{Inner, word_at, taken, words_at, command_at, script_with}
+use Rattle.tclscript.specs.Reading.{Inner, word_at, taken, words_at, command_at, command_in, script_with}
 use Rattle.tclscript.proofs.PassedOver.{pass_whole, begins_line, NoBlank, blanks_taken, blanks_over, blanks_stay, NoGap, gap_taken, gap_over, gap_stay}
-use Rattle.tclscript.proofs.Exact.{Took, Exact, bind_ok, bind_err, read_map_ok, read_map_err, Items, items-end, items-more, items-fail, items_sound, items_faulty}
+use Rattle.tclscript.proofs.Exact.{Took, Exact, Items, items-end, items-more, items-fail, items_sound, items_faulty}
 use Rattle.tclscript.proofs.Marks.{true_false, not_true}
 use Rattle.tclscript.proofs.Dollars.{Anywhere, IsExactInner}
 use Rattle.tclscript.proofs.WordsExact.{WordGoesOn, WordIs, word_exact, word_goes_on, word_fault_goes_on, word_some}
@@ -165,172 +166,203 @@ module _ (d : ℕ) (inner : Inner) (exact : IsExactInner d inner) (nested : Bool
       items-more skip_blanks (command_ends nested) (word_at nested inner) IsBlanksBefore Goes TheWord (WordFault d nested) word_items n gap body rest w h (k, deep)
       ∙ ap (read_map (λ xs. w ∷ xs)) (words_met l n (omega (arith, length-append gap (body ++ rest), length-append body rest)))
 
-  -- A command
-
-  abbrev pub CommandIs : Text × Words → Text → Text → Type 0
-  CommandIs c t r = NoComment t × IsCommand nested c.0 c.1 t r × (words_nesting c.1 ≤ d)
-
   abbrev CommandGoesOn : Text → Type 0
   CommandGoesOn bs = Goes bs × NoComment bs
 
   abbrev CommandBad : Text → Fault → Type 0
   CommandBad bs f = CommandFault d nested bs f × NoComment bs
 
-  abbrev more_words : Text → Word × Text → Read (Text × Words)
-  more_words bs w = read_map (λ ws. (taken bs w.1, word w.0 (words_of ws))) (words_at nested inner w.1)
-
-  command_sound : (bs : Text) (c : Text × Words) (r : Text) → CommandGoesOn bs → command_at nested inner bs ≡ Ok (c, r) → Took CommandIs bs c r
-  unfolding command_at
-  command_sound bs c r b h =
-      let x = bind_ok (word_at nested inner bs) (more_words bs) (c, r) h in
-      let y = read_map_ok (λ ws. (taken bs x.0.1, word x.0.0 (words_of ws))) (words_at nested inner x.0.1) c r x.2 in
-      let w = (word_exact d inner exact nested).sound bs x.0.0 x.0.1 b.0 x.1 in
-      let m = words_sound x.0.1 y.0 r y.1 in
-      let whole : bs ≡ (w.taken ++ m.taken) ++ r = w.whole ∙ ap (λ ys. w.taken ++ ys) m.whole ∙ sym (append_assoc w.taken m.taken r) in
-      let some = word_some nested x.0.0 w.taken x.0.1 w.is.0 in
-      let source : taken bs x.0.1 ≡ w.taken = ap (λ xs. taken xs x.0.1) w.whole ∙ taken_is w.taken x.0.1 in
-      let made : Took CommandIs bs (w.taken, word x.0.0 (words_of y.0)) r = record {
-        taken = w.taken ++ m.taken;
-        whole = whole;
-        is = (
-          more_begun w.taken m.taken (begun w.taken x.0.1 (subst NoComment w.whole b.1) some),
-          (m.taken, refl, subst (λ ys. IsWord nested x.0.0 w.taken ys) m.whole w.is.0, m.is.0),
-          omega (arith, w.is.1, m.is.1),
-        );
-      } in
-      subst (λ c. Took CommandIs bs c r) (ap (λ s. (s, word x.0.0 (words_of y.0))) (sym source) ∙ y.2) made
-
-  command_faulty : (bs : Text) (f : Fault) → CommandGoesOn bs → command_at nested inner bs ≡ Err f → CommandBad bs f
-  unfolding command_at
-  command_faulty bs f b h = elim (bind_err (word_at nested inner bs) (more_words bs) f h) [
-    | inl bad ↦ (faults.CommandFault.first_word ((word_exact d inner exact nested).faulty bs f b.0 bad), b.1)
-    | inr k ↦ (
-        let w = (word_exact d inner exact nested).sound bs k.0.0 k.0.1 b.0 k.1 in
-        let bad = words_faulty k.0.1 f (read_map_err (λ ws. (taken bs k.0.1, word k.0.0 (words_of ws))) (words_at nested inner k.0.1) f k.2) in
-        (subst (λ xs. CommandFault d nested xs f) (sym w.whole) (faults.CommandFault.later_word w.taken k.0.0 w.is.0 w.is.1 bad), b.1)
-        )
-  ]
-
-  command_again : (c : Text × Words) (t r : Text) → CommandIs c t r → command_at nested inner (t ++ r) ≡ Ok (c, r)
-  unfolding command_at
-  command_again (source, no_words) t r h = absurd h.1
-  command_again (source, word w ws) t r h =
-      let rest = h.1.0 in
-      let whole : t ++ r ≡ source ++ (rest ++ r) = ap (λ xs. xs ++ r) h.1.1 ∙ append_assoc source rest r in
-      let first = (word_exact d inner exact nested).again w source (rest ++ r) (h.1.2, omega (arith, h.2)) in
-      let k = words_list ws rest r (suc (length (rest ++ r))) h.1.3 (omega (arith, h.2)) (omega arith) in
-      ap (λ (xs : Text). word_at nested inner xs >>= more_words xs) whole
-      ∙ ap (λ (x : Read Word). x >>= more_words (source ++ (rest ++ r))) first
-      ∙ ap (read_map (λ ws. (taken (source ++ (rest ++ r)) (rest ++ r), word w (words_of ws)))) k.1
-      ∙ ap₂ (λ (s : Text) (ws : Words). let found : Read (Text × Words) = Ok ((s, word w ws), r) in found) (taken_is source (rest ++ r)) k.2
-
-  command_met : (bs : Text) (f : Fault) → CommandFault d nested bs f → command_at nested inner bs ≡ Err f
-  unfolding command_at
-  command_met bs f (faults.CommandFault.first_word h) = ap (λ (x : Read Word). x >>= more_words bs) ((word_exact d inner exact nested).met bs f h)
-  command_met _ f (faults.CommandFault.later_word body w {rest = rest} h deep l) =
-      ap (λ (x : Read Word). x >>= more_words (body ++ rest)) ((word_exact d inner exact nested).again w body rest (h, deep))
-      ∙ ap (read_map (λ ws. (taken (body ++ rest) rest, word w (words_of ws)))) (words_met l (suc (length rest)) (omega arith))
-
-  command_exact : Exact (command_at nested inner) CommandGoesOn CommandIs CommandBad
-  command_exact = record { sound = command_sound; again = command_again; faulty = command_faulty; met = λ bs f h. command_met bs f h.0 }
-
-  -- Commands
-
-  command_goes_on : (c : Text × Words) (t r : Text) → CommandIs c t r → CommandGoesOn (t ++ r)
-  command_goes_on (source, no_words) t r h = absurd h.1
-  command_goes_on (source, word w ws) t r h = (
-    ap (word_ends nested) (ap (λ xs. xs ++ r) h.1.1 ∙ append_assoc source h.1.0 r) ∙ word_goes_on nested w source (h.1.0 ++ r) h.1.2,
-    more_begun t r h.0,
-  )
-
   fault_goes_on : {bs : Text} {f : Fault} → CommandFault d nested bs f → word_ends nested bs ≡ false
   fault_goes_on (faults.CommandFault.first_word h) = word_fault_goes_on h
   fault_goes_on (faults.CommandFault.later_word body w {rest = rest} h deep l) = word_goes_on nested w body rest h
 
-  command_items : Items skip_gap (script_ends nested) (command_at nested inner) IsGap CommandGoesOn CommandIs CommandBad
-  command_items = record {
-    exact = command_exact;
-    skips = λ bs. ((pass Gap bs).0, pass_whole Gap bs, (gap_taken bs).0);
-    over = λ gap start h. gap_over h;
-    begins = λ bs h. commands_begin nested (skip_gap bs) (gap_taken bs).1 h;
-    stays = λ start h. (let k = no_gap nested start h.0 h.1 in (gap_stay start k.0, k.1));
-    stops = λ r h. gap_stay r (no_gap_at_end nested r h);
-    good = command_goes_on;
-    bad = λ bs f h. (fault_goes_on h.0, h.1);
-    some = λ c t r h. front_some t r h.0;
-  }
-
-  abbrev pub CommandsAre : Commands → Text → Text → Type 0
-  CommandsAre s t r = IsCommands nested s t r × (nesting s ≤ d)
-
-  abbrev read_commands : ℕ → Text → Read (List (Text × Words))
-  read_commands n bs = items_at skip_gap (script_ends nested) (command_at nested inner) n bs
-
-  commands_nil : (gap r : Text) → IsGap gap r → script_ends nested r ≡ true → CommandsAre (commands_of []) gap r
-  commands_nil gap r h e = ((h, e), omega arith)
-
-  commands_cons : (gap body rest r : Text) (c : Text × Words) (cs : List (Text × Words)) → IsGap gap ((body ++ rest) ++ r) → CommandIs c body (rest ++ r) → CommandsAre (commands_of cs) rest r
-      → CommandsAre (commands_of (c ∷ cs)) (gap ++ (body ++ rest)) r
-  commands_cons gap body rest r c cs h k l = (
-    record { first = gap; second = body ++ rest; whole = refl; is_first = h; is_second = record { first = body; second = rest; whole = refl; is_first = (k.0, k.1); is_second = l.0 } },
-    omega (arith, k.2, l.1),
-  )
-
   commands_here : (gap body : Text) (f : Fault) → IsGap gap body → CommandBad body f → CommandsFault d nested (gap ++ body) f
   commands_here gap body f h k = faults.CommandsFault.first_command gap h k.1 k.0
 
-  commands_later : (gap body rest : Text) (c : Text × Words) (f : Fault) → IsGap gap (body ++ rest) → CommandIs c body rest → CommandsFault d nested rest f → CommandsFault d nested (gap ++ (body ++ rest)) f
-  commands_later gap body rest c f h k l = faults.CommandsFault.later_command gap c.0 body c.1 h k.0 k.1 k.2 l
+  -- Commands of a script that has so many bytes, with what follows it
+  module _ (total : ℕ) where
+    -- A command
+
+    abbrev pub CommandIs : Command → Text → Text → Type 0
+    CommandIs c t r = NoComment t × IsCommand nested c.source c.words t r × (words_nesting c.words ≤ d) × (c.place ≡ total - length (t ++ r))
+
+    abbrev more_words : Text → Word × Text → Read Command
+    more_words bs w = read_map (λ ws. record { place = total - length bs; source = taken bs w.1; words = word w.0 (words_of ws) }) (words_at nested inner w.1)
+
+    command_sound : (bs : Text) (c : Command) (r : Text) → CommandGoesOn bs → command_in total nested inner bs ≡ Ok (c, r) → Took CommandIs bs c r
+    unfolding command_at
+    command_sound bs c r b h =
+        let x = bind_ok (word_at nested inner bs) (more_words bs) (c, r) h in
+        let y = read_map_ok (λ ws. record { place = total - length bs; source = taken bs x.0.1; words = word x.0.0 (words_of ws) }) (words_at nested inner x.0.1) c r x.2 in
+        let w = (word_exact d inner exact nested).sound bs x.0.0 x.0.1 b.0 x.1 in
+        let m = words_sound x.0.1 y.0 r y.1 in
+        let whole : bs ≡ (w.taken ++ m.taken) ++ r = w.whole ∙ ap (λ ys. w.taken ++ ys) m.whole ∙ sym (append_assoc w.taken m.taken r) in
+        let some = word_some nested x.0.0 w.taken x.0.1 w.is.0 in
+        let source : taken bs x.0.1 ≡ w.taken = ap (λ xs. taken xs x.0.1) w.whole ∙ taken_is w.taken x.0.1 in
+        let made : Took CommandIs bs (record { place = total - length bs; source = w.taken; words = word x.0.0 (words_of y.0) }) r = record {
+          taken = w.taken ++ m.taken;
+          whole = whole;
+          is = (
+            more_begun w.taken m.taken (begun w.taken x.0.1 (subst NoComment w.whole b.1) some),
+            (m.taken, refl, subst (λ ys. IsWord nested x.0.0 w.taken ys) m.whole w.is.0, m.is.0),
+            omega (arith, w.is.1, m.is.1),
+            ap (λ ys. total - length ys) whole,
+          );
+        } in
+        let named : Text → Command = λ s. record { place = total - length bs; source = s; words = word x.0.0 (words_of y.0) } in
+        subst (λ c. Took CommandIs bs c r) (ap named (sym source) ∙ y.2) made
+
+    command_faulty : (bs : Text) (f : Fault) → CommandGoesOn bs → command_in total nested inner bs ≡ Err f → CommandBad bs f
+    unfolding command_at
+    command_faulty bs f b h = elim (bind_err (word_at nested inner bs) (more_words bs) f h) [
+      | inl bad ↦ (faults.CommandFault.first_word ((word_exact d inner exact nested).faulty bs f b.0 bad), b.1)
+      | inr k ↦ (
+          let w = (word_exact d inner exact nested).sound bs k.0.0 k.0.1 b.0 k.1 in
+          let bad = words_faulty k.0.1 f (read_map_err (λ ws. let c : Command = record { place = total - length bs; source = taken bs k.0.1; words = word k.0.0 (words_of ws) } in c) (words_at nested inner k.0.1) f k.2) in
+          (subst (λ xs. CommandFault d nested xs f) (sym w.whole) (faults.CommandFault.later_word w.taken k.0.0 w.is.0 w.is.1 bad), b.1)
+          )
+    ]
+
+    command_again : (c : Command) (t r : Text) → CommandIs c t r → command_in total nested inner (t ++ r) ≡ Ok (c, r)
+    unfolding command_at
+    command_again c t r h = named c.source c.words h where
+      named : (source : Text) (ws : Words) → CommandIs (record { place = c.place; source = source; words = ws }) t r → command_in total nested inner (t ++ r) ≡ Ok (record { place = c.place; source = source; words = ws }, r)
+      named source no_words h = absurd h.1
+      named source (word w ws) h =
+          let rest = h.1.0 in
+          let whole : t ++ r ≡ source ++ (rest ++ r) = ap (λ xs. xs ++ r) h.1.1 ∙ append_assoc source rest r in
+          let first = (word_exact d inner exact nested).again w source (rest ++ r) (h.1.2, omega (arith, h.2)) in
+          let k = words_list ws rest r (suc (length (rest ++ r))) h.1.3 (omega (arith, h.2)) (omega arith) in
+          let at : total - length (source ++ (rest ++ r)) ≡ c.place = ap (λ ys. total - length ys) (sym whole) ∙ sym h.3 in
+          let made : ℕ → Text → Words → Read Command = λ place s ws. Ok (record { place = place; source = s; words = word w ws }, r) in
+          ap (λ (xs : Text). word_at nested inner xs >>= more_words xs) whole
+          ∙ ap (λ (x : Read Word). x >>= more_words (source ++ (rest ++ r))) first
+          ∙ ap (λ (x : Read (List Word)). read_map (λ ws. let c : Command = record { place = total - length (source ++ (rest ++ r)); source = taken (source ++ (rest ++ r)) (rest ++ r); words = word w (words_of ws) } in c) x) k.1
+          ∙ ap₂ (λ (s : Text) (ws : Words). made (total - length (source ++ (rest ++ r))) s ws) (taken_is source (rest ++ r)) k.2
+          ∙ ap (λ (n : ℕ). made n source ws) at
+
+    command_met : (bs : Text) (f : Fault) → CommandFault d nested bs f → command_in total nested inner bs ≡ Err f
+    unfolding command_at
+    command_met bs f (faults.CommandFault.first_word h) = ap (λ (x : Read Word). x >>= more_words bs) ((word_exact d inner exact nested).met bs f h)
+    command_met _ f (faults.CommandFault.later_word body w {rest = rest} h deep l) =
+        ap (λ (x : Read Word). x >>= more_words (body ++ rest)) ((word_exact d inner exact nested).again w body rest (h, deep))
+        ∙ ap (λ (x : Read (List Word)). read_map (λ ws. let c : Command = record { place = total - length (body ++ rest); source = taken (body ++ rest) rest; words = word w (words_of ws) } in c) x) (words_met l (suc (length rest)) (omega arith))
+
+    command_exact : Exact (command_in total nested inner) CommandGoesOn CommandIs CommandBad
+    command_exact = record { sound = command_sound; again = command_again; faulty = command_faulty; met = λ bs f h. command_met bs f h.0 }
+
+    -- Commands
+
+    command_goes_on : (c : Command) (t r : Text) → CommandIs c t r → CommandGoesOn (t ++ r)
+    command_goes_on c t r h = (goes c.source c.words h.1, more_begun t r h.0) where
+      goes : (source : Text) (ws : Words) → IsCommand nested source ws t r → word_ends nested (t ++ r) ≡ false
+      goes source no_words k = absurd k
+      goes source (word w ws) k = ap (word_ends nested) (ap (λ xs. xs ++ r) k.1 ∙ append_assoc source k.0 r) ∙ word_goes_on nested w source (k.0 ++ r) k.2
+
+    command_items : Items skip_gap (script_ends nested) (command_in total nested inner) IsGap CommandGoesOn CommandIs CommandBad
+    command_items = record {
+      exact = command_exact;
+      skips = λ bs. ((pass Gap bs).0, pass_whole Gap bs, (gap_taken bs).0);
+      over = λ gap start h. gap_over h;
+      begins = λ bs h. commands_begin nested (skip_gap bs) (gap_taken bs).1 h;
+      stays = λ start h. (let k = no_gap nested start h.0 h.1 in (gap_stay start k.0, k.1));
+      stops = λ r h. gap_stay r (no_gap_at_end nested r h);
+      good = command_goes_on;
+      bad = λ bs f h. (fault_goes_on h.0, h.1);
+      some = λ c t r h. front_some t r h.0;
+    }
+
+    abbrev CommandsIn : Commands → Text → Text → Type 0
+    CommandsIn s t r = (length (t ++ r) ≤ total → IsCommands (total - length r) nested s t r) × (nesting s ≤ d)
+
+    abbrev read_commands : ℕ → Text → Read (List Command)
+    read_commands n bs = items_at skip_gap (script_ends nested) (command_in total nested inner) n bs
+
+    commands_nil : (gap r : Text) → IsGap gap r → script_ends nested r ≡ true → CommandsIn (commands_of []) gap r
+    commands_nil gap r h e = ((λ fits. (h, e)), omega arith)
+
+    commands_cons : (gap body rest r : Text) (c : Command) (cs : List Command) → IsGap gap ((body ++ rest) ++ r) → CommandIs c body (rest ++ r) → CommandsIn (commands_of cs) rest r
+        → CommandsIn (commands_of (c ∷ cs)) (gap ++ (body ++ rest)) r
+    commands_cons gap body rest r c cs h k l = (
+      (λ fits.
+          let all : length ((gap ++ (body ++ rest)) ++ r) ≡ length gap + (length body + (length rest + length r)) = omega (arith, length-append (gap ++ (body ++ rest)) r, length-append gap (body ++ rest), length-append body rest) in
+          let after : length (body ++ (rest ++ r)) ≡ length body + (length rest + length r) = omega (arith, length-append body (rest ++ r), length-append rest r) in
+          record {
+            first = gap;
+            second = body ++ rest;
+            whole = refl;
+            is_first = (h, omega (arith, k.3, fits, all, after, length-append body rest));
+            is_second = record { first = body; second = rest; whole = refl; is_first = (k.0, k.1); is_second = l.0 (omega (arith, fits, all, length-append rest r)) };
+          }),
+      omega (arith, k.2, l.1),
+    )
+
+    commands_later : (gap body rest : Text) (c : Command) (f : Fault) → IsGap gap (body ++ rest) → CommandIs c body rest → CommandsFault d nested rest f → CommandsFault d nested (gap ++ (body ++ rest)) f
+    commands_later gap body rest c f h k l = faults.CommandsFault.later_command gap c.source body c.words h k.0 k.1 k.2 l
+
+  abbrev pub CommandsAre : Commands → Text → Text → Type 0
+  CommandsAre s t r = IsCommands (length t) nested s t r × (nesting s ≤ d)
+
+  size_left : (t r : Text) → length (t ++ r) - length r ≡ length t
+  size_left t r = omega (arith, length-append t r)
 
   script_sound : (bs : Text) (s : Commands) (r : Text) → Anywhere bs → script_with nested inner bs ≡ Ok (s, r) → Took CommandsAre bs s r
   unfolding script_with
   script_sound bs s r b h =
-      let x = read_map_ok commands_of (read_commands (suc (length bs)) bs) s r h in
-      let t = items_sound skip_gap (script_ends nested) (command_at nested inner) IsGap CommandGoesOn CommandIs CommandBad command_items (λ cs t r. CommandsAre (commands_of cs) t r) commands_nil commands_cons (suc (length bs)) bs x.0 r x.1 in
-      subst (λ s. Took CommandsAre bs s r) x.2 (record { taken = t.taken; whole = t.whole; is = t.is })
+      let x = read_map_ok commands_of (read_commands (length bs) (suc (length bs)) bs) s r h in
+      let t = items_sound skip_gap (script_ends nested) (command_in (length bs) nested inner) IsGap CommandGoesOn (CommandIs (length bs)) CommandBad (command_items (length bs)) (λ cs t r. CommandsIn (length bs) (commands_of cs) t r)
+      (commands_nil (length bs)) (commands_cons (length bs)) (suc (length bs)) bs x.0 r x.1
+      in
+      let long : length (t.taken ++ r) ≡ length bs = ap length (sym t.whole) in
+      let left : length bs - length r ≡ length t.taken = ap (λ n. n - length r) (sym long) ∙ size_left t.taken r in
+      let is : IsCommands (length t.taken) nested (commands_of x.0) t.taken r = subst (λ n. IsCommands n nested (commands_of x.0) t.taken r) left (t.is.0 (omega (arith, long))) in
+      subst (λ s. Took CommandsAre bs s r) x.2 (record { taken = t.taken; whole = t.whole; is = (is, t.is.1) })
 
   script_faulty : (bs : Text) (f : Fault) → Anywhere bs → script_with nested inner bs ≡ Err f → CommandsFault d nested bs f
   unfolding script_with
   script_faulty bs f b h =
-      items_faulty skip_gap (script_ends nested) (command_at nested inner) IsGap CommandGoesOn CommandIs CommandBad command_items (CommandsFault d nested) commands_here commands_later (suc (length bs)) bs f (omega arith)
-      (read_map_err commands_of (read_commands (suc (length bs)) bs) f h)
+      items_faulty skip_gap (script_ends nested) (command_in (length bs) nested inner) IsGap CommandGoesOn (CommandIs (length bs)) CommandBad (command_items (length bs)) (CommandsFault d nested) commands_here (commands_later (length bs)) (suc (length bs)) bs f (omega arith)
+      (read_map_err commands_of (read_commands (length bs) (suc (length bs)) bs) f h)
 
-  commands_list : (s : Commands) (t r : Text) (n : ℕ) → IsCommands nested s t r → nesting s ≤ d → length (t ++ r) < n → (xs : List (Text × Words)) × (read_commands n (t ++ r) ≡ Ok (xs, r)) × (commands_of xs ≡ s)
-  commands_list s t r zero h deep less = absurd (omega arith)
-  commands_list no_commands t r (suc n) h deep less = ([], items-end skip_gap (script_ends nested) (command_at nested inner) IsGap CommandGoesOn CommandIs CommandBad command_items n t r h.0 h.1, refl)
-  commands_list (command source ws cs) t r (suc n) h deep less =
+  commands_list : (total size : ℕ) (s : Commands) (t r : Text) (n : ℕ) → total ≡ size + length r → IsCommands size nested s t r → nesting s ≤ d → length (t ++ r) < n → (xs : List Command) × (read_commands total n (t ++ r) ≡ Ok (xs, r)) × (commands_of xs ≡ s)
+  commands_list total size s t r zero all h deep less = absurd (omega arith)
+  commands_list total size no_commands t r (suc n) all h deep less = ([], items-end skip_gap (script_ends nested) (command_in total nested inner) IsGap CommandGoesOn (CommandIs total) CommandBad (command_items total) n t r h.0 h.1, refl)
+  commands_list total size (command place source ws cs) t r (suc n) all h deep less =
       let gap = h.first in
       let body = h.is_second.first in
       let rest = h.is_second.second in
-      let is : CommandIs (source, ws) body (rest ++ r) = (h.is_second.is_first.0, h.is_second.is_first.1, omega (arith, deep)) in
+      let c : Command = record { place = place; source = source; words = ws } in
       let back : (body ++ rest) ++ r ≡ body ++ (rest ++ r) = append_assoc body rest r in
+      let from : length (body ++ (rest ++ r)) ≡ length h.second + length r = ap length (sym back) ∙ length-append (body ++ rest) r ∙ ap (λ ys. length ys + length r) (sym h.is_second.whole) in
+      let is : CommandIs total c body (rest ++ r) = (h.is_second.is_first.0, h.is_second.is_first.1, omega (arith, deep), omega (arith, from, all, h.is_first.1)) in
       let whole : t ++ r ≡ gap ++ (body ++ (rest ++ r)) = ap (λ xs. xs ++ r) (h.whole ∙ ap (λ xs. gap ++ xs) h.is_second.whole) ∙ append_assoc gap (body ++ rest) r ∙ ap (λ xs. gap ++ xs) back in
       let some = front_some body rest h.is_second.is_first.0 in
-      let passed : IsGap gap (body ++ (rest ++ r)) = subst (IsGap gap) (ap (λ xs. xs ++ r) h.is_second.whole ∙ back) h.is_first in
-      let k = commands_list cs rest r n h.is_second.is_second (omega (arith, deep)) (omega (arith, ap length whole, length-append gap (body ++ (rest ++ r)), length-append body (rest ++ r))) in (
-        (source, ws) ∷ k.0,
-        ap (read_commands (suc n)) whole ∙ items-more skip_gap (script_ends nested) (command_at nested inner) IsGap CommandGoesOn CommandIs CommandBad command_items n gap body (rest ++ r) (source, ws) passed is ∙ ap (read_map (λ xs. (source, ws) ∷ xs)) k.1,
-        ap (command source ws) k.2,
+      let passed : IsGap gap (body ++ (rest ++ r)) = subst (IsGap gap) (ap (λ xs. xs ++ r) h.is_second.whole ∙ back) h.is_first.0 in
+      let k = commands_list total size cs rest r n all h.is_second.is_second (omega (arith, deep)) (omega (arith, ap length whole, length-append gap (body ++ (rest ++ r)), length-append body (rest ++ r))) in (
+        c ∷ k.0,
+        ap (read_commands total (suc n)) whole ∙ items-more skip_gap (script_ends nested) (command_in total nested inner) IsGap CommandGoesOn (CommandIs total) CommandBad (command_items total) n gap body (rest ++ r) c passed is ∙ ap (read_map (λ xs. c ∷ xs)) k.1,
+        ap (command place source ws) k.2,
       )
 
   script_again : (s : Commands) (t r : Text) → CommandsAre s t r → script_with nested inner (t ++ r) ≡ Ok (s, r)
   unfolding script_with
   script_again s t r h =
-      let k = commands_list s t r (suc (length (t ++ r))) h.0 h.1 (omega arith) in
+      let k = commands_list (length (t ++ r)) (length t) s t r (suc (length (t ++ r))) (length-append t r) h.0 h.1 (omega arith) in
       ap (read_map commands_of) k.1 ∙ ap (λ s. let found : Read Commands = Ok (s, r) in found) k.2
 
-  commands_met : {bs : Text} {f : Fault} → CommandsFault d nested bs f → (n : ℕ) → length bs < n → read_commands n bs ≡ Err f
-  commands_met h zero less = absurd (omega arith)
-  commands_met (faults.CommandsFault.first_command gap {body = body} {f = f} h free k) (suc n) less =
-      items-fail skip_gap (script_ends nested) (command_at nested inner) IsGap CommandGoesOn CommandIs CommandBad command_items n gap body f h (k, free)
-  commands_met (faults.CommandsFault.later_command gap source body ws {rest = rest} {f = f} h free k deep l) (suc n) less =
+  commands_met : (total : ℕ) {bs : Text} {f : Fault} → CommandsFault d nested bs f → (n : ℕ) → length bs < n → read_commands total n bs ≡ Err f
+  commands_met total h zero less = absurd (omega arith)
+  commands_met total (faults.CommandsFault.first_command gap {body = body} {f = f} h free k) (suc n) less =
+      items-fail skip_gap (script_ends nested) (command_in total nested inner) IsGap CommandGoesOn (CommandIs total) CommandBad (command_items total) n gap body f h (k, free)
+  commands_met total (faults.CommandsFault.later_command gap source body ws {rest = rest} {f = f} h free k deep l) (suc n) less =
       let some = front_some body rest free in
-      items-more skip_gap (script_ends nested) (command_at nested inner) IsGap CommandGoesOn CommandIs CommandBad command_items n gap body rest (source, ws) h (free, k, deep)
-      ∙ ap (read_map (λ xs. (source, ws) ∷ xs)) (commands_met l n (omega (arith, length-append gap (body ++ rest), length-append body rest)))
+      let c : Command = record { place = total - length (body ++ rest); source = source; words = ws } in
+      items-more skip_gap (script_ends nested) (command_in total nested inner) IsGap CommandGoesOn (CommandIs total) CommandBad (command_items total) n gap body rest c h (free, k, deep, refl)
+      ∙ ap (read_map (λ xs. c ∷ xs)) (commands_met total l n (omega (arith, length-append gap (body ++ rest), length-append body rest)))
 
   script_met : (bs : Text) (f : Fault) → CommandsFault d nested bs f → script_with nested inner bs ≡ Err f
   unfolding script_with
-  script_met bs f h = ap (read_map commands_of) (commands_met h (suc (length bs)) (omega arith))
+  script_met bs f h = ap (read_map commands_of) (commands_met (length bs) h (suc (length bs)) (omega arith))
 
   pub script_exact : Exact (script_with nested inner) Anywhere CommandsAre (CommandsFault d nested)
   script_exact = record { sound = script_sound; again = script_again; faulty = script_faulty; met = script_met }

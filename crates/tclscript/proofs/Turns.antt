@@ -1,15 +1,15 @@
 -- The turns of the loops that read scripts, commands and parts.
-use Rattle.std.proofs.Common.{◌≡◌, ℕ, ◌<◌, ◌≤◌, List, [], ◌∷◌, ◌++◌, length, Bool, true, false, Ok, refl, sym, ap, ap₂, subst, ◌∙◌, arith}
+use Rattle.std.proofs.Common.{◌≡◌, ℕ, ◌-◌, ◌<◌, ◌≤◌, List, [], ◌∷◌, ◌++◌, length, Bool, true, false, Ok, refl, sym, ap, ap₂, subst, ◌∙◌, arith}
 use Rattle.tclchars.specs.Runs.{Text}
 use Rattle.tclchars.specs.declared.fault.ReadError.{ReadError}
 use Rattle.tclchars.specs.declared.fault.ReadError.TheVariants as errors
-use Rattle.tclchars.specs.Reading.{Fails, read_map, ◌>>=◌}
+use Rattle.tclchars.specs.Reading.{Fails, Read, read_map, ◌>>=◌}
 use Rattle.tclscript.specs.declared.context.Context.{Context}
 use Rattle.tclscript.specs.Pieces.{IsEndOf}
-use Rattle.tclscript.specs.Tree.{Words, word, Word, Part, parts_of, words_of, commands_of}
+use Rattle.tclscript.specs.Tree.{Command, word, Word, Part, parts_of, words_of, commands_of}
 use Rattle.tclscript.specs.Ends.{script_ends, command_ends, word_ends, parts_end}
 use Rattle.tclscript.specs.Passing.{skip_blanks, skip_gap}
-use Rattle.tclscript.specs.Reading.{part_at, parts_with, word_at, taken, words_at, command_at, script_with, inner_at}
+use Rattle.tclscript.specs.Reading.{part_at, parts_with, word_at, taken, words_at, command_at, command_in, script_with, inner_at}
 use Rattle.tclscript.proofs.Ends.{end_through, end_no_longer, IsBehind}
 use Rattle.tclscript.proofs.Readers.{leaves_read, part_behind, word_behind, word_leaves, command_behind, blanks_end, gap_end, inner_leaves}
 use Rattle.tclscript.proofs.Going.{word_follows, command_follows}
@@ -25,30 +25,30 @@ behind_later rest start after e b =
 module _ (nested : Bool) (d : ℕ) where
   -- Scripts
 
-  abbrev pub CommandsSoFar : Text → List (Text × Words) → Text → Type 0
-  CommandsSoFar = SoFar skip_gap (script_ends nested) (command_at nested (inner_at d))
+  abbrev pub CommandsSoFar : Text → List Command → Text → Type 0
+  CommandsSoFar bs = SoFar skip_gap (script_ends nested) (command_in (length bs) nested (inner_at d)) bs
 
-  pub script-end : (bs : Text) (found : List (Text × Words)) (rest start : Text) → start ≡ skip_gap rest → script_ends nested start ≡ true → CommandsSoFar bs found rest
+  pub script-end : (bs : Text) (found : List Command) (rest start : Text) → start ≡ skip_gap rest → script_ends nested start ≡ true → CommandsSoFar bs found rest
       → script_with nested (inner_at d) bs ≡ Ok (commands_of found, start)
   unfolding script_with
-  script-end bs found rest start is e s = ap (read_map commands_of) (so_far-end skip_gap (script_ends nested) (command_at nested (inner_at d)) bs found rest start is e s)
+  script-end bs found rest start is e s = ap (read_map commands_of) (so_far-end skip_gap (script_ends nested) (command_in (length bs) nested (inner_at d)) bs found rest start is e s)
 
-  pub script-fails : (bs : Text) (found : List (Text × Words)) (rest start : Text) (e : ReadError) → start ≡ skip_gap rest → script_ends nested start ≡ false → Fails e (command_at nested (inner_at d) start)
+  pub script-fails : (bs : Text) (found : List Command) (rest start : Text) (e : ReadError) → start ≡ skip_gap rest → script_ends nested start ≡ false → Fails e (command_in (length bs) nested (inner_at d) start)
       → CommandsSoFar bs found rest → Fails e (script_with nested (inner_at d) bs)
   unfolding script_with
   script-fails bs found rest start errors.Memory is e was s = tt
-  script-fails bs found rest start (errors.Fault f) is e was s = ap (read_map commands_of) (so_far-fail skip_gap (script_ends nested) (command_at nested (inner_at d)) bs found rest start f is e was s)
+  script-fails bs found rest start (errors.Fault f) is e was s = ap (read_map commands_of) (so_far-fail skip_gap (script_ends nested) (command_in (length bs) nested (inner_at d)) bs found rest start f is e was s)
 
-  pub script-behind : (rest start : Text) (c : Text × Words) (after : Text) → start ≡ skip_gap rest → script_ends nested start ≡ false → command_at nested (inner_at d) start ≡ Ok (c, after) → IsBehind rest after
-  script-behind rest start c after is e was =
+  pub script-behind : (place : ℕ) (rest start : Text) (c : Command) (after : Text) → start ≡ skip_gap rest → script_ends nested start ≡ false → command_at place nested (inner_at d) start ≡ Ok (c, after) → IsBehind rest after
+  script-behind place rest start c after is e was =
       behind_later rest start after (subst (IsEndOf rest) (sym is) (gap_end (inner_at d) (inner_leaves d) nested rest))
-      (leaves_read (IsBehind start) (command_at nested (inner_at d) start) c after
-      (command_behind (inner_at d) (inner_leaves d) nested start (subst (λ ys. word_ends nested ys ≡ false) (sym is) (command_follows nested rest (subst (λ ys. script_ends nested ys ≡ false) is e)))) was)
+      (leaves_read (IsBehind start) (command_at place nested (inner_at d) start) c after
+      (command_behind (inner_at d) (inner_leaves d) nested place start (subst (λ ys. word_ends nested ys ≡ false) (sym is) (command_follows nested rest (subst (λ ys. script_ends nested ys ≡ false) is e)))) was)
 
-  pub script-more : (bs : Text) (found found' : List (Text × Words)) (rest start : Text) (c : Text × Words) (after : Text) → start ≡ skip_gap rest → script_ends nested start ≡ false → command_at nested (inner_at d) start ≡ Ok (c, after)
+  pub script-more : (bs : Text) (found found' : List Command) (rest start : Text) (c : Command) (after : Text) → start ≡ skip_gap rest → script_ends nested start ≡ false → command_in (length bs) nested (inner_at d) start ≡ Ok (c, after)
       → found' ≡ found ++ c ∷ [] → CommandsSoFar bs found rest → CommandsSoFar bs found' after
   script-more bs found found' rest start c after is e was made s =
-      so_far-more skip_gap (script_ends nested) (command_at nested (inner_at d)) bs found found' rest start c after is e was (script-behind rest start c after is e was).1 made s
+      so_far-more skip_gap (script_ends nested) (command_in (length bs) nested (inner_at d)) bs found found' rest start c after is e was (script-behind (length bs - length start) rest start c after is e was).1 made s
 
   -- Commands
 
@@ -76,26 +76,26 @@ module _ (nested : Bool) (d : ℕ) where
     so_far = so_far-none skip_blanks (command_ends nested) (word_at nested (inner_at d)) rest;
   }
 
-  pub command-end : (bs source : Text) (words : List Word) (rest start : Text) → start ≡ skip_blanks rest → command_ends nested start ≡ true → WordsSoFar bs source words rest
-      → command_at nested (inner_at d) bs ≡ Ok ((source, words_of words), start)
+  pub command-end : (place : ℕ) (bs source : Text) (words : List Word) (rest start : Text) → start ≡ skip_blanks rest → command_ends nested start ≡ true → WordsSoFar bs source words rest
+      → command_at place nested (inner_at d) bs ≡ Ok (record { place = place; source = source; words = words_of words }, start)
   unfolding command_at
-  command-end bs source words rest start is e s =
-      ap (λ r. r >>= (λ w. read_map (λ ws. (taken bs w.1, word w.0 (words_of ws))) (words_at nested (inner_at d) w.1))) s.was
-      ∙ ap (read_map (λ ws. (taken bs s.behind, word s.first (words_of ws)))) (so_far-end skip_blanks (command_ends nested) (word_at nested (inner_at d)) s.behind s.found rest start is e s.so_far)
-      ∙ ap₂ (λ (t : Text) (ws : List Word). Ok ((t, words_of ws), start)) (sym s.named) (sym s.made)
+  command-end place bs source words rest start is e s =
+      ap (λ r. r >>= (λ w. read_map (λ ws. record { place = place; source = taken bs w.1; words = word w.0 (words_of ws) }) (words_at nested (inner_at d) w.1))) s.was
+      ∙ ap (read_map (λ ws. record { place = place; source = taken bs s.behind; words = word s.first (words_of ws) })) (so_far-end skip_blanks (command_ends nested) (word_at nested (inner_at d)) s.behind s.found rest start is e s.so_far)
+      ∙ ap₂ (λ (t : Text) (ws : List Word). let found : Read Command = Ok (record { place = place; source = t; words = words_of ws }, start) in found) (sym s.named) (sym s.made)
 
-  pub command-fails : (bs source : Text) (words : List Word) (rest start : Text) (e : ReadError) → start ≡ skip_blanks rest → command_ends nested start ≡ false → Fails e (word_at nested (inner_at d) start)
-      → WordsSoFar bs source words rest → Fails e (command_at nested (inner_at d) bs)
+  pub command-fails : (place : ℕ) (bs source : Text) (words : List Word) (rest start : Text) (e : ReadError) → start ≡ skip_blanks rest → command_ends nested start ≡ false → Fails e (word_at nested (inner_at d) start)
+      → WordsSoFar bs source words rest → Fails e (command_at place nested (inner_at d) bs)
   unfolding command_at
-  command-fails bs source words rest start errors.Memory is e was s = tt
-  command-fails bs source words rest start (errors.Fault f) is e was s =
-      ap (λ r. r >>= (λ w. read_map (λ ws. (taken bs w.1, word w.0 (words_of ws))) (words_at nested (inner_at d) w.1))) s.was
-      ∙ ap (read_map (λ ws. (taken bs s.behind, word s.first (words_of ws)))) (so_far-fail skip_blanks (command_ends nested) (word_at nested (inner_at d)) s.behind s.found rest start f is e was s.so_far)
+  command-fails place bs source words rest start errors.Memory is e was s = tt
+  command-fails place bs source words rest start (errors.Fault f) is e was s =
+      ap (λ r. r >>= (λ w. read_map (λ ws. record { place = place; source = taken bs w.1; words = word w.0 (words_of ws) }) (words_at nested (inner_at d) w.1))) s.was
+      ∙ ap (read_map (λ ws. record { place = place; source = taken bs s.behind; words = word s.first (words_of ws) })) (so_far-fail skip_blanks (command_ends nested) (word_at nested (inner_at d)) s.behind s.found rest start f is e was s.so_far)
 
-  pub first-fails : (bs : Text) (e : ReadError) → Fails e (word_at nested (inner_at d) bs) → Fails e (command_at nested (inner_at d) bs)
+  pub first-fails : (place : ℕ) (bs : Text) (e : ReadError) → Fails e (word_at nested (inner_at d) bs) → Fails e (command_at place nested (inner_at d) bs)
   unfolding command_at
-  first-fails bs errors.Memory was = tt
-  first-fails bs (errors.Fault f) was = ap (λ r. r >>= (λ w. read_map (λ ws. (taken bs w.1, word w.0 (words_of ws))) (words_at nested (inner_at d) w.1))) was
+  first-fails place bs errors.Memory was = tt
+  first-fails place bs (errors.Fault f) was = ap (λ r. r >>= (λ w. read_map (λ ws. record { place = place; source = taken bs w.1; words = word w.0 (words_of ws) }) (words_at nested (inner_at d) w.1))) was
 
   pub first-end : (bs : Text) (w : Word) (rest : Text) → word_at nested (inner_at d) bs ≡ Ok (w, rest) → IsEndOf bs rest
   first-end bs w rest was = leaves_read (IsEndOf bs) (word_at nested (inner_at d) bs) w rest (word_leaves (inner_at d) (inner_leaves d) nested bs) was

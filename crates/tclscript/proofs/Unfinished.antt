@@ -1,5 +1,5 @@
 -- What stands at the end of a text goes on before what closes.
-use Rattle.std.proofs.Common.{◌≡◌, ◌≢◌, ℕ, zero, suc, ◌<◌, [], ◌∷◌, ◌++◌, length, Bool, true, false, not, ◌||◌, ◌==◌, Option, Some, None, refl, sym, ap, subst, ◌∙◌, arith, append_assoc, append-nil, ◌⊎◌, inl, inr}
+use Rattle.std.proofs.Common.{◌≡◌, ◌≢◌, ℕ, zero, suc, ◌<◌, ◌+◌, [], ◌∷◌, ◌++◌, length, Bool, true, false, not, ◌||◌, ◌==◌, Option, Some, None, refl, sym, ap, subst, ◌∙◌, arith, append_assoc, append-nil, length-append, ◌⊎◌, inl, inr}
 use Rattle.std.proofs.lemmas.Bool.Decides.{nat_tests}
 use Rattle.tclchars.specs.Runs.{Text, begins}
 use Rattle.tclchars.specs.Bytes.{newline, hash, backslash, is_gap, DoesBegin}
@@ -120,7 +120,7 @@ part_finish c (variable name) t goes (inl h) = part_as_is c (variable name) t go
 part_finish c (variable name) t goes (inr h) = part_as_is c (variable name) t goes (part_some c (variable name) t [] (inr h)) (λ r. inr h)
 part_finish c (indexed name ps) t goes h =
     part_as_is c (indexed name ps) t goes (part_some c (indexed name ps) t [] h) (λ r. (h.0, h.1, h.2, parts-like InIndex ps h.0 (41 ∷ []) [] (closer c ∷ r) (refl, refl) h.3))
-part_finish c (bracket s) t goes h = part_as_is c (bracket s) t goes (part_some c (bracket s) t [] h) (λ r. (h.0, h.1, commands-like true s h.0 (93 ∷ []) [] (closer c ∷ r) (refl, refl) h.2))
+part_finish c (bracket s) t goes h = part_as_is c (bracket s) t goes (part_some c (bracket s) t [] h) (λ r. (h.0, h.1, commands-like (length h.0) true s h.0 (93 ∷ []) [] (closer c ∷ r) (refl, refl) h.2))
 
 no_front : (x y : Text) → [] ≡ x ++ y → x ≡ []
 no_front [] y h = refl
@@ -332,9 +332,9 @@ gap_finish (grammar.IsGap.open_escape {inside} h) = record {
       (grammar.IsGap.comment (comment_append h (grammar.IsComment.escaped grammar.IsComment.nothing)) grammar.IsGap.nothing);
 }
 
-none_commands : (s : Commands) (r : Text) → IsCommands true s [] r → s ≡ no_commands
-none_commands no_commands r h = refl
-none_commands (command source ws cs) r h =
+none_commands : (size : ℕ) (s : Commands) (r : Text) → IsCommands size true s [] r → s ≡ no_commands
+none_commands size no_commands r h = refl
+none_commands size (command place source ws cs) r h =
     let more : h.second ≡ [] = second_none h.first h.second h.whole in
     absurd (begun h.is_second.first (no_front h.is_second.first h.is_second.second (sym more ∙ h.is_second.whole)) h.is_second.is_first.0) where
       second_none : (x y : Text) → [] ≡ x ++ y → y ≡ []
@@ -348,66 +348,81 @@ body_some : (p : ℕ → Bool) (t : Text) → DoesBegin p t → t ≢ []
 body_some p [] h = absurd h
 body_some p (b ∷ t) h = λ e. cc
 
-pub commands_finish : (s : Commands) (t : Text) → IsCommands true s t [] → Finished (λ s t r. IsCommands true s t r) 93 t
-commands_finish no_commands t h = (let m = gap_finish h.0 in record { more = m.more; value = no_commands; like = λ r some. m.like (m.more ++ 93 ∷ r) some; is = λ r. (m.is r, refl) })
-commands_finish (command source ws cs) t h = go h (commands_finish cs h.is_second.second h.is_second.is_second) (empty_or h.is_second.second) where
-  go : (h : IsCommands true (command source ws cs) t []) → Finished (λ s t r. IsCommands true s t r) 93 h.is_second.second → (h.is_second.second ≡ []) ⊎ (h.is_second.second ≢ []) → Finished (λ s t r. IsCommands true s t r) 93 t
-  go h m (inl none) =
-      let body = h.is_second.first in
-      let gap = h.first in
-      let free = h.is_second.is_first.0 in
-      let f = command_finish source ws body (subst (λ ys. IsCommand true source ws body (ys ++ [])) none h.is_second.is_first.1) in
-      let same : t ≡ gap ++ body = h.whole ∙ ap (λ ys. gap ++ ys) (h.is_second.whole ∙ ap (λ ys. body ++ ys) none ∙ append-nil body) in
-      let some = body_some (λ b. not (b == hash)) body free in
-      let before : h.second ++ [] ≢ [] = subst (λ ys. ys ≢ []) (sym (append-nil h.second ∙ h.is_second.whole ∙ ap (λ ys. body ++ ys) none ∙ append-nil body)) some in
-      record {
-        more = f.more;
-        value = command f.value.0 f.value.1 no_commands;
-        like = λ r _. subst (λ ys. Like ys [] (f.more ++ 93 ∷ r)) (sym same) (like_before gap body [] (f.more ++ 93 ∷ r) (f.like r some));
-        is = λ r.
-            record {
-              first = gap;
-              second = body ++ f.more;
-              whole = ap (λ ys. ys ++ f.more) same ∙ append_assoc gap body f.more;
-              is_first = gap-any h.is_first before ((body ++ f.more) ++ 93 ∷ r);
-              is_second = record {
-                first = body ++ f.more;
-                second = [];
-                whole = sym (append-nil (body ++ f.more));
-                is_first = (still_begins (λ b. not (b == hash)) body f.more free, f.is r);
-                is_second = (grammar.IsGap.nothing, refl);
-              };
-            };
-      }
-  go h m (inr some) =
-      let body = h.is_second.first in
-      let gap = h.first in
-      let rest = h.is_second.second in
-      let free = h.is_second.is_first.0 in
-      let same : t ≡ (gap ++ body) ++ rest = h.whole ∙ ap (λ ys. gap ++ ys) h.is_second.whole ∙ sym (append_assoc gap body rest) in
-      let before : h.second ++ [] ≢ [] = subst (λ ys. ys ≢ []) (sym (append-nil h.second ∙ h.is_second.whole)) (body_some (λ b. not (b == hash)) (body ++ rest) (still_begins (λ b. not (b == hash)) body rest free)) in
-      record {
-        more = m.more;
-        value = command source ws m.value;
-        like = λ r _. subst (λ ys. Like ys [] (m.more ++ 93 ∷ r)) (sym same) (like_before (gap ++ body) rest [] (m.more ++ 93 ∷ r) (m.like r some));
-        is = λ r.
-            record {
-              first = gap;
-              second = body ++ (rest ++ m.more);
-              whole = ap (λ ys. ys ++ m.more) same ∙ append_assoc (gap ++ body) rest m.more ∙ append_assoc gap body (rest ++ m.more);
-              is_first = gap-any h.is_first before ((body ++ (rest ++ m.more)) ++ 93 ∷ r);
-              is_second = record {
-                first = body;
-                second = rest ++ m.more;
-                whole = refl;
-                is_first = (
-                  free,
-                  subst (λ ys. IsCommand true source ws body ys) (sym (append_assoc rest m.more (93 ∷ r))) (command-like true source ws body rest [] (m.more ++ 93 ∷ r) (m.like r some) h.is_second.is_first.1),
-                );
-                is_second = m.is r;
-              };
-            };
-      }
+-- commands behind so many bytes of their script
+abbrev pub CommandsFrom : ℕ → Bool → Commands → Text → Text → Type 0
+CommandsFrom at nested s t r = (size : ℕ) → size ≡ at + length t → IsCommands size nested s t r
+
+pub commands_finish : (size at : ℕ) (s : Commands) (t : Text) → size ≡ at + length t → IsCommands size true s t [] → Finished (CommandsFrom at true) 93 t
+commands_finish size at no_commands t long h = (let m = gap_finish h.0 in record { more = m.more; value = no_commands; like = λ r some. m.like (m.more ++ 93 ∷ r) some; is = λ r new e. (m.is r, refl) })
+commands_finish size at (command place source ws cs) t long h =
+    go h (commands_finish size (at + (length h.first + length h.is_second.first)) cs h.is_second.second (omega (arith, long, parts_long h)) h.is_second.is_second) (empty_or h.is_second.second) where
+      parts_long : (h : IsCommands size true (command place source ws cs) t []) → length t ≡ length h.first + (length h.is_second.first + length h.is_second.second)
+      parts_long h = omega (arith, ap length h.whole, length-append h.first h.second, ap length h.is_second.whole, length-append h.is_second.first h.is_second.second)
+
+      go : (h : IsCommands size true (command place source ws cs) t []) → Finished (CommandsFrom (at + (length h.first + length h.is_second.first)) true) 93 h.is_second.second → (h.is_second.second ≡ []) ⊎ (h.is_second.second ≢ [])
+          → Finished (CommandsFrom at true) 93 t
+      go h m (inl none) =
+          let body = h.is_second.first in
+          let gap = h.first in
+          let free = h.is_second.is_first.0 in
+          let f = command_finish source ws body (subst (λ ys. IsCommand true source ws body (ys ++ [])) none h.is_second.is_first.1) in
+          let same : t ≡ gap ++ body = h.whole ∙ ap (λ ys. gap ++ ys) (h.is_second.whole ∙ ap (λ ys. body ++ ys) none ∙ append-nil body) in
+          let some = body_some (λ b. not (b == hash)) body free in
+          let before : h.second ++ [] ≢ [] = subst (λ ys. ys ≢ []) (sym (append-nil h.second ∙ h.is_second.whole ∙ ap (λ ys. body ++ ys) none ∙ append-nil body)) some in
+          record {
+            more = f.more;
+            value = command place f.value.0 f.value.1 no_commands;
+            like = λ r _. subst (λ ys. Like ys [] (f.more ++ 93 ∷ r)) (sym same) (like_before gap body [] (f.more ++ 93 ∷ r) (f.like r some));
+            is = λ r new e.
+                record {
+                  first = gap;
+                  second = body ++ f.more;
+                  whole = ap (λ ys. ys ++ f.more) same ∙ append_assoc gap body f.more;
+                  is_first = (
+                    gap-any h.is_first.0 before ((body ++ f.more) ++ 93 ∷ r),
+                    omega (arith, e, long, h.is_first.1, ap length h.whole, length-append gap h.second, ap length same, length-append gap body, length-append t f.more, length-append body f.more),
+                  );
+                  is_second = record {
+                    first = body ++ f.more;
+                    second = [];
+                    whole = sym (append-nil (body ++ f.more));
+                    is_first = (still_begins (λ b. not (b == hash)) body f.more free, f.is r);
+                    is_second = (grammar.IsGap.nothing, refl);
+                  };
+                };
+          }
+      go h m (inr some) =
+          let body = h.is_second.first in
+          let gap = h.first in
+          let rest = h.is_second.second in
+          let free = h.is_second.is_first.0 in
+          let same : t ≡ (gap ++ body) ++ rest = h.whole ∙ ap (λ ys. gap ++ ys) h.is_second.whole ∙ sym (append_assoc gap body rest) in
+          let before : h.second ++ [] ≢ [] = subst (λ ys. ys ≢ []) (sym (append-nil h.second ∙ h.is_second.whole)) (body_some (λ b. not (b == hash)) (body ++ rest) (still_begins (λ b. not (b == hash)) body rest free)) in
+          record {
+            more = m.more;
+            value = command place source ws m.value;
+            like = λ r _. subst (λ ys. Like ys [] (m.more ++ 93 ∷ r)) (sym same) (like_before (gap ++ body) rest [] (m.more ++ 93 ∷ r) (m.like r some));
+            is = λ r new e.
+                record {
+                  first = gap;
+                  second = body ++ (rest ++ m.more);
+                  whole = ap (λ ys. ys ++ m.more) same ∙ append_assoc (gap ++ body) rest m.more ∙ append_assoc gap body (rest ++ m.more);
+                  is_first = (
+                    gap-any h.is_first.0 before ((body ++ (rest ++ m.more)) ++ 93 ∷ r),
+                    omega (arith, e, long, h.is_first.1, parts_long h, ap length h.is_second.whole, length-append body rest, length-append t m.more, length-append body (rest ++ m.more), length-append rest m.more),
+                  );
+                  is_second = record {
+                    first = body;
+                    second = rest ++ m.more;
+                    whole = refl;
+                    is_first = (
+                      free,
+                      subst (λ ys. IsCommand true source ws body ys) (sym (append_assoc rest m.more (93 ∷ r))) (command-like true source ws body rest [] (m.more ++ 93 ∷ r) (m.like r some) h.is_second.is_first.1),
+                    );
+                    is_second = m.is r new (omega (arith, e, parts_long h, length-append t m.more, length-append rest m.more));
+                  };
+                };
+          }
 
 -- Braces
 

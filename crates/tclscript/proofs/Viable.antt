@@ -1,5 +1,5 @@
 -- Up to what offends, a text goes on to a script.
-use Rattle.std.proofs.Common.{◌≡◌, ◌≢◌, ℕ, suc, [], ◌∷◌, ◌++◌, length, Bool, true, false, not, ◌||◌, ◌==◌, Some, None, refl, sym, ap, subst, ◌∙◌, arith, append_assoc, append-nil, length-append, ◌⊎◌, inl, inr}
+use Rattle.std.proofs.Common.{◌≡◌, ◌≢◌, ℕ, suc, ◌+◌, [], ◌∷◌, ◌++◌, length, Bool, true, false, not, ◌||◌, ◌==◌, Some, None, refl, sym, ap, subst, ◌∙◌, arith, append_assoc, append-nil, length-append, ◌⊎◌, inl, inr}
 use Rattle.std.proofs.lemmas.Bool.Decides.{nat_tests}
 use Rattle.tclchars.specs.Runs.{Text, begins}
 use Rattle.tclchars.specs.Bytes.{newline, hash, AllPass, DoesBegin}
@@ -25,7 +25,7 @@ use Rattle.tclscript.proofs.PassedOver.{is_no_byte}
 use Rattle.tclscript.proofs.PartsExact.{part_byte, backslash_goes_on}
 use Rattle.tclscript.proofs.WordsExact.{bare_end, plain_goes_on, none_found}
 use Rattle.tclscript.proofs.Offending.{long_firm, same_cut, parts_before_quote}
-use Rattle.tclscript.proofs.Unfinished.{parts_finish, commands_finish, brace_finish}
+use Rattle.tclscript.proofs.Unfinished.{CommandsFrom, parts_finish, commands_finish, brace_finish}
 use Rattle.tclscript.proofs.Prefixes.{escape_letter}
 
 -- what is kept is all that is left, where a mark is open
@@ -112,8 +112,8 @@ no_newline b r (inr e) = rw e refl
 
 -- what is completed
 
-abbrev pub CommandsTo : Bool → Text → Fault → Type 0
-CommandsTo nested bs fault = Completes (λ r. script_ends nested r ≡ true) (λ s t r. IsCommands nested s t r) bs fault
+abbrev pub CommandsTo : ℕ → Bool → Text → Fault → Type 0
+CommandsTo at nested bs fault = Completes (λ r. script_ends nested r ≡ true) (CommandsFrom at nested) bs fault
 
 abbrev pub CommandTo : Bool → Text → Fault → Type 0
 CommandTo nested bs fault = Completes (λ r. command_ends nested r ≡ true) (λ (c : Text × Words) t r. IsCommand nested c.0 c.1 t r) bs fault
@@ -133,15 +133,15 @@ PartsTo c bs fault = Completes (λ r. parts_end c r ≡ true) (λ ps t r. IsPart
 abbrev pub PartTo : Context → Text → Fault → Type 0
 PartTo c bs fault = Completes (λ r. parts_end c r ≡ true) (λ q t r. (parts_end c (t ++ r) ≡ false) × IsPart c q t r) bs fault
 
-first_command_to : (nested : Bool) (gap body : Text) (fault : Fault) → IsGap gap body → DoesBegin (λ b. not (b == hash)) body → CommandTo nested body fault → CommandsTo nested (gap ++ body) fault
-first_command_to nested gap body fault h free m =
-    behind (λ r. command_ends nested r ≡ true) (λ r. script_ends nested r ≡ true) (λ (c : Text × Words) t r. IsCommand nested c.0 c.1 t r) (λ s t r. IsCommands nested s t r) (λ c u. command c.0 c.1 no_commands) gap body fault
-    (λ v p s t firm same is after ends.
+first_command_to : (at : ℕ) (nested : Bool) (gap body : Text) (fault : Fault) → IsGap gap body → DoesBegin (λ b. not (b == hash)) body → CommandTo nested body fault → CommandsTo at nested (gap ++ body) fault
+first_command_to at nested gap body fault h free m =
+    behind (λ r. command_ends nested r ≡ true) (λ r. script_ends nested r ≡ true) (λ (c : Text × Words) t r. IsCommand nested c.0 c.1 t r) (CommandsFrom at nested) (λ c u. command (at + length gap) c.0 c.1 no_commands) gap body fault
+    (λ v p s t firm same is after ends size e.
     record {
       first = gap;
       second = p ++ t;
       whole = refl;
-      is_first = gap-any h (subst (λ ys. ys ≢ []) (sym same) (firm_some p s firm)) ((p ++ t) ++ after);
+      is_first = (gap-any h (subst (λ ys. ys ≢ []) (sym same) (firm_some p s firm)) ((p ++ t) ++ after), omega (arith, e, length-append gap (p ++ t)));
       is_second = record {
         first = p ++ t;
         second = [];
@@ -152,17 +152,20 @@ first_command_to nested gap body fault h free m =
     })
     m
 
-later_command_to : (nested : Bool) (gap source body : Text) (ws : Words) (rest : Text) (fault : Fault) → IsGap gap (body ++ rest) → DoesBegin (λ b. not (b == hash)) body → IsCommand nested source ws body rest → CommandsTo nested rest fault
-    → CommandsTo nested (gap ++ (body ++ rest)) fault
-later_command_to nested gap source body ws rest fault h free k m =
-    subst (λ ys. CommandsTo nested ys fault) (append_assoc gap body rest)
-    (behind (λ r. script_ends nested r ≡ true) (λ r. script_ends nested r ≡ true) (λ s t r. IsCommands nested s t r) (λ s t r. IsCommands nested s t r) (λ cs u. command source ws cs) (gap ++ body) rest fault
-    (λ v p s t firm same is after ends.
+later_command_to : (at : ℕ) (nested : Bool) (gap source body : Text) (ws : Words) (rest : Text) (fault : Fault) → IsGap gap (body ++ rest) → DoesBegin (λ b. not (b == hash)) body → IsCommand nested source ws body rest
+    → CommandsTo (at + (length gap + length body)) nested rest fault → CommandsTo at nested (gap ++ (body ++ rest)) fault
+later_command_to at nested gap source body ws rest fault h free k m =
+    subst (λ ys. CommandsTo at nested ys fault) (append_assoc gap body rest)
+    (behind (λ r. script_ends nested r ≡ true) (λ r. script_ends nested r ≡ true) (CommandsFrom (at + (length gap + length body)) nested) (CommandsFrom at nested) (λ cs u. command (at + length gap) source ws cs) (gap ++ body) rest fault
+    (λ v p s t firm same is after ends size e.
     record {
       first = gap;
       second = body ++ (p ++ t);
       whole = append_assoc gap body (p ++ t);
-      is_first = gap-any h (subst (λ ys. ys ≢ []) (append_assoc body p s ∙ ap (λ ys. body ++ ys) (sym same)) (firm_some (body ++ p) s (firm_before body p firm))) ((body ++ (p ++ t)) ++ after);
+      is_first = (
+        gap-any h (subst (λ ys. ys ≢ []) (append_assoc body p s ∙ ap (λ ys. body ++ ys) (sym same)) (firm_some (body ++ p) s (firm_before body p firm))) ((body ++ (p ++ t)) ++ after),
+        omega (arith, e, length-append (gap ++ body) (p ++ t), length-append gap body, length-append body (p ++ t)),
+      );
       is_second = record {
         first = body;
         second = p ++ t;
@@ -171,7 +174,7 @@ later_command_to nested gap source body ws rest fault h free k m =
           free,
           subst (λ ys. IsCommand nested source ws body ys) (sym (append_assoc p t after)) (command-firm nested source ws body p s (t ++ after) firm (subst (λ ys. IsCommand nested source ws body ys) same k)),
         );
-        is_second = is after ends;
+        is_second = is after ends size (omega (arith, e, length-append (gap ++ body) (p ++ t), length-append gap body));
       };
     })
     m)
@@ -299,10 +302,10 @@ later_part_to c body q rest fault goes h m =
     })
     m
 
-bracket_to : (c : Context) (bs : Text) (fault : Fault) → CommandsTo true bs fault → PartTo c (91 ∷ bs) fault
+bracket_to : (c : Context) (bs : Text) (fault : Fault) → CommandsTo 0 true bs fault → PartTo c (91 ∷ bs) fault
 bracket_to c bs fault m =
-    between (λ r. script_ends true r ≡ true) (λ r. parts_end c r ≡ true) (λ s t r. IsCommands true s t r) (λ q t r. (parts_end c (t ++ r) ≡ false) × IsPart c q t r) (λ s u. bracket s) (91 ∷ []) (93 ∷ []) bs fault
-    (λ v p s t firm same is after ends. (part_byte c 91 (((p ++ t) ++ 93 ∷ []) ++ after) (inr refl), (p ++ t, refl, is (93 ∷ after) refl))) m
+    between (λ r. script_ends true r ≡ true) (λ r. parts_end c r ≡ true) (CommandsFrom 0 true) (λ q t r. (parts_end c (t ++ r) ≡ false) × IsPart c q t r) (λ s u. bracket s) (91 ∷ []) (93 ∷ []) bs fault
+    (λ v p s t firm same is after ends. (part_byte c 91 (((p ++ t) ++ 93 ∷ []) ++ after) (inr refl), (p ++ t, refl, is (93 ∷ after) refl (length (p ++ t)) (omega arith)))) m
 
 index_to : (c : Context) (name bs : Text) (fault : Fault) → IsName name → PartsTo InIndex bs fault → PartTo c (36 ∷ (name ++ 40 ∷ bs)) fault
 index_to c name bs fault h m =
@@ -392,9 +395,9 @@ open_name_to c bs h = record {
   is = λ after ends. (part_byte c 36 ((123 ∷ (bs ++ 125 ∷ [])) ++ after) (inl refl), inr (refl, h));
 }
 
-open_bracket_to : (c : Context) (bs : Text) (s : Commands) → IsCommands true s bs [] → PartTo c (91 ∷ bs) (OpenBracket (suc (length bs)))
+open_bracket_to : (c : Context) (bs : Text) (s : Commands) → IsCommands (length bs) true s bs [] → PartTo c (91 ∷ bs) (OpenBracket (suc (length bs)))
 open_bracket_to c bs s h =
-    let m = commands_finish s bs h in
+    let m = commands_finish (length bs) 0 s bs (omega arith) h in
     record {
       value = bracket m.value;
       before = [];
@@ -407,7 +410,7 @@ open_bracket_to c bs s h =
       firm = mark_firm 91 bs refl refl;
       is = λ after ends. (
         part_byte c 91 ((bs ++ (m.more ++ 93 ∷ [])) ++ after) (inr refl),
-        (bs ++ m.more, ap (λ ys. 91 ∷ ys) (sym (append_assoc bs m.more (93 ∷ []))), m.is after),
+        (bs ++ m.more, ap (λ ys. 91 ∷ ys) (sym (append_assoc bs m.more (93 ∷ []))), m.is after (length (bs ++ m.more)) (omega arith)),
       );
     }
 
@@ -431,9 +434,10 @@ open_index_to c name bs ps h k =
     }
 
 mutual
-  pub commands_viable : {d : ℕ} {nested : Bool} {bs : Text} {f : Fault} → CommandsFault d nested bs f → f ≢ TooDeep → CommandsTo nested bs f
-  commands_viable (faults.CommandsFault.first_command {d} {nested} gap {body} {f} h free k) some = first_command_to nested gap body f h free (command_viable k some)
-  commands_viable (faults.CommandsFault.later_command {d} {nested} gap source body ws {rest} {f} h free k deep l) some = later_command_to nested gap source body ws rest f h free k (commands_viable l some)
+  pub commands_viable : {d : ℕ} {nested : Bool} {bs : Text} {f : Fault} → CommandsFault d nested bs f → (at : ℕ) → f ≢ TooDeep → CommandsTo at nested bs f
+  commands_viable (faults.CommandsFault.first_command {d} {nested} gap {body} {f} h free k) at some = first_command_to at nested gap body f h free (command_viable k some)
+  commands_viable (faults.CommandsFault.later_command {d} {nested} gap source body ws {rest} {f} h free k deep l) at some =
+      later_command_to at nested gap source body ws rest f h free k (commands_viable l (at + (length gap + length body)) some)
 
   command_viable : {d : ℕ} {nested : Bool} {bs : Text} {f : Fault} → CommandFault d nested bs f → f ≢ TooDeep → CommandTo nested bs f
   command_viable (faults.CommandFault.first_word {d} {nested} {bs} {f} h) some = first_word_to nested bs f (word_viable h some)
@@ -463,7 +467,7 @@ mutual
   part_viable (faults.PartFault.open_name {d} {bs} h) c some = open_name_to c bs h
   part_viable (faults.PartFault.bad_character {d} {bs} begun h) c some = bad_escape_to c bs begun h
   part_viable faults.PartFault.bracket_too_deep c some = absurd (some refl)
-  part_viable (faults.PartFault.in_bracket {d} {bs} {f} h) c some = bracket_to c bs f (commands_viable h some)
+  part_viable (faults.PartFault.in_bracket {d} {bs} {f} h) c some = bracket_to c bs f (commands_viable h 0 some)
   part_viable (faults.PartFault.open_bracket {d} {bs} s h less) c some = open_bracket_to c bs s h
   part_viable (faults.PartFault.index_too_deep name bs h) c some = absurd (some refl)
   part_viable (faults.PartFault.in_index {d} name bs {f} h k) c some = index_to c name bs f h (parts_viable k some)
@@ -472,21 +476,21 @@ mutual
 -- Up to its mark, a text with a fault goes on to a script.
 pub before_mark : (d : ℕ) (before rest : Text) (f : Fault) → IsFault d (before ++ rest) f → f ≢ TooDeep → left_of f ≡ length rest → GoesOn before
 before_mark d before rest f h some long =
-    let m = commands_viable h some in
+    let m = commands_viable h 0 some in
     let cut = same_cut before rest m.before (m.keep ++ m.rest) m.whole (sym (m.long ∙ long)) in
-    (m.keep ++ m.more, m.value, subst (λ ys. IsScript (ys ++ (m.keep ++ m.more)) m.value) (sym cut.0) (m.is [] refl))
+    (m.keep ++ m.more, m.value, subst (λ ys. IsScript (ys ++ (m.keep ++ m.more)) m.value) (sym cut.0) (m.is [] refl (length (m.before ++ (m.keep ++ m.more))) (omega arith)))
 
 -- Where a mark is open, the whole text does.
-whole_text : (d : ℕ) (bs : Text) (f : Fault) → (h : IsFault d bs f) (some : f ≢ TooDeep) → (commands_viable h some).rest ≡ [] → GoesOn bs
+whole_text : (d : ℕ) (bs : Text) (f : Fault) → (h : IsFault d bs f) (some : f ≢ TooDeep) → (commands_viable h 0 some).rest ≡ [] → GoesOn bs
 whole_text d bs f h some none =
-    let m = commands_viable h some in
+    let m = commands_viable h 0 some in
     let whole : bs ≡ m.before ++ m.keep = m.whole ∙ ap (λ ys. m.before ++ ys) (ap (λ ys. m.keep ++ ys) none ∙ append-nil m.keep) in
-    (m.more, m.value, subst (λ ys. IsScript ys m.value) (sym (append_assoc m.before m.keep m.more) ∙ ap (λ ys. ys ++ m.more) (sym whole)) (m.is [] refl))
+    (m.more, m.value, subst (λ ys. IsScript ys m.value) (sym (append_assoc m.before m.keep m.more) ∙ ap (λ ys. ys ++ m.more) (sym whole)) (m.is [] refl (length (m.before ++ (m.keep ++ m.more))) (omega arith)))
 
 pub open_mark : (d : ℕ) (bs : Text) (f : Fault) → IsFault d bs f → IsOpenMark f → GoesOn bs
-open_mark d bs (OpenBrace n) h is = whole_text d bs (OpenBrace n) h (λ e. cc) (commands_viable h (λ e. cc)).all
-open_mark d bs (OpenQuote n) h is = whole_text d bs (OpenQuote n) h (λ e. cc) (commands_viable h (λ e. cc)).all
-open_mark d bs (OpenBracket n) h is = whole_text d bs (OpenBracket n) h (λ e. cc) (commands_viable h (λ e. cc)).all
+open_mark d bs (OpenBrace n) h is = whole_text d bs (OpenBrace n) h (λ e. cc) (commands_viable h 0 (λ e. cc)).all
+open_mark d bs (OpenQuote n) h is = whole_text d bs (OpenQuote n) h (λ e. cc) (commands_viable h 0 (λ e. cc)).all
+open_mark d bs (OpenBracket n) h is = whole_text d bs (OpenBracket n) h (λ e. cc) (commands_viable h 0 (λ e. cc)).all
 open_mark d bs (JoinedToClose n) h is = absurd is
 open_mark d bs (BadCharacter n) h is = absurd is
 open_mark d bs (BadExpression n) h is = absurd is
@@ -495,6 +499,6 @@ open_mark d bs TooDeep h is = absurd is
 pub open_index : (d : ℕ) (before rest : Text) → IsFault d (before ++ 40 ∷ rest) (BadCharacter (suc (length rest))) → GoesOn (before ++ 40 ∷ rest)
 open_index d before rest h =
     let some : BadCharacter (suc (length rest)) ≢ TooDeep = λ e. cc in
-    let m = commands_viable h some in
+    let m = commands_viable h 0 some in
     let cut = same_cut before (40 ∷ rest) m.before (m.keep ++ m.rest) m.whole (sym m.long) in
     whole_text d (before ++ 40 ∷ rest) (BadCharacter (suc (length rest))) h some (m.all (ap (begins 40) (sym cut.1)))

@@ -9,6 +9,7 @@ use Rattle.tclchars.proofs.BraceClose.{close_sound, found_close}
 use Rattle.tclchars.specs.Reading.{◌>>=◌, Read, read_map}
 use Rattle.tclchars.specs.declared.fault.Fault.{Fault}
 use Rattle.tclchars.specs.declared.fault.Fault.TheVariants.{OpenBrace, OpenQuote, JoinedToClose}
+use Rattle.tclchars.proofs.Results.{bind_err, bind_ok, err_ok, ok_err, ok_pair, read_map_err, read_map_ok}
 use Rattle.tclscript.specs.declared.context.Context.{Context}
 use Rattle.tclscript.specs.declared.context.Context.TheVariants.{InQuotes}
 use Rattle.tclscript.specs.Tree.{Word, word_of, Parts, no_parts, part, braced, parts_nesting, word_nesting}
@@ -16,8 +17,8 @@ use Rattle.tclscript.specs.Ends.{word_ends, parts_end, bare}
 use Rattle.tclscript.specs.Grammar.{IsPlainWord, IsParts, IsWord}
 use Rattle.tclscript.specs.Faults as faults
 use Rattle.tclscript.specs.Faults.{NeverCloses, Expands, PartsFault, PlainFault, WordFault}
-use Rattle.tclscript.specs.Reading.{Inner, on_mark, closed, ended, parts_with, in_braces, braced_word_at, quoted_word_at, plain_word_at, unless_word_ends, after_expansion, word_from, word_at}
-use Rattle.tclscript.proofs.Exact.{Took, Exact, bind_ok, bind_err, ok_pair, read_map_ok, read_map_err, ok_err, err_ok}
+use Rattle.tclscript.specs.Reading.{Inner, on_mark, closed, ended, parts_with, word_in_braces, braced_word_at, quoted_word_at, plain_word_at, unless_word_ends, after_expansion, word_from, word_at}
+use Rattle.tclscript.proofs.Exact.{Took, Exact}
 use Rattle.tclscript.proofs.Marks.{true_false, Without, mark_at, on_mark-not, closed_ok, closed_err, closed-at, none_before, ended_ok, ended_err, ended-at, ended-not}
 use Rattle.tclscript.proofs.Dollars.{IsExactInner, parts_close}
 use Rattle.tclscript.proofs.PartsExact.{faulty_goes_on}
@@ -44,7 +45,7 @@ apart_bools h k = true_false (sym k ∙ h)
 close_braced : Bool → Text → Text → Read Parts
 close_braced nested inside r = ended nested r >>= (λ rest. Ok (part (braced inside) no_parts, rest))
 
-braced_found : (nested : Bool) (left : ℕ) (found : Option (Text × Text)) (ps : Parts) (r : Text) → in_braces nested left found ≡ Ok (ps, r)
+braced_found : (nested : Bool) (left : ℕ) (found : Option (Text × Text)) (ps : Parts) (r : Text) → word_in_braces nested left found ≡ Ok (ps, r)
     → (inside : Text) × (found ≡ Some (inside, r)) × (part (braced inside) no_parts ≡ ps) × (word_ends nested r ≡ true)
 braced_found nested left None ps r h = cc
 braced_found nested left (Some p) ps r h =
@@ -53,7 +54,7 @@ braced_found nested left (Some p) ps r h =
     let two = ok_pair (part (braced p.0) no_parts, x.0) (ps, r) x.2 in
     (p.0, ap (λ ys. Some (p.0, ys)) (end.0 ∙ two.1), two.0, ap (word_ends nested) (sym (end.0 ∙ two.1)) ∙ end.1)
 
-braced_lost : (nested : Bool) (left : ℕ) (found : Option (Text × Text)) (f : Fault) → in_braces nested left found ≡ Err f
+braced_lost : (nested : Bool) (left : ℕ) (found : Option (Text × Text)) (f : Fault) → word_in_braces nested left found ≡ Err f
     → ((found ≡ None) × (OpenBrace left ≡ f)) ⊎ ((p : Text × Text) × (found ≡ Some p) × (JoinedToClose (length p.1) ≡ f) × (word_ends nested p.1 ≡ false))
 braced_lost nested left None f h = let same : OpenBrace left ≡ f = cc in inl (refl, same)
 braced_lost nested left (Some p) f h = elim (bind_err (ended nested p.1) (λ rest. let found : Read Parts = Ok (part (braced p.0) no_parts, rest) in found) f h) [
@@ -221,18 +222,18 @@ module _ (d : ℕ) (inner : Inner) (exact : IsExactInner d inner) (nested : Bool
   braced_again : (inside r : Text) → Balanced inside → word_ends nested r ≡ true → braced_word_at nested (inside ++ 125 ∷ r) ≡ Ok (part (braced inside) no_parts, r)
   unfolding braced_word_at
   braced_again inside r h e =
-      ap (in_braces nested (suc (length (inside ++ 125 ∷ r)))) (found_close inside r h)
+      ap (word_in_braces nested (suc (length (inside ++ 125 ∷ r)))) (found_close inside r h)
       ∙ ap (λ (x : Result Text Fault). x >>= (λ rest. let found : Read Parts = Ok (part (braced inside) no_parts, rest) in found)) (ended-at nested r e)
 
   braced_joined : (inside r : Text) → Balanced inside → word_ends nested r ≡ false → braced_word_at nested (inside ++ 125 ∷ r) ≡ Err (JoinedToClose (length r))
   unfolding braced_word_at
   braced_joined inside r h e =
-      ap (in_braces nested (suc (length (inside ++ 125 ∷ r)))) (found_close inside r h)
+      ap (word_in_braces nested (suc (length (inside ++ 125 ∷ r)))) (found_close inside r h)
       ∙ ap (λ (x : Result Text Fault). x >>= (λ rest. let found : Read Parts = Ok (part (braced inside) no_parts, rest) in found)) (ended-not nested r e)
 
   braced_open : (bs : Text) → NeverCloses bs → braced_word_at nested bs ≡ Err (OpenBrace (suc (length bs)))
   unfolding braced_word_at
-  braced_open bs h = ap (in_braces nested (suc (length bs))) (none_found bs (braced_at false 0 bs) refl h)
+  braced_open bs h = ap (word_in_braces nested (suc (length bs))) (none_found bs (braced_at false 0 bs) refl h)
 
   quoted_sound : (bs : Text) (ps : Parts) (r : Text) → quoted_word_at nested inner bs ≡ Ok (ps, r) → Took PlainIs (34 ∷ bs) ps r
   unfolding quoted_word_at

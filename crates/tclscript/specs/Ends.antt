@@ -1,10 +1,9 @@
 -- Where scripts, commands, words and parts end, told by the bytes that follow.
 use Rattle.std.specs.Prelude.{ℕ, [], ◌∷◌, Bool, true, false, ◌||◌, ◌&&◌, ◌==◌}
 use Rattle.tclchars.specs.Runs.{Text, begins}
-use Rattle.tclchars.specs.Bytes.{newline, backslash, is_end, is_gap}
+use Rattle.tclchars.specs.Bytes.{newline, backslash, is_end, is_gap, quote, right_bracket, right_parenthesis}
 use Rattle.tclchars.specs.declared.runs.Class.{Class}
 use Rattle.tclchars.specs.declared.runs.Class.TheVariants.{BareScript, BareBracket, BareIndex, BareQuote}
-use Rattle.tclscript.specs.Marks.{quote, right_parenthesis, right_bracket}
 use Rattle.tclscript.specs.declared.context.Context.{Context}
 use Rattle.tclscript.specs.declared.context.Context.TheVariants.{InScript, InBracket, InIndex, InQuotes}
 

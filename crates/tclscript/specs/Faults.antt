@@ -2,17 +2,16 @@
 -- cases over the whole text from somewhere in it to the source's end, with the number of bytes from the mark on.
 use Rattle.std.specs.Prelude.{◌≡◌, ◌≢◌, ℕ, zero, suc, ◌≤◌, ◌<◌, ◌+◌, [], ◌∷◌, ◌++◌, length, Bool, true, false, not, ◌||◌, ◌==◌, None}
 use Rattle.tclchars.specs.Runs.{Text}
-use Rattle.tclchars.specs.Bytes.{hash, backslash, AllPass, DoesBegin}
+use Rattle.tclchars.specs.Bytes.{hash, backslash, AllPass, DoesBegin, dollar, left_brace, left_bracket, left_parenthesis, quote, right_brace, star}
 use Rattle.tclchars.specs.Classes.{in_class}
 use Rattle.tclchars.specs.Backslash.{after_backslash}
 use Rattle.tclchars.specs.Braces.{Balanced}
-use Rattle.tclchars.specs.Faults.{max_bytes, max_nesting}
+use Rattle.tclchars.specs.Faults.{max_nesting}
+use Rattle.tclchars.specs.Whole.{IsFaultOf}
 use Rattle.tclchars.specs.declared.runs.Class.TheVariants.{InName}
 use Rattle.tclchars.specs.declared.fault.Fault.{Fault}
 use Rattle.tclchars.specs.declared.fault.Fault.TheVariants.{OpenBrace, OpenQuote, OpenBracket, JoinedToClose, TooDeep, BadCharacter}
 use Rattle.tclchars.specs.declared.fault.TextFault.{TextFault}
-use Rattle.tclchars.specs.declared.fault.TextFault.TheVariants as faults
-use Rattle.tclscript.specs.Marks.{quote, dollar, left_parenthesis, star, left_bracket, left_brace, right_brace}
 use Rattle.tclscript.specs.declared.context.Context.{Context}
 use Rattle.tclscript.specs.declared.context.Context.TheVariants.{InIndex, InQuotes}
 use Rattle.tclscript.specs.Tree.{Commands, Words, Word, Parts, Part, nesting, words_nesting, word_nesting, parts_nesting, part_nesting}
@@ -74,7 +73,7 @@ mutual
     bad_character : {d : ℕ} {bs : Text} → bs ≢ [] → after_backslash bs ≡ None → PartFault d (backslash ∷ bs) (BadCharacter (suc (length bs)))
     bracket_too_deep : {bs : Text} → PartFault zero (left_bracket ∷ bs) TooDeep
     in_bracket : {d : ℕ} {bs : Text} {f : Fault} → CommandsFault d true bs f → PartFault (suc d) (left_bracket ∷ bs) f
-    open_bracket : {d : ℕ} {bs : Text} (s : Commands) → IsCommands true s bs [] → nesting s ≤ d → PartFault (suc d) (left_bracket ∷ bs) (OpenBracket (suc (length bs)))
+    open_bracket : {d : ℕ} {bs : Text} (s : Commands) → IsCommands (length bs) true s bs [] → nesting s ≤ d → PartFault (suc d) (left_bracket ∷ bs) (OpenBracket (suc (length bs)))
     index_too_deep : (name bs : Text) → IsName name → PartFault zero (dollar ∷ (name ++ left_parenthesis ∷ bs)) TooDeep
     in_index : {d : ℕ} (name bs : Text) {f : Fault} → IsName name → PartsFault d InIndex bs f → PartFault (suc d) (dollar ∷ (name ++ left_parenthesis ∷ bs)) f
     open_index : {d : ℕ} (name bs : Text) (ps : Parts) → IsName name → IsParts InIndex ps bs [] → parts_nesting ps ≤ d
@@ -84,18 +83,6 @@ mutual
 abbrev pub IsFault : ℕ → Text → Fault → Type 0
 IsFault d bs f = CommandsFault d false bs f
 
--- the first fault of a text within the limit, whose mark stands at that place from the front
-abbrev pub IsFaultAt : Text → ℕ → (ℕ → Fault) → Type 0
-IsFaultAt bs at mark = (length bs ≤ max_bytes) × (left : ℕ) × (at + left ≡ length bs) × IsFault max_nesting bs (mark left)
-
--- What is wrong with a text, by the limits and the first fault. Want of memory says nothing of the text.
+-- what is wrong with a text: it is too long, or its first fault
 abbrev pub IsTextFault : Text → TextFault → Type 0
-IsTextFault bs faults.OutOfMemory = Unit {0}
-IsTextFault bs (faults.OpenBrace at) = IsFaultAt bs at (λ left. OpenBrace left)
-IsTextFault bs (faults.OpenQuote at) = IsFaultAt bs at (λ left. OpenQuote left)
-IsTextFault bs (faults.OpenBracket at) = IsFaultAt bs at (λ left. OpenBracket left)
-IsTextFault bs (faults.JoinedToClose at) = IsFaultAt bs at (λ left. JoinedToClose left)
-IsTextFault bs faults.TooDeep = (length bs ≤ max_bytes) × IsFault max_nesting bs TooDeep
-IsTextFault bs (faults.BadCharacter at) = IsFaultAt bs at (λ left. BadCharacter left)
-IsTextFault bs (faults.BadExpression at) = ⊥
-IsTextFault bs faults.TooLong = max_bytes < length bs
+IsTextFault bs f = IsFaultOf (IsFault max_nesting) bs f

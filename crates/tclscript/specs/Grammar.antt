@@ -1,13 +1,12 @@
 -- The grammar: which texts are scripts, with their trees (Tcl(n)), by cases on the tree over whole texts. A text stands before
 -- what follows it in the source, since what follows says where it ends.
-use Rattle.std.specs.Prelude.{◌≡◌, ◌≢◌, ◌⊎◌, ℕ, [], ◌∷◌, ◌++◌, Bool, true, false, not, ◌||◌, ◌==◌, Some}
+use Rattle.std.specs.Prelude.{◌≡◌, ◌≢◌, ◌⊎◌, ℕ, ◌+◌, [], ◌∷◌, ◌++◌, length, Bool, true, false, not, ◌||◌, ◌==◌, Some}
 use Rattle.tclchars.specs.Runs.{Text}
-use Rattle.tclchars.specs.Bytes.{newline, hash, backslash, is_blank, is_gap, AllPass, MayBegin, DoesBegin}
+use Rattle.tclchars.specs.Bytes.{newline, hash, backslash, is_blank, is_gap, AllPass, MayBegin, DoesBegin, colon, dollar, left_brace, left_bracket, left_parenthesis, quote, right_brace, right_bracket, right_parenthesis, star}
 use Rattle.tclchars.specs.Classes.{in_class, is_name}
 use Rattle.tclchars.specs.Backslash.{after_backslash}
 use Rattle.tclchars.specs.Braces.{Balanced}
 use Rattle.tclchars.specs.declared.runs.Class.TheVariants.{InName}
-use Rattle.tclscript.specs.Marks.{quote, dollar, left_parenthesis, right_parenthesis, star, colon, left_bracket, right_bracket, left_brace, right_brace}
 use Rattle.tclscript.specs.declared.context.Context.{Context}
 use Rattle.tclscript.specs.declared.context.Context.TheVariants.{InIndex, InQuotes}
 use Rattle.tclscript.specs.Tree as tree
@@ -97,12 +96,13 @@ IsExpanding nested Is bs after = (body : Text) × (bs ≡ left_brace ∷ (star �
 
 -- The flag says that the text stands in brackets.
 abbrev mutual
-  -- commands, with gaps before them and behind the last; a command doesn't begin as a comment does
-  pub IsCommands : Bool → Commands → Text → Text → Type 0
-  IsCommands nested no_commands bs after = IsGap bs after × (script_ends nested after ≡ true)
-  IsCommands nested (command source ws cs) bs after =
-      Split bs (λ gap more. IsGap gap (more ++ after))
-      (λ more. Split more (λ body rest. DoesBegin (λ b. not (b == hash)) body × IsCommand nested source ws body (rest ++ after)) (λ rest. IsCommands nested cs rest after))
+  -- commands, with gaps before them and behind the last; a command doesn't begin as a comment does. The number is how many bytes
+  -- the script has: those before a command's place and those from there on.
+  pub IsCommands : ℕ → Bool → Commands → Text → Text → Type 0
+  IsCommands size nested no_commands bs after = IsGap bs after × (script_ends nested after ≡ true)
+  IsCommands size nested (command place source ws cs) bs after =
+      Split bs (λ gap more. IsGap gap (more ++ after) × (place + length more ≡ size))
+      (λ more. Split more (λ body rest. DoesBegin (λ b. not (b == hash)) body × IsCommand nested source ws body (rest ++ after)) (λ rest. IsCommands size nested cs rest after))
 
   -- the words of a command, and the source of the first
   pub IsCommand : Bool → Text → Words → Text → Text → Type 0
@@ -132,8 +132,8 @@ abbrev mutual
   IsPart c (tree.backslash value) bs after = (escape : Text) × (bs ≡ backslash ∷ escape) × (after_backslash (escape ++ after) ≡ Some (value, after))
   IsPart c (variable name) bs after = IsPlainVariable name bs after ⊎ IsBracedVariable name bs
   IsPart c (indexed name ps) bs after = (inside : Text) × (bs ≡ dollar ∷ (name ++ left_parenthesis ∷ (inside ++ right_parenthesis ∷ []))) × IsName name × IsParts InIndex ps inside (right_parenthesis ∷ after)
-  IsPart c (bracket s) bs after = (inside : Text) × (bs ≡ left_bracket ∷ (inside ++ right_bracket ∷ [])) × IsCommands true s inside (right_bracket ∷ after)
+  IsPart c (bracket s) bs after = (inside : Text) × (bs ≡ left_bracket ∷ (inside ++ right_bracket ∷ [])) × IsCommands (length inside) true s inside (right_bracket ∷ after)
 
 -- the text is a script with this tree
 abbrev pub IsScript : Text → Commands → Type 0
-IsScript bs s = IsCommands false s bs []
+IsScript bs s = IsCommands (length bs) false s bs []

@@ -1,13 +1,10 @@
 -- What is passed over byte by byte: blanks, gaps between commands with their comments, and names of variables.
 use Rattle.std.specs.Prelude.{ℕ, [], ◌∷◌, Bool, true, false, ◌||◌, ◌&&◌, ◌==◌, if◌then◌else◌, Option, Some, None}
-use Rattle.tclchars.specs.Bytes.{newline, hash, backslash, is_blank, is_gap}
+use Rattle.tclchars.specs.Bytes.{newline, hash, colon, backslash, is_blank, is_gap}
 use Rattle.tclchars.specs.Classes.{is_name}
 use Rattle.tclchars.specs.Runs.{Text, begins}
 use Rattle.tclscript.specs.declared.runs.Passing.{Passing}
 use Rattle.tclscript.specs.declared.runs.Passing.TheVariants.{Blanks, Joined, Gap, Comment, Escaped, Name, Colons}
-
-abbrev pub colon : ℕ
-colon = 58
 
 -- between the words of a command: blanks, and backslashes before newlines
 abbrev pub step_blanks : ℕ → Text → Option Passing

@@ -1,6 +1,8 @@
 -- Reading a script from left to right, with the first fault that is met. A fault has the number of bytes from its mark on.
 use Rattle.std.specs.Prelude.{ℕ, zero, suc, ◌-◌, List, [], ◌∷◌, length, take, Bool, true, false, ◌==◌, if◌then◌else◌, Option, Some, None, Result, Ok, Err}
 use Rattle.tclchars.specs.Runs.{Text, front, back}
+use Rattle.tclchars.specs.Bytes as bytes
+use Rattle.tclchars.specs.Bytes.{quote, dollar, left_parenthesis, right_parenthesis, star, left_bracket, right_bracket, left_brace, right_brace}
 use Rattle.tclchars.specs.Classes.{in_class}
 use Rattle.tclchars.specs.Backslash.{after_backslash}
 use Rattle.tclchars.specs.Braces.{braced_at}
@@ -11,7 +13,7 @@ use Rattle.tclchars.specs.declared.runs.Class.TheVariants.{InName}
 use Rattle.tclscript.specs.declared.context.Context.{Context}
 use Rattle.tclscript.specs.declared.context.Context.TheVariants.{InIndex, InQuotes}
 use Rattle.tclscript.specs.declared.runs.Passing.TheVariants.{Name}
-use Rattle.tclscript.specs.Tree.{Commands, Words, word, Word, word_of, Parts, no_parts, part, Part, literal, braced, backslash, variable, indexed, bracket, parts_of, words_of, commands_of}
+use Rattle.tclscript.specs.Tree.{Commands, Command, Words, word, Word, word_of, Parts, no_parts, part, Part, literal, braced, backslash, variable, indexed, bracket, parts_of, words_of, commands_of}
 use Rattle.tclscript.specs.Ends.{script_ends, command_ends, word_ends, parts_end, class_of, bare}
 use Rattle.tclscript.specs.Passing.{pass, skip_blanks, skip_gap}
 
@@ -41,39 +43,39 @@ pub record Inner : Type 0 where
 unfoldable pub bracket_at : Inner → Text → Read Part
 bracket_at inner bs = do
   x ← inner.script bs
-  rest ← closed 93 (OpenBracket (suc (length bs))) x.1
+  rest ← closed right_bracket (OpenBracket (suc (length bs))) x.1
   Ok (bracket x.0, rest)
 
 -- the parts of an index, behind its parenthesis
 unfoldable pub index_at : Inner → Text → Read Parts
 index_at inner bs = do
   x ← inner.index bs
-  rest ← closed 41 (BadCharacter (suc (length bs))) x.1
+  rest ← closed right_parenthesis (BadCharacter (suc (length bs))) x.1
   Ok (x.0, rest)
 
 -- behind the brace of a name
 unfoldable pub braced_name_at : Text → Read Part
 braced_name_at bs = do
-  rest ← closed 125 (OpenBrace (suc (length bs))) (back (in_class InName) bs)
+  rest ← closed right_brace (OpenBrace (suc (length bs))) (back (in_class InName) bs)
   Ok (variable (front (in_class InName) bs), rest)
 
 -- a name without a parenthesis: without a name the dollar is itself
 abbrev pub plain_variable : Text → Part
-plain_variable [] = literal (36 ∷ [])
+plain_variable [] = literal (dollar ∷ [])
 plain_variable (b ∷ bs) = variable (b ∷ bs)
 
 -- behind a name
 abbrev pub after_name : Inner → Text × Text → Read Part
-after_name inner p = on_mark 40 p.1 (λ bs. read_map (indexed p.0) (index_at inner bs)) (Ok (plain_variable p.0, p.1))
+after_name inner p = on_mark left_parenthesis p.1 (λ bs. read_map (indexed p.0) (index_at inner bs)) (Ok (plain_variable p.0, p.1))
 
 -- behind a dollar
 unfoldable pub dollar_at : Inner → Text → Read Part
-dollar_at inner bs = on_mark 123 bs braced_name_at (after_name inner (pass Name bs))
+dollar_at inner bs = on_mark left_brace bs braced_name_at (after_name inner (pass Name bs))
 
 -- behind a backslash and what it takes along; at the text's end a backslash is itself
 abbrev pub escaped : Text → Option (Text × Text) → Read Part
 escaped bs (Some p) = Ok (backslash p.0, p.1)
-escaped [] None = Ok (literal (92 ∷ []), [])
+escaped [] None = Ok (literal (bytes.backslash ∷ []), [])
 escaped (b ∷ bs) None = Err (BadCharacter (suc (length (b ∷ bs))))
 
 -- behind a backslash
@@ -86,46 +88,46 @@ literal_at context bs = Ok (literal (front (in_class (class_of context)) bs), ba
 
 -- one part, where parts don't end
 unfoldable pub part_at : Context → Inner → Text → Read Part
-part_at context inner bs = on_mark 36 bs (dollar_at inner) (on_mark 91 bs (bracket_at inner) (on_mark 92 bs backslash_at (literal_at context bs)))
+part_at context inner bs = on_mark dollar bs (dollar_at inner) (on_mark left_bracket bs (bracket_at inner) (on_mark bytes.backslash bs backslash_at (literal_at context bs)))
 
 unfoldable pub parts_with : Context → Inner → Text → Read Parts
 parts_with context inner bs = read_map parts_of (items_at (λ bs. bs) (parts_end context) (part_at context inner) (suc (length bs)) bs)
 
 -- Words
 
-abbrev pub in_braces : Bool → ℕ → Option (Text × Text) → Read Parts
-in_braces nested left None = Err (OpenBrace left)
-in_braces nested left (Some p) = ended nested p.1 >>= (λ rest. Ok (part (braced p.0) no_parts, rest))
+abbrev pub word_in_braces : Bool → ℕ → Option (Text × Text) → Read Parts
+word_in_braces nested left None = Err (OpenBrace left)
+word_in_braces nested left (Some p) = ended nested p.1 >>= (λ rest. Ok (part (braced p.0) no_parts, rest))
 
 -- a word in braces, behind its first brace
 unfoldable pub braced_word_at : Bool → Text → Read Parts
-braced_word_at nested bs = in_braces nested (suc (length bs)) (braced_at false 0 bs)
+braced_word_at nested bs = word_in_braces nested (suc (length bs)) (braced_at false 0 bs)
 
 -- what stands in quotes, behind the first
 unfoldable pub quotes_at : Inner → Text → Read Parts
 quotes_at inner bs = do
   x ← parts_with InQuotes inner bs
-  rest ← closed 34 (OpenQuote (suc (length bs))) x.1
+  rest ← closed quote (OpenQuote (suc (length bs))) x.1
   Ok (x.0, rest)
 
 -- a word in quotes, behind its first quote
 unfoldable pub quoted_word_at : Bool → Inner → Text → Read Parts
 quoted_word_at nested inner bs = do
   x ← parts_with InQuotes inner bs
-  after ← closed 34 (OpenQuote (suc (length bs))) x.1
+  after ← closed quote (OpenQuote (suc (length bs))) x.1
   rest ← ended nested after
   Ok (x.0, rest)
 
 -- a word that doesn't expand
 unfoldable pub plain_word_at : Bool → Inner → Text → Read Parts
-plain_word_at nested inner bs = on_mark 123 bs (braced_word_at nested) (on_mark 34 bs (quoted_word_at nested inner) (parts_with (bare nested) inner bs))
+plain_word_at nested inner bs = on_mark left_brace bs (braced_word_at nested) (on_mark quote bs (quoted_word_at nested inner) (parts_with (bare nested) inner bs))
 
 abbrev pub unless_word_ends : Bool → Text → Option Text
 unless_word_ends nested bs = if word_ends nested bs then None else Some bs
 
 -- what follows the mark {*}, unless a word ends there
 unfoldable pub after_expansion : Bool → Text → Option Text
-after_expansion nested bs = on_mark 123 bs (λ xs. on_mark 42 xs (λ ys. on_mark 125 ys (unless_word_ends nested) None) None) None
+after_expansion nested bs = on_mark left_brace bs (λ xs. on_mark star xs (λ ys. on_mark right_brace ys (unless_word_ends nested) None) None) None
 
 abbrev pub word_from : Bool → Inner → Text → Option Text → Read Word
 word_from nested inner bs None = read_map (word_of false) (plain_word_at nested inner bs)
@@ -144,14 +146,18 @@ taken bs rest = take (length bs - length rest) bs
 abbrev pub words_at : Bool → Inner → Text → Read (List Word)
 words_at nested inner bs = items_at skip_blanks (command_ends nested) (word_at nested inner) (suc (length bs)) bs
 
--- a command, with the source of its first word
-unfoldable pub command_at : Bool → Inner → Text → Read (Text × Words)
-command_at nested inner bs = do
+-- a command, whose first word stands at that place
+unfoldable pub command_at : ℕ → Bool → Inner → Text → Read Command
+command_at place nested inner bs = do
   w ← word_at nested inner bs
-  read_map (λ ws. (taken bs w.1, word w.0 (words_of ws))) (words_at nested inner w.1)
+  read_map (λ ws. record { place = place; source = taken bs w.1; words = word w.0 (words_of ws) }) (words_at nested inner w.1)
+
+-- a command of a script that has so many bytes, with what follows it
+abbrev pub command_in : ℕ → Bool → Inner → Text → Read Command
+command_in size nested inner bs = command_at (size - length bs) nested inner bs
 
 unfoldable pub script_with : Bool → Inner → Text → Read Commands
-script_with nested inner bs = read_map commands_of (items_at skip_gap (script_ends nested) (command_at nested inner) (suc (length bs)) bs)
+script_with nested inner bs = read_map commands_of (items_at skip_gap (script_ends nested) (command_in (length bs) nested inner) (suc (length bs)) bs)
 
 -- the readers of what may nest no deeper than the number
 unfoldable pub inner_at : ℕ → Inner

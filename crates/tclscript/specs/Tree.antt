@@ -4,10 +4,10 @@ use Rattle.std.specs.Prelude.{ℕ, List, [], ◌∷◌, Bool, max, suc}
 use Rattle.tclchars.specs.Runs.{Text}
 
 mutual
-  -- commands, each with the source text of its first word
+  -- commands, each with the place of its first word, in bytes from the front of the script, and with that word's source text
   pub data Commands : Type 0 where
     no_commands : Commands
-    command : Text → Words → Commands → Commands
+    command : ℕ → Text → Words → Commands → Commands
 
   pub data Words : Type 0 where
     no_words : Words
@@ -32,11 +32,17 @@ mutual
     indexed : Text → Parts → Part
     bracket : Commands → Part
 
+-- a command by itself
+pub record Command : Type 0 where
+  pub place : ℕ
+  pub source : Text
+  pub words : Words
+
 -- From lists
 
-abbrev pub commands_before : List (Text × Words) → Commands → Commands
+abbrev pub commands_before : List Command → Commands → Commands
 commands_before [] more = more
-commands_before (c ∷ cs) more = command c.0 c.1 (commands_before cs more)
+commands_before (c ∷ cs) more = command c.place c.source c.words (commands_before cs more)
 
 abbrev pub words_before : List Word → Words → Words
 words_before [] more = more
@@ -46,7 +52,7 @@ abbrev pub parts_before : List Part → Parts → Parts
 parts_before [] more = more
 parts_before (p ∷ ps) more = part p (parts_before ps more)
 
-abbrev pub commands_of : List (Text × Words) → Commands
+abbrev pub commands_of : List Command → Commands
 commands_of cs = commands_before cs no_commands
 
 abbrev pub words_of : List Word → Words
@@ -60,7 +66,7 @@ parts_of ps = parts_before ps no_parts
 abbrev mutual
   pub nesting : Commands → ℕ
   nesting no_commands = 0
-  nesting (command source ws cs) = max (words_nesting ws) (nesting cs)
+  nesting (command place source ws cs) = max (words_nesting ws) (nesting cs)
 
   pub words_nesting : Words → ℕ
   words_nesting no_words = 0

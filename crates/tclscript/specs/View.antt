@@ -1,15 +1,16 @@
 -- The tree that a value of the program stands for, where a piece shows its text.
 use Rattle.std.specs.Prelude.{List, map, encode_utf8}
 use Rattle.tclchars.specs.Runs.{Text}
+use Rattle.tclscript.specs.Tree as tree
 use Rattle.tclscript.specs.Tree.{Commands, Words, Word, word_of, Part, literal, braced, backslash, variable, indexed, bracket, Parts, commands_of, words_of, parts_of}
 use Rattle.tclscript.specs.declared.tree.Script.{Script, Script-F, fold-Script}
 use Rattle.tclscript.specs.declared.tree.Command.{Command, Command-F, fold-Command}
 use Rattle.tclscript.specs.declared.tree.Word as rust_word
 use Rattle.tclscript.specs.declared.tree.Part as rust_part
 
--- Level by level: a command with the text of its first word
+-- Level by level
 
-abbrev pub part_step : {P : Type 0} → (P → Text) → rust_part.Part-F P Part (Text × Words) Commands Word → Part
+abbrev pub part_step : {P : Type 0} → (P → Text) → rust_part.Part-F P Part tree.Command Commands Word → Part
 part_step shown (rust_part.Part-F.Literal s) = literal (shown s)
 part_step shown (rust_part.Part-F.Braced s) = braced (shown s)
 part_step shown (rust_part.Part-F.Backslash c) = backslash (encode_utf8 c)
@@ -17,26 +18,26 @@ part_step shown (rust_part.Part-F.Variable s) = variable (shown s)
 part_step shown (rust_part.Part-F.Indexed s ps) = indexed (shown s) (parts_of ps.items)
 part_step shown (rust_part.Part-F.Bracket script) = bracket script
 
-abbrev pub word_step : {P : Type 0} → rust_word.Word-F P Part (Text × Words) Commands Word → Word
+abbrev pub word_step : {P : Type 0} → rust_word.Word-F P Part tree.Command Commands Word → Word
 word_step w = word_of w.expands (parts_of w.parts.items)
 
-abbrev pub command_step : {P : Type 0} → (P → Text) → Command-F P Part (Text × Words) Commands Word → Text × Words
-command_step shown c = (shown c.source, words_of c.words.items)
+abbrev pub command_step : {P : Type 0} → (P → Text) → Command-F P Part tree.Command Commands Word → tree.Command
+command_step shown c = record { place = c.place; source = shown c.source; words = words_of c.words.items }
 
-abbrev pub script_step : {P : Type 0} → Script-F P Part (Text × Words) Commands Word → Commands
+abbrev pub script_step : {P : Type 0} → Script-F P Part tree.Command Commands Word → Commands
 script_step s = commands_of s.commands.items
 
 abbrev pub part_view : {P : Type 0} → (P → Text) → rust_part.Part P → Part
-part_view {P} shown = rust_part.fold-Part P Part (Text × Words) Commands Word (part_step shown) (command_step shown) script_step word_step
+part_view {P} shown = rust_part.fold-Part P Part tree.Command Commands Word (part_step shown) (command_step shown) script_step word_step
 
 abbrev pub word_view : {P : Type 0} → (P → Text) → rust_word.Word P → Word
-word_view {P} shown = rust_word.fold-Word P Part (Text × Words) Commands Word (part_step shown) (command_step shown) script_step word_step
+word_view {P} shown = rust_word.fold-Word P Part tree.Command Commands Word (part_step shown) (command_step shown) script_step word_step
 
-abbrev pub command_view : {P : Type 0} → (P → Text) → Command P → Text × Words
-command_view {P} shown = fold-Command P Part (Text × Words) Commands Word (part_step shown) (command_step shown) script_step word_step
+abbrev pub command_view : {P : Type 0} → (P → Text) → Command P → tree.Command
+command_view {P} shown = fold-Command P Part tree.Command Commands Word (part_step shown) (command_step shown) script_step word_step
 
 abbrev pub script_view : {P : Type 0} → (P → Text) → Script P → Commands
-script_view {P} shown = fold-Script P Part (Text × Words) Commands Word (part_step shown) (command_step shown) script_step word_step
+script_view {P} shown = fold-Script P Part tree.Command Commands Word (part_step shown) (command_step shown) script_step word_step
 
 abbrev pub parts_view : {P : Type 0} → (P → Text) → List (rust_part.Part P) → Parts
 parts_view shown ps = parts_of (map (part_view shown) ps)

@@ -1,19 +1,18 @@
 ghost use Rattle.std.specs.Prelude.{◌≡◌, ◌≢◌, ◌↔◌, ◌≤◌, suc, [], ◌∷◌, ◌++◌, length, Ok, Err, None};
 ghost use Rattle.tclchars.specs.Runs.{Text};
-ghost use Rattle.tclchars.specs.Bytes.{backslash};
+ghost use Rattle.tclchars.specs.Bytes.{backslash, left_parenthesis};
 ghost use Rattle.tclchars.specs.Backslash.{after_backslash};
 ghost use Rattle.tclchars.specs.Faults.{max_bytes, max_nesting};
 ghost use Rattle.tclchars.specs.Reading.{left_of};
 ghost use Rattle.tclchars.specs.declared.fault.Fault.{Fault};
 ghost use Rattle.tclchars.specs.declared.fault.Fault.TheVariants.{JoinedToClose, TooDeep, BadCharacter};
-ghost use Rattle.tclscript.specs.Marks.{left_parenthesis};
 ghost use Rattle.tclchars.specs.declared.fault.TextFault.{TextFault};
 ghost use Rattle.tclchars.specs.declared.fault.TextFault.TheVariants.{OutOfMemory};
 ghost use Rattle.tclscript.specs.Tree.{Commands, nesting};
 ghost use Rattle.tclscript.specs.Grammar.{IsScript};
 ghost use Rattle.tclscript.specs.Faults.{IsFault, IsTextFault};
 ghost use Rattle.tclscript.specs.Offending.{GoesOn, IsOffender, IsBadEscape, IsOpenMark};
-ghost use Rattle.tclscript.specs.Text.{script_of};
+ghost use Rattle.tclscript.specs.Text.{IsWithin, script_of};
 
 /// A text is a script with one tree at most.
 pub fn one_script()
@@ -22,28 +21,35 @@ pub fn one_script()
 
 /// A text has one fault at most, want of memory aside.
 pub fn one_fault()
-    ensures { (bs : Text) (f g : TextFault) → f ≢ OutOfMemory → g ≢ OutOfMemory → IsTextFault bs f → IsTextFault bs g → f ≡ g }
+    ensures { (bs : Text) (f g : TextFault) → f ≢ OutOfMemory → g ≢ OutOfMemory → IsTextFault bs f → IsTextFault bs g
+        → f ≡ g }
 {}
 
 /// `script_of` gives a tree exactly where the grammar has it within the limits, and a fault exactly where that is the text's,
 /// want of memory never; and a text with a fault has no tree within the limits.
 pub fn script_of_grammar()
-    ensures tree { (bs : Text) (s : Commands) → (script_of bs ≡ Ok s) ↔ (IsScript bs s × (nesting s ≤ max_nesting) × (length bs ≤ max_bytes)) }
+    ensures tree { (bs : Text) (s : Commands) → (script_of bs ≡ Ok s) ↔ IsWithin bs s }
     ensures fault { (bs : Text) (f : TextFault) → f ≢ OutOfMemory → (script_of bs ≡ Err f) ↔ IsTextFault bs f }
     ensures no_memory { (bs : Text) → script_of bs ≢ Err OutOfMemory }
-    ensures no_tree { (bs : Text) (f : TextFault) (s : Commands) → f ≢ OutOfMemory → IsTextFault bs f → IsScript bs s → nesting s ≤ max_nesting → length bs ≤ max_bytes → ⊥ }
+    ensures no_tree { (bs : Text) (f : TextFault) (s : Commands) → f ≢ OutOfMemory → IsTextFault bs f → IsWithin bs s
+        → ⊥ }
 {}
 
 /// Where a text that isn't nested too deeply is wrong, a script begins with the text before that place. What follows a closing
 /// brace or quote, or what a backslash begins, offends: no script begins with the text up to and with it, however deep that
 /// nests; of what a backslash begins five bytes show it at most. Where a mark is open, a script begins with the whole text.
 pub fn first_offending()
-    ensures before_mark { (before rest : Text) (f : Fault) → IsFault max_nesting (before ++ rest) f → f ≢ TooDeep → left_of f ≡ length rest → GoesOn before }
-    ensures with_joined { (before bad rest : Text) → IsFault max_nesting (before ++ (bad ++ rest)) (JoinedToClose (length (bad ++ rest))) → IsOffender bad
+    ensures before_mark { (before rest : Text) (f : Fault) → IsFault max_nesting (before ++ rest) f → f ≢ TooDeep
+        → left_of f ≡ length rest → GoesOn before }
+    ensures with_joined { (before bad rest : Text) → IsFault max_nesting (before ++ (bad ++ rest))
+        (JoinedToClose (length (bad ++ rest))) → IsOffender bad
         → GoesOn (before ++ bad) → ⊥ }
-    ensures with_escape { (before bad rest : Text) → IsFault max_nesting (before ++ backslash ∷ (bad ++ rest)) (BadCharacter (suc (length (bad ++ rest)))) → IsBadEscape bad
+    ensures with_escape { (before bad rest : Text) → IsFault max_nesting (before ++ backslash ∷ (bad ++ rest))
+        (BadCharacter (suc (length (bad ++ rest)))) → IsBadEscape bad
         → GoesOn (before ++ backslash ∷ bad) → ⊥ }
-    ensures escapes { (bs : Text) → bs ≢ [] → after_backslash bs ≡ None → (bad : Text) × (rest : Text) × (bs ≡ bad ++ rest) × (length bad ≤ 5) × IsBadEscape bad }
+    ensures escapes { (bs : Text) → bs ≢ [] → after_backslash bs ≡ None
+        → (bad : Text) × (rest : Text) × (bs ≡ bad ++ rest) × (length bad ≤ 5) × IsBadEscape bad }
     ensures open_marks { (bs : Text) (f : Fault) → IsFault max_nesting bs f → IsOpenMark f → GoesOn bs }
-    ensures open_index { (before rest : Text) → IsFault max_nesting (before ++ left_parenthesis ∷ rest) (BadCharacter (suc (length rest))) → GoesOn (before ++ left_parenthesis ∷ rest) }
+    ensures open_index { (before rest : Text) → IsFault max_nesting (before ++ left_parenthesis ∷ rest)
+        (BadCharacter (suc (length rest))) → GoesOn (before ++ left_parenthesis ∷ rest) }
 {}

@@ -16,5 +16,6 @@ pub use laws::{first_offending, one_fault, one_script, script_of_grammar};
 pub use owned::{OwnedScript, own_script};
 pub use piece::{ByteRange, Source};
 pub use reading::{read_bracket, read_dollar, read_quotes};
-pub use text::{MAX_BYTES, MAX_NESTING, parse_pieces, parse_script};
+pub use tclchars::{MAX_BYTES, MAX_NESTING};
+pub use text::{parse_pieces, parse_script};
 pub use tree::{Command, Part, Script, Word};

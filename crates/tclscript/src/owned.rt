@@ -1,10 +1,11 @@
 ghost use Rattle.std.specs.Prelude.{◌≡◌, ◌≤◌, length, string_bytes, IfOk, IfErr, MatchResult};
 ghost use Rattle.tclchars.specs.Faults.{max_bytes, max_nesting};
 ghost use Rattle.tclchars.specs.declared.fault.TextFault.TheVariants.{OutOfMemory};
+ghost use Rattle.tclchars.specs.Whole.{Reads};
 ghost use Rattle.tclscript.specs.Tree.{Commands, nesting};
 ghost use Rattle.tclscript.specs.Grammar.{IsScript};
 ghost use Rattle.tclscript.specs.Faults.{IsTextFault};
-ghost use Rattle.tclscript.specs.Text.{Reads, script_of};
+ghost use Rattle.tclscript.specs.Text.{IsWithin, script_of};
 ghost use Rattle.tclscript.specs.Owned.{owned_view};
 
 use crate::piece::ByteRange;
@@ -26,10 +27,10 @@ pub fn own_script(alloc: Global, text: String) -> Result<OwnedScript, TextFault>
     ensures same { IfOk result (λ o. string_bytes o.text ≡ string_bytes text) }
 
     // A tree that is returned is the text's, within the limits.
-    ensures found { IfOk result (λ o. IsScript (string_bytes text) (owned_view o) × (nesting (owned_view o) ≤ max_nesting) × (length (string_bytes text) ≤ max_bytes)) }
+    ensures found { IfOk result (λ o. IsWithin (string_bytes text) (owned_view o)) }
 
     // A text within the limits that has a tree is read, unless memory runs out.
-    ensures only { (s : Commands) → IsScript (string_bytes text) s → nesting s ≤ max_nesting → length (string_bytes text) ≤ max_bytes
+    ensures only { (s : Commands) → IsWithin (string_bytes text) s
         → MatchResult result (λ o. owned_view o ≡ s) (λ e. e ≡ OutOfMemory) }
 
     // A fault is the text's first, at its place.

@@ -1,12 +1,15 @@
-ghost use Rattle.std.specs.Prelude.{◌≡◌};
+ghost use Rattle.std.specs.Prelude.{◌≡◌, ◌+◌, ℕ, length};
 ghost use Rattle.tclchars.specs.Runs.{Text};
 ghost use Rattle.tclscript.specs.Pieces.{IsEndOf, IsFrontOf, between};
 
-/// A source text, of which a `P` stands for a piece: `text` is the whole, and `shown` the text that a piece stands for.
+/// A source text, of which a `P` stands for a piece: `text` is the whole, `shown` the text that a piece stands for, and `stands`
+/// where it stands, by the places of its first byte and of the one behind its last.
 pub trait Source<P> {
     ghost text: { Self → Text };
 
     ghost shown: { Self → P → Text };
+
+    ghost stands: { Self → P → ℕ → ℕ → Type 0 };
 
     /// The whole text.
     fn as_str(&self) -> &str
@@ -16,13 +19,17 @@ pub trait Source<P> {
     fn cut(&self, rest: &str, piece: &str) -> P
         requires end { IsEndOf (text self.now) rest.now }
         requires front { IsFrontOf rest.now piece.now }
-        ensures { shown self.now result ≡ piece.now };
+        ensures text { shown self.now result ≡ piece.now }
+        ensures place { (start : ℕ) → start + length rest.now ≡ length (text self.now)
+            → stands self.now result start (start + length piece.now) };
 }
 
 impl<'a> Source<&'a str> for &'a str {
     ghost text = { λ source. source.now };
 
     ghost shown = { λ source piece. piece.now };
+
+    ghost stands = { λ source piece start end. between source.now start end ≡ piece.now };
 
     fn as_str(&self) -> &str {
         self
@@ -61,6 +68,8 @@ impl<'a> Source<ByteRange> for &'a str {
     ghost text = { λ source. source.now };
 
     ghost shown = { λ source range. between source.now range.start range.end };
+
+    ghost stands = { λ source range start end. (range.start ≡ start) × (range.end ≡ end) };
 
     fn as_str(&self) -> &str {
         self

@@ -1,4 +1,5 @@
 ghost use Rattle.std.specs.Prelude.{◌≡◌, ◌∷◌, ◌<◌, length, suc, option_map};
+ghost use Rattle.tclchars.specs.Bytes.{dollar, backslash};
 ghost use Rattle.tclchars.specs.Reading.{Gives};
 ghost use Rattle.tclscript.specs.Pieces.{IsEndOf, IsFrontOf};
 ghost use Rattle.tclscript.specs.Tree as tree;
@@ -84,7 +85,7 @@ fn plain_variable<'a, S: Source<P>, P: Drop>(
     name: &'a str,
 ) -> Part<P>
     requires text { IsEndOf (S.text source.now) text.now }
-    requires dollar { text.now ≡ 36 ∷ behind.now }
+    requires dollar { text.now ≡ dollar ∷ behind.now }
     requires name { IsFrontOf behind.now name.now }
     ensures { part_view (S.shown source.now) result ≡ plain_variable name.now }
 {
@@ -103,7 +104,7 @@ fn read_escape<'a, S: Source<P>, P: Drop>(
     behind: &'a str,
 ) -> Result<(Part<P>, &'a str), ReadError>
     requires text { IsEndOf (S.text source.now) text.now }
-    requires mark { text.now ≡ 92 ∷ behind.now }
+    requires mark { text.now ≡ backslash ∷ behind.now }
     ensures { Gives (λ x. (part_view (S.shown source.now) x.0, x.1.now)) result (backslash_at behind.now) }
 {
     match read_backslash(behind) {
@@ -175,7 +176,8 @@ fn read_script<'a, S: Source<P>, P: Drop>(
     nested: bool,
 ) -> Result<(Script<P>, &'a str), ReadError>
     requires { IsEndOf (S.text source.now) text.now }
-    ensures { Gives (λ x. (script_view (S.shown source.now) x.0, x.1.now)) result (script_with nested (inner_at depth) text.now) }
+    ensures { Gives (λ x. (script_view (S.shown source.now) x.0, x.1.now)) result
+        (script_with nested (inner_at depth) text.now) }
 {
     let mut commands = Vec::new(alloc);
     let mut rest = text;
@@ -184,23 +186,26 @@ fn read_script<'a, S: Source<P>, P: Drop>(
         if script_ends(start, nested) {
             return Ok((Script { commands }, start));
         }
-        let (command, after) = read_command(alloc, source, start, depth, nested)?;
+        let place = text.len() - start.len();
+        let (command, after) = read_command(alloc, source, start, place, depth, nested)?;
         commands.push(command)?;
         rest = after;
     }
 }
 
-// A command, whose first word stands in front, and what follows it.
+// A command, whose first word stands in front, at that place of its script, and what follows it.
 #[cycle(read)]
 fn read_command<'a, S: Source<P>, P: Drop>(
     alloc: Global,
     source: &S,
     text: &'a str,
+    place: usize,
     depth: usize,
     nested: bool,
 ) -> Result<(Command<P>, &'a str), ReadError>
     requires { IsEndOf (S.text source.now) text.now }
-    ensures { Gives (λ x. (command_view (S.shown source.now) x.0, x.1.now)) result (command_at nested (inner_at depth) text.now) }
+    ensures { Gives (λ x. (command_view (S.shown source.now) x.0, x.1.now)) result
+        (command_at place nested (inner_at depth) text.now) }
 {
     let (first, behind) = read_word(alloc, source, text, depth, nested)?;
     let first_text = taken(source, text, behind);
@@ -212,6 +217,7 @@ fn read_command<'a, S: Source<P>, P: Drop>(
         if command_ends(start, nested) {
             return Ok((
                 Command {
+                    place,
                     source: first_text,
                     words,
                 },
@@ -235,7 +241,8 @@ fn read_word<'a, S: Source<P>, P: Drop>(
     nested: bool,
 ) -> Result<(Word<P>, &'a str), ReadError>
     requires { IsEndOf (S.text source.now) text.now }
-    ensures { Gives (λ x. (word_view (S.shown source.now) x.0, x.1.now)) result (word_at nested (inner_at depth) text.now) }
+    ensures { Gives (λ x. (word_view (S.shown source.now) x.0, x.1.now)) result
+        (word_at nested (inner_at depth) text.now) }
 {
     match after_expansion(text, nested) {
         Some(behind) => {
@@ -272,7 +279,8 @@ fn read_plain_word<'a, S: Source<P>, P: Drop>(
     nested: bool,
 ) -> Result<(Vec<Part<P>>, &'a str), ReadError>
     requires { IsEndOf (S.text source.now) text.now }
-    ensures { Gives (λ x. (parts_view (S.shown source.now) x.0.items, x.1.now)) result (plain_word_at nested (inner_at depth) text.now) }
+    ensures { Gives (λ x. (parts_view (S.shown source.now) x.0.items, x.1.now)) result
+        (plain_word_at nested (inner_at depth) text.now) }
 {
     if let Some(behind) = after_mark(text, b'{') {
         return read_braced(alloc, source, behind, nested);
@@ -296,7 +304,8 @@ pub fn read_quotes<'a, S: Source<P>, P: Drop>(
     depth: usize,
 ) -> Result<(Vec<Part<P>>, &'a str), ReadError>
     requires { IsEndOf (S.text source.now) text.now }
-    ensures { Gives (λ x. (parts_view (S.shown source.now) x.0.items, x.1.now)) result (quotes_at (inner_at depth) text.now) }
+    ensures { Gives (λ x. (parts_view (S.shown source.now) x.0.items, x.1.now)) result
+        (quotes_at (inner_at depth) text.now) }
 {
     let (parts, close) = read_parts(alloc, source, text, depth, Context::InQuotes)?;
     let rest = closed(close, b'"', Fault::OpenQuote(left_with_mark(text)))?;
@@ -314,7 +323,8 @@ fn read_quoted<'a, S: Source<P>, P: Drop>(
     nested: bool,
 ) -> Result<(Vec<Part<P>>, &'a str), ReadError>
     requires { IsEndOf (S.text source.now) text.now }
-    ensures { Gives (λ x. (parts_view (S.shown source.now) x.0.items, x.1.now)) result (quoted_word_at nested (inner_at depth) text.now) }
+    ensures { Gives (λ x. (parts_view (S.shown source.now) x.0.items, x.1.now)) result
+        (quoted_word_at nested (inner_at depth) text.now) }
 {
     let (parts, after) = read_quotes(alloc, source, text, depth)?;
     let rest = ended(after, nested)?;
@@ -331,7 +341,8 @@ fn read_parts<'a, S: Source<P>, P: Drop>(
     context: Context,
 ) -> Result<(Vec<Part<P>>, &'a str), ReadError>
     requires { IsEndOf (S.text source.now) text.now }
-    ensures { Gives (λ x. (parts_view (S.shown source.now) x.0.items, x.1.now)) result (parts_with context (inner_at depth) text.now) }
+    ensures { Gives (λ x. (parts_view (S.shown source.now) x.0.items, x.1.now)) result
+        (parts_with context (inner_at depth) text.now) }
 {
     let mut parts = Vec::new(alloc);
     let mut rest = text;
@@ -356,7 +367,8 @@ fn read_part<'a, S: Source<P>, P: Drop>(
     context: Context,
 ) -> Result<(Part<P>, &'a str), ReadError>
     requires { IsEndOf (S.text source.now) text.now }
-    ensures { Gives (λ x. (part_view (S.shown source.now) x.0, x.1.now)) result (part_at context (inner_at depth) text.now) }
+    ensures { Gives (λ x. (part_view (S.shown source.now) x.0, x.1.now)) result
+        (part_at context (inner_at depth) text.now) }
 {
     if let Some(behind) = after_mark(text, b'$') {
         return read_dollar(alloc, source, text, behind, depth);
@@ -386,7 +398,7 @@ pub fn read_dollar<'a, S: Source<P>, P: Drop>(
     depth: usize,
 ) -> Result<(Part<P>, &'a str), ReadError>
     requires text { IsEndOf (S.text source.now) text.now }
-    requires dollar { text.now ≡ 36 ∷ behind.now }
+    requires dollar { text.now ≡ dollar ∷ behind.now }
     ensures { Gives (λ x. (part_view (S.shown source.now) x.0, x.1.now)) result (dollar_at (inner_at depth) behind.now) }
 {
     if let Some(inner) = after_mark(behind, b'{') {
@@ -411,7 +423,8 @@ fn indexed<'a, S: Source<P>, P: Drop>(
 ) -> Part<P>
     requires text { IsEndOf (S.text source.now) text.now }
     requires name { IsFrontOf text.now name.now }
-    ensures { part_view (S.shown source.now) result ≡ tree.indexed name.now (parts_view (S.shown source.now) parts.items) }
+    ensures { part_view (S.shown source.now) result ≡ tree.indexed name.now
+        (parts_view (S.shown source.now) parts.items) }
 {
     Part::Indexed(source.cut(text, name), parts)
 }
@@ -426,7 +439,8 @@ fn read_index<'a, S: Source<P>, P: Drop>(
     depth: usize,
 ) -> Result<(Vec<Part<P>>, &'a str), ReadError>
     requires { IsEndOf (S.text source.now) text.now }
-    ensures { Gives (λ x. (parts_view (S.shown source.now) x.0.items, x.1.now)) result (index_at (inner_at depth) text.now) }
+    ensures { Gives (λ x. (parts_view (S.shown source.now) x.0.items, x.1.now)) result
+        (index_at (inner_at depth) text.now) }
 {
     if depth == 0 {
         return Err(ReadError::Fault(Fault::TooDeep));

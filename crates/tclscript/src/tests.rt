@@ -55,6 +55,24 @@ fn limits(rt: HostRuntime) -> Result<(), Fail> {
 
 #[test]
 fn ranges(rt: HostRuntime) -> Result<(), Fail> {
+    let text = "set set \"\"";
+    let script: Script<ByteRange> = parse_pieces(rt.alloc(), &text)?;
+    let words = script.commands.first().ok_or("a command")?.words.as_slice();
+    assert!(rt;
+        matches!(
+            words.get(1).map(|w| w.parts.as_slice()),
+            Some([Part::Literal(ByteRange { start: 4, end: 7 })])
+        )
+    );
+    assert!(rt; words.get(2).is_some_and(|w| w.parts.is_empty()));
+    let script: Script<ByteRange> = parse_pieces(rt.alloc(), &"a {}")?;
+    let word = script.commands.first().and_then(|c| c.words.get(1));
+    assert!(rt;
+        matches!(
+            word.map(|w| w.parts.as_slice()),
+            Some([Part::Braced(ByteRange { start: 3, end: 3 })])
+        )
+    );
     let text = "a [b {c d}]\n$ef";
     let script: Script<ByteRange> = parse_pieces(rt.alloc(), &text)?;
     let word = script
@@ -76,6 +94,51 @@ fn ranges(rt: HostRuntime) -> Result<(), Fail> {
     let owned = own_script(rt.alloc(), format!(in rt.alloc(); "{text}")?)?;
     let last = owned.script.commands.last().ok_or("a command")?;
     assert_eq!(rt; last.source.of(owned.text.as_str()), "$ef");
+    Ok(())
+}
+
+// What the faults say.
+#[test]
+fn messages(rt: HostRuntime) -> Result<(), Fail> {
+    for (fault, message) in [
+        (TextFault::OutOfMemory, "Out of memory"),
+        (TextFault::OpenBrace(1), "Missing close-brace at byte 1"),
+        (TextFault::OpenQuote(2), "Missing close-quote at byte 2"),
+        (TextFault::OpenBracket(3), "Missing close-bracket at byte 3"),
+        (
+            TextFault::JoinedToClose(4),
+            "Extra characters after a close at byte 4",
+        ),
+        (TextFault::TooDeep, "Text is nested too deeply"),
+        (TextFault::BadCharacter(5), "Bad character at byte 5"),
+        (TextFault::BadExpression(6), "Bad expression at byte 6"),
+        (TextFault::TooLong, "Text is too long"),
+    ] {
+        assert_eq!(rt; format!(in rt.alloc(); "{fault}")?.as_str(), message);
+    }
+    Ok(())
+}
+
+// Commands stand where their first words begin, behind blanks, semicolons, comments and newlines behind backslashes.
+#[test]
+fn places(rt: HostRuntime) -> Result<(), Fail> {
+    let text = "a\na ;; # b\n a;# c\n\\\n {*}a [ b;c]";
+    let script = parse_script(rt.alloc(), text)?;
+    let places = [0, 2, 12, 21];
+    assert_eq!(rt; script.commands.len(), places.len());
+    for (command, place) in script.commands.iter().zip(places) {
+        assert_eq!(rt; command.place, place);
+    }
+    let word = script
+        .commands
+        .last()
+        .and_then(|c| c.words.last())
+        .ok_or("a word")?;
+    let Some(Part::Bracket(inside)) = word.parts.first() else {
+        return Err("a bracket".into());
+    };
+    let last = inside.commands.last().ok_or("a command")?;
+    assert_eq!(rt; last.place, 3);
     Ok(())
 }
 

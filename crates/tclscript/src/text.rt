@@ -1,23 +1,18 @@
 ghost use Rattle.std.specs.Prelude.{◌≡◌, ◌≤◌, length, IfOk, IfErr, MatchResult};
 ghost use Rattle.tclchars.specs.Faults.{max_bytes, max_nesting};
 ghost use Rattle.tclchars.specs.declared.fault.TextFault.TheVariants.{OutOfMemory};
+ghost use Rattle.tclchars.specs.Whole.{Reads};
 ghost use Rattle.tclscript.specs.Tree.{Commands, nesting};
 ghost use Rattle.tclscript.specs.Grammar.{IsScript};
 ghost use Rattle.tclscript.specs.Faults.{IsTextFault};
-ghost use Rattle.tclscript.specs.Text.{Reads, script_of};
+ghost use Rattle.tclscript.specs.Text.{IsWithin, script_of};
 ghost use Rattle.tclscript.specs.View.{script_view};
 
 use crate::piece::Source;
 use crate::reading::read_source;
 use crate::tree::Script;
 use std::alloc::Global;
-use tclchars::{ReadError, TextFault, place};
-
-/// The longest text that is parsed, in bytes.
-pub const MAX_BYTES: usize = 1_048_576;
-
-/// The deepest nesting of brackets and of the parentheses of indexes.
-pub const MAX_NESTING: usize = 200;
+use tclchars::{MAX_BYTES, MAX_NESTING, ReadError, TextFault, place};
 
 /// The tree of a script (Tcl(n)), whose pieces are slices of the text. Takes time and memory in proportion to the text's length,
 /// and copies no text.
@@ -26,10 +21,10 @@ pub const MAX_NESTING: usize = 200;
 /// and `OutOfMemory` says nothing of the text.
 pub fn parse_script(alloc: Global, text: &str) -> Result<Script<&str>, TextFault>
     // A tree that is returned is the text's, within the limits.
-    ensures found { IfOk result (λ s. IsScript text.now (script_view (λ piece. piece.now) s) × (nesting (script_view (λ piece. piece.now) s) ≤ max_nesting) × (length text.now ≤ max_bytes)) }
+    ensures found { IfOk result (λ s. IsWithin text.now (script_view (λ piece. piece.now) s)) }
 
     // A text within the limits that has a tree is read, unless memory runs out.
-    ensures only { (s : Commands) → IsScript text.now s → nesting s ≤ max_nesting → length text.now ≤ max_bytes
+    ensures only { (s : Commands) → IsWithin text.now s
         → MatchResult result (λ t. script_view (λ piece. piece.now) t ≡ s) (λ e. e ≡ OutOfMemory) }
 
     // A fault is the text's first, at its place.
@@ -46,8 +41,8 @@ pub fn parse_pieces<S: Source<P>, P: Drop>(
     alloc: Global,
     source: &S,
 ) -> Result<Script<P>, TextFault>
-    ensures found { IfOk result (λ s. IsScript (S.text source.now) (script_view (S.shown source.now) s) × (nesting (script_view (S.shown source.now) s) ≤ max_nesting) × (length (S.text source.now) ≤ max_bytes)) }
-    ensures only { (s : Commands) → IsScript (S.text source.now) s → nesting s ≤ max_nesting → length (S.text source.now) ≤ max_bytes
+    ensures found { IfOk result (λ s. IsWithin (S.text source.now) (script_view (S.shown source.now) s)) }
+    ensures only { (s : Commands) → IsWithin (S.text source.now) s
         → MatchResult result (λ t. script_view (S.shown source.now) t ≡ s) (λ e. e ≡ OutOfMemory) }
     ensures fault { IfErr result (IsTextFault (S.text source.now)) }
     ensures read { Reads (script_view (S.shown source.now)) result (script_of (S.text source.now)) }

@@ -1,2 +1,5 @@
 pub mod NumberLemmas
 pub mod Examples
+pub mod WholeNumbers
+pub mod Fractions
+pub mod Longest

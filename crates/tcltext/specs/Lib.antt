@@ -1,4 +1,5 @@
 pub mod Numerals
+pub mod Numbers
 pub use Rattle.tcllist.specs.ListGrammar
 pub use Rattle.tcllist.specs.ListFaults
 pub use Rattle.tcllist.specs.ListReading

@@ -1,15 +1,17 @@
 //! Answers calls of tcltext: one a line on standard input, a verb and texts in hexadecimal digits, with `-` for the empty text.
-//! `list TEXT`, `script TEXT`, `glob PATTERN TEXT`, `number TEXT`.
+//! `list TEXT`, `write TEXT...`, `script TEXT`, `expr TEXT`, `glob PATTERN TEXT`, `number TEXT`.
 //!
-//! Each answer is a line: `ok` and what was read, `fault NUMBER`, 1 or 0, or the class of a number. Of a script the words of each
-//! command are shown, parted by `;`, and a word with a substitution as `$`.
+//! Each answer is a line: `ok` and what was read or written, `fault NUMBER` with the place where there is one, 1 or 0, or the
+//! class of a number. Of a script the words of each command are shown behind its place, parted by `;`, and a word with a
+//! substitution as `$`. An expression is written with parentheses around each operator and its operands, and `?` for a
+//! substitution.
 #![tactic(auto)]
 
 use std::alloc::{AllocError, Global};
 use std::io;
 use tcltext::{
-    Command, Numeral, Part, Script, TextFault, Word, glob_match, parse_list, parse_script,
-    push_braced_text, read_number,
+    Command, Expr, Numeral, Operand, Part, Script, TextFault, Word, glob_match, parse_expr,
+    parse_list, parse_script, push_braced_text, read_number, write_list,
 };
 
 /// The text of a word of a call; None where it isn't one.
@@ -27,9 +29,24 @@ fn push_shown(alloc: Global, line: &mut String, text: &str) -> Option<()> {
     line.push_str(&hex::encode(alloc, text).ok()?).ok()
 }
 
+fn place_of(fault: &TextFault) -> Option<usize> {
+    match fault {
+        TextFault::OpenBrace(at)
+        | TextFault::OpenQuote(at)
+        | TextFault::OpenBracket(at)
+        | TextFault::JoinedToClose(at)
+        | TextFault::BadCharacter(at)
+        | TextFault::BadExpression(at) => Some(*at),
+        TextFault::OutOfMemory | TextFault::TooDeep | TextFault::TooLong => None,
+    }
+}
+
 fn shown_fault(alloc: Global, fault: TextFault) -> Option<String> {
     let number = fault.number();
-    format!(in alloc; "fault {number}").ok()
+    match place_of(&fault) {
+        Some(at) => format!(in alloc; "fault {number} {at}").ok(),
+        None => format!(in alloc; "fault {number}").ok(),
+    }
 }
 
 fn shown_list(alloc: Global, elements: &[String]) -> Option<String> {
@@ -58,6 +75,8 @@ fn word_text(alloc: Global, word: &Word<&str>) -> Result<Option<String>, AllocEr
 }
 
 fn push_command(alloc: Global, line: &mut String, command: &Command<&str>) -> Option<()> {
+    let place = command.place;
+    line.push_str(&format!(in alloc; "{place}:").ok()?).ok()?;
     for (i, word) in command.words.iter().enumerate() {
         if i > 0 {
             line.push(',').ok()?;
@@ -81,6 +100,87 @@ fn shown_script(alloc: Global, script: &Script<&str>) -> Option<String> {
     Some(line)
 }
 
+/// The text of an operand; `?` where it is a substitution.
+fn push_operand(text: &mut String, operand: &Operand<&str>) -> Result<(), AllocError> {
+    match operand {
+        Operand::Number(spelled) | Operand::Word(spelled) => text.push_str(spelled),
+        Operand::Braced(inside) => {
+            text.push('{')?;
+            text.push_str(inside)?;
+            text.push('}')
+        }
+        Operand::Variable(_) | Operand::Indexed(_, _) | Operand::Bracket(_) | Operand::Quoted(_) =>
+            text.push('?'),
+    }
+}
+
+fn push_sign(text: &mut String, sign: &str) -> Result<(), AllocError> {
+    text.push(' ')?;
+    text.push_str(sign)?;
+    text.push(' ')
+}
+
+/// The sign of an operator between two operands.
+fn sign(expression: &Expr<&str>) -> &'static str {
+    match expression {
+        Expr::Binary(operator, _, _) => operator.symbol(),
+        Expr::And(_, _) => "&&",
+        _ => "||",
+    }
+}
+
+/// The text of an expression, with parentheses around each operator and its operands.
+fn push_expression(text: &mut String, expression: &Expr<&str>) -> Result<(), AllocError> {
+    match expression {
+        Expr::Operand(operand) => return push_operand(text, operand),
+        Expr::Unary(operator, operand) => {
+            text.push('(')?;
+            text.push_str(operator.symbol())?;
+            push_expression(text, operand)?;
+        }
+        Expr::Binary(_, left, right) | Expr::And(left, right) | Expr::Or(left, right) => {
+            text.push('(')?;
+            push_expression(text, left)?;
+            push_sign(text, sign(expression))?;
+            push_expression(text, right)?;
+        }
+        Expr::Choice(condition, yes, no) => {
+            text.push('(')?;
+            push_expression(text, condition)?;
+            push_sign(text, "?")?;
+            push_expression(text, yes)?;
+            push_sign(text, ":")?;
+            push_expression(text, no)?;
+        }
+    }
+    text.push(')')
+}
+
+fn shown_expression(alloc: Global, expression: &Expr<&str>) -> Option<String> {
+    let mut text = String::new(alloc);
+    push_expression(&mut text, expression).ok()?;
+    shown_text(alloc, &text)
+}
+
+fn shown_text(alloc: Global, text: &str) -> Option<String> {
+    let mut line = String::from_str(alloc, "ok ").ok()?;
+    push_shown(alloc, &mut line, text)?;
+    Some(line)
+}
+
+/// The list of the texts of a call.
+fn written(alloc: Global, words: &str) -> Option<String> {
+    let mut texts = Vec::new(alloc);
+    for word in words.split(' ') {
+        texts.push(text_of(alloc, word)?).ok()?;
+    }
+    let mut elements = Vec::new(alloc);
+    for text in &texts {
+        elements.push(text.as_str()).ok()?;
+    }
+    shown_text(alloc, &write_list(alloc, elements.as_slice()).ok()?)
+}
+
 fn shown_number(alloc: Global, number: Numeral) -> Option<String> {
     match number {
         Numeral::Whole(value) => format!(in alloc; "whole {value}").ok(),
@@ -102,6 +202,14 @@ fn answer(alloc: Global, line: &str) -> Option<String> {
             let text = text_of(alloc, rest)?;
             match parse_script(alloc, &text) {
                 Ok(script) => shown_script(alloc, &script),
+                Err(fault) => shown_fault(alloc, fault),
+            }
+        }
+        "write" => written(alloc, rest),
+        "expr" => {
+            let text = text_of(alloc, rest)?;
+            match parse_expr(alloc, &text) {
+                Ok(expression) => shown_expression(alloc, &expression),
                 Err(fault) => shown_fault(alloc, fault),
             }
         }

@@ -1,10 +1,8 @@
 pub mod Examples
-pub mod NumberLemmas
 pub mod CharacterLemmas
 pub mod SearchLemmas
 pub mod IndexLemmas
 pub mod LimitLemmas
 pub mod CommandLemmas
 pub mod GlobLemmas
-pub mod DivisionLemmas
 pub mod MatchLemmas

@@ -3,7 +3,7 @@ use Rattle.std.proofs.Common.{◌≡◌, ℕ, ◌*◌, ◌<◌, ◌≤◌, [], l
 use Rattle.std.specs.List.{repeat}
 use Rattle.std.proofs.lemmas.Bool.{le-leb, lt-leb}
 use Rattle.tclchars.specs.Runs.{Text}
-use Rattle.tclvalue.specs.Faults.{value_too_long}
+use Rattle.tcloperators.specs.Faults.{value_too_long}
 use Rattle.tclvalue.specs.Limits.{limited}
 use Rattle.tclvalue.proofs.IndexLemmas.{length_repeat, repeat_nothing}
 

@@ -2,12 +2,10 @@
 use Rattle.std.specs.Prelude.{ℕ, ◌==◌, List, [], ◌∷◌, ◌++◌, length, Bool, if◌then◌else◌, codes, map, filter, not}
 use Rattle.std.specs.List.{list_any, slice_split}
 use Rattle.std.specs.Str.{chars, encode_utf8_all}
+use Rattle.tclchars.specs.Bytes.{newline}
 use Rattle.tclchars.specs.Runs.{Text}
-use Rattle.tclvalue.specs.Searches.{is_nil}
-use Rattle.tclvalue.specs.Indexes.{place, items_between}
-use Rattle.tclvalue.specs.declared.index.Index.{Index}
-use Rattle.tclvalue.specs.declared.texts.Ends.{Ends}
-use Rattle.tclvalue.specs.declared.texts.Ends.TheVariants.{Both, Start, End}
+use Rattle.tcloperators.specs.Operators.{is_nil}
+use Rattle.tclvalue.specs.Indexes.{Index, place, items_between}
 
 -- a character is one of a set
 abbrev pub is_among : Text → ℕ → Bool
@@ -45,32 +43,48 @@ joined separator (t ∷ ts) = t ++ joined_rest separator ts
 abbrev pub encoded_all : List Text → List Text
 encoded_all rows = map encode_utf8_all rows
 
--- at which ends a text is trimmed
-abbrev pub without : Ends → Text → Text → Text
-without Both set t = without_end set (without_start set t)
-without Start set t = without_start set t
-without End set t = without_end set t
+-- the text without the characters of another at both its ends, in front alone, and at the end alone
+abbrev pub trimmed : Text → Text → Text
+trimmed set t = encode_utf8_all (without_end (chars set) (without_start (chars set) (chars t)))
 
--- the text without the characters of another at its ends
-abbrev pub trimmed : Ends → Text → Text → Text
-trimmed ends set t = encode_utf8_all (without ends (chars set) (chars t))
+abbrev pub trimmed_left : Text → Text → Text
+trimmed_left set t = encode_utf8_all (without_start (chars set) (chars t))
+
+abbrev pub trimmed_right : Text → Text → Text
+trimmed_right set t = encode_utf8_all (without_end (chars set) (chars t))
 
 -- the characters of a text from one index up to and with another, as far as they are there
 abbrev pub characters_between : Index → Index → Text → Text
-characters_between i j t = encode_utf8_all (items_between (place (length (chars t)) i) (place (length (chars t)) j) (chars t))
+characters_between i j t =
+    encode_utf8_all (items_between (place (length (chars t)) i) (place (length (chars t)) j) (chars t))
 
 -- the pieces of a text between the characters of another
 abbrev pub parts : Text → Text → List Text
 parts set t = encoded_all (pieces (chars set) (chars t))
 
--- white space: space, tab, newline, vertical tab, form feed and carriage return
-unfoldable pub white_space : Text
-white_space = 32 ∷ 9 ∷ 10 ∷ 11 ∷ 12 ∷ 13 ∷ []
+-- white space
+abbrev pub space : ℕ
+space = 32
 
--- what splits a text where nothing else is said: space, newline, tab and carriage return
+abbrev pub tab : ℕ
+tab = 9
+
+abbrev pub vertical_tab : ℕ
+vertical_tab = 11
+
+abbrev pub form_feed : ℕ
+form_feed = 12
+
+abbrev pub carriage_return : ℕ
+carriage_return = 13
+
+unfoldable pub white_space : Text
+white_space = space ∷ tab ∷ newline ∷ vertical_tab ∷ form_feed ∷ carriage_return ∷ []
+
+-- what splits a text where nothing else is said
 unfoldable pub split_space : Text
-split_space = 32 ∷ 10 ∷ 9 ∷ 13 ∷ []
+split_space = space ∷ newline ∷ tab ∷ carriage_return ∷ []
 
 -- texts without the white space around them, those of nothing else left out, joined by a space
 abbrev pub concatenated : List Text → Text
-concatenated ts = joined (codes " ") (filter (λ t. not (is_nil t)) (map (trimmed Both white_space) ts))
+concatenated ts = joined (codes " ") (filter (λ t. not (is_nil t)) (map (trimmed white_space) ts))

@@ -7,8 +7,11 @@ use Rattle.tcltext.specs.declared.number.Numeral.{Numeral}
 use Rattle.tcltext.specs.declared.number.Numeral.TheVariants as numerals
 use Rattle.tclvalue.specs.Faults.{Answer, ◌>>=◌, error, number_too_large, fraction}
 use Rattle.tclvalue.specs.Messages.{bad_index, no_whole_number}
-use Rattle.tclvalue.specs.declared.index.Index.{Index}
-use Rattle.tclvalue.specs.declared.index.Index.TheVariants.{FromStart, FromEnd}
+
+-- an index: a place counted from the first item, or back from the last
+pub data Index : Type 0 where
+  from_start : (place : ℤ) → Index
+  from_end : (back : ℤ) → Index
 
 -- what follows a text in front of another
 abbrev pub after_front : Text → Text → Option Text
@@ -29,16 +32,20 @@ index_number word numerals.Text = Err (error (bad_index word))
 
 -- no white space stands behind end-
 abbrev pub index_behind : Text → Option Text → Answer Index
-index_behind word (Some rest) = if begins_space rest then Err (error (bad_index word)) else index_number word (numeral rest) >>= (λ z. Ok (FromEnd z))
-index_behind word None = index_number word (numeral word) >>= (λ z. Ok (FromStart z))
+index_behind word (Some rest) =
+    if begins_space rest then Err (error (bad_index word))
+    else index_number word (numeral rest) >>= (λ z. Ok (from_end z))
+index_behind word None = index_number word (numeral word) >>= (λ z. Ok (from_start z))
 
 abbrev pub index_of : Text → Answer Index
-index_of word = if bytes_eq word (codes "end") then Ok (FromEnd (pos 0)) else index_behind word (after_front (codes "end-") word)
+index_of word =
+    if bytes_eq word (codes "end") then Ok (from_end (pos 0))
+    else index_behind word (after_front (codes "end-") word)
 
 -- the place that an index names among so many items; they stand at 0 and on, and other places are outside
 abbrev pub place : ℕ → Index → ℤ
-place n (FromStart z) = z
-place n (FromEnd z) = pos n -ℤ pos 1 -ℤ z
+place n (from_start z) = z
+place n (from_end z) = pos n -ℤ pos 1 -ℤ z
 
 -- a place where one of so many items stands
 abbrev pub place_among : ℕ → ℤ → Option ℕ

@@ -1,10 +1,11 @@
 //! Texts within a limit on their bytes.
 ghost use Rattle.std.specs.Prelude.{◌≡◌, [], string_bytes, encode_utf8};
-ghost use Rattle.tclvalue.specs.Faults.{GivesText};
-ghost use Rattle.tclvalue.specs.Limits.{limited, Appends};
+ghost use Rattle.tcloperators.specs.Faults.{GivesText};
+ghost use Rattle.tclvalue.specs.Limits.{limited};
+ghost use Rattle.tclvalue.specs.Growing.{Appends};
 
-use crate::fault::ValueFault;
 use std::alloc::Global;
+use tcloperators::ValueFault;
 
 /// The text, unless it has more bytes than the limit.
 pub(crate) fn limited(text: String, limit: usize) -> Result<String, ValueFault>

@@ -1,22 +1,22 @@
 //! The commands of values.
 ghost use Rattle.std.specs.Prelude.{map, string_bytes};
 ghost use Rattle.std.specs.Option.{option_map};
-ghost use Rattle.tclvalue.specs.Faults.{Gives};
+ghost use Rattle.tcloperators.specs.Faults.{Gives};
 ghost use Rattle.tclvalue.specs.Commands.{command_value};
 
-use crate::fault::ValueFault;
 use crate::list_commands::value_of;
 use crate::names::command_named;
 use std::alloc::Global;
+use tcloperators::ValueFault;
 
-/// The answer of `list`, `llength`, `lindex`, `lrange`, `split`, `join`, `concat` or `string` to its words, of which the first
-/// names it; None for another first word, and for no word. Characters are Unicode code points. An index is a whole number
-/// counted from 0, `end` or `end-N`.
+/// The answer of `list`, `llength`, `lindex`, `lrange`, `split`, `join`, `concat` or `string` to its words, of which
+/// the first names it; None for another first word, and for no word. Characters are Unicode code points. An index is a
+/// whole number counted from 0, `end` or `end-N`.
 ///
-/// Errors: 19 for a subcommand of `string`, and for an option, that is left out. Then 13 for a wrong number of words. Then the
-/// fault of the leftmost faulty word: 13 for what is no list, no index or no count, 12 for a list that is too long, 17 for a
-/// number outside 64 bits, 18 for one with a fraction. Then 16 for an answer of more bytes than the limit. 11 comes where memory
-/// runs out.
+/// Errors: `LeftOut` for a subcommand of `string`, and for an option, that is left out. Then `TclError` for a wrong
+/// number of words. Then the fault of the leftmost faulty word: `TclError` for what is no list, no index or no count,
+/// `Text` for a list that is too long, `NumberTooLarge`, `FractionOperand`. Then `ValueTooLong` for an answer of more
+/// bytes than the limit. `OutOfMemory` comes where memory runs out.
 pub fn value_command(
     alloc: Global,
     words: &[String],
@@ -28,7 +28,7 @@ pub fn value_command(
         return Ok(None);
     };
     match command_named(name) {
-        Some(command) => Ok(Some(value_of(alloc, command, name, rest, value_bytes)?)),
+        Some(command) => Ok(Some(value_of(alloc, command, rest, value_bytes)?)),
         None => Ok(None),
     }
 }

@@ -1,22 +1,19 @@
 //! Texts made one (concat(n)).
 ghost use Rattle.std.specs.Prelude.{◌≡◌, ◌++◌, ◌∷◌, [], map, filter, not, string_bytes, IfOk, OnOk};
-ghost use Rattle.tclvalue.specs.Searches.{is_nil};
-ghost use Rattle.tclvalue.specs.Faults.{GivesText};
+ghost use Rattle.tcloperators.specs.Operators.{is_nil};
+ghost use Rattle.tcloperators.specs.Faults.{GivesText};
 ghost use Rattle.tclvalue.specs.Limits.{limited};
 ghost use Rattle.tclvalue.specs.Characters.{concatenated, trimmed, white_space};
-ghost use Rattle.tclvalue.specs.declared.texts.Ends.TheVariants.{Both};
 
-use crate::fault::ValueFault;
 use crate::lists::joined;
 use crate::texts::{Ends, trimmed_of_space};
 use std::alloc::{AllocError, Global};
+use tcloperators::ValueFault;
 
 /// The texts without the white space around them, those of nothing else left out, joined by a space.
-pub(crate) fn concatenated(
-    alloc: Global,
-    texts: &[String],
-    limit: usize,
-) -> Result<String, ValueFault>
+///
+/// Errors: `ValueTooLong` where this has more bytes than the limit, `OutOfMemory`.
+pub fn concatenated(alloc: Global, texts: &[String], limit: usize) -> Result<String, ValueFault>
     ensures { GivesText result (limited limit (concatenated (map string_bytes texts.now))) }
 {
     joined(alloc, " ", &trimmed_texts(alloc, texts)?, limit)
@@ -25,7 +22,7 @@ pub(crate) fn concatenated(
 /// The texts without the white space around them, but those of nothing else.
 fn trimmed_texts(alloc: Global, texts: &[String]) -> Result<Vec<String>, AllocError>
     ensures { IfOk result (λ v. map string_bytes v.items
-        ≡ filter (λ t. not (is_nil t)) (map (trimmed Both white_space) (map string_bytes texts.now))) }
+        ≡ filter (λ t. not (is_nil t)) (map (trimmed white_space) (map string_bytes texts.now))) }
 {
     let mut all = Vec::new(alloc);
     for text in texts {

@@ -1,13 +1,18 @@
 //! Indexes of lists and texts (lindex(n), string(n)).
 ghost use Rattle.std.specs.Prelude.{◌≡◌, ◌+ℤ◌, pos, min, length, Some};
 ghost use Rattle.tcltext.specs.Numerals.{numeral};
-ghost use Rattle.tclvalue.specs.Faults.{Gives};
-ghost use Rattle.tclvalue.specs.Indexes.{index_of, index_behind, index_number, begins_space, count_of, place, at_least_0, place_among, items_between};
+ghost use Rattle.tcloperators.specs.Faults.{Gives};
+ghost use Rattle.tclvalue.specs.Indexes.{index_of, index_behind, index_number, begins_space, count_of};
+ghost use Rattle.tclvalue.specs.Indexes.{place, place_among, at_least_0, items_between};
+ghost use Rattle.tclvalue.specs.Views.{index_view};
 
-use crate::fault::ValueFault;
-use crate::messages::{bad_index, no_whole_number};
 use std::alloc::Global;
+use tcloperators::{ValueFault, bad_index, no_whole_number};
 use tcltext::{Numeral, read_number};
+
+const VERTICAL_TAB: u8 = 11;
+
+const FORM_FEED: u8 = 12;
 
 /// An index: a place counted from the first item, or back from the last.
 #[derive(Clone, Copy)]
@@ -19,7 +24,7 @@ pub(crate) enum Index {
 impl Index {
     /// The place among so many items, where an item is there.
     pub(crate) fn place(self, length: usize) -> Option<usize>
-        ensures { result ≡ place_among length (place length self) }
+        ensures { result ≡ place_among length (place length (index_view self)) }
     {
         match self {
             Index::FromStart(number) => usize::try_from(number)
@@ -34,7 +39,7 @@ impl Index {
 
     /// How many of so many items stand before the index.
     pub(crate) fn items_before(self, length: usize) -> usize
-        ensures { result ≡ min (at_least_0 (place length self)) length }
+        ensures { result ≡ min (at_least_0 (place length (index_view self))) length }
     {
         match self {
             Index::FromStart(number) => usize::try_from(number).unwrap_or(0).min(length),
@@ -47,7 +52,7 @@ impl Index {
 
     /// How many of so many items stand up to and with the index.
     pub(crate) fn items_through(self, length: usize) -> usize
-        ensures { result ≡ min (at_least_0 (place length self +ℤ pos 1)) length }
+        ensures { result ≡ min (at_least_0 (place length (index_view self) +ℤ pos 1)) length }
     {
         match self {
             Index::FromStart(number) => match usize::try_from(number) {
@@ -65,7 +70,7 @@ impl Index {
 
 /// The index that a word names: a whole number, `end`, or `end-` and a whole number.
 pub(crate) fn index_of(alloc: Global, word: &str) -> Result<Index, ValueFault>
-    ensures { Gives (λ i. i) result (index_of word.now) }
+    ensures { Gives index_view result (index_of word.now) }
 {
     if word == "end" {
         return Ok(Index::FromEnd(0));
@@ -78,7 +83,7 @@ pub(crate) fn index_of(alloc: Global, word: &str) -> Result<Index, ValueFault>
 
 /// The index that a word names with what follows its `end-`.
 fn index_behind(alloc: Global, word: &str, rest: &str) -> Result<Index, ValueFault>
-    ensures { Gives (λ i. i) result (index_behind word.now (Some rest.now)) }
+    ensures { Gives index_view result (index_behind word.now (Some rest.now)) }
 {
     if begins_space(rest) {
         return Err(bad_index(alloc, word));
@@ -91,7 +96,7 @@ fn begins_space(text: &str) -> bool
 {
     matches!(
         text.as_bytes(),
-        [b' ' | b'\t' | b'\n' | 11 | 12 | b'\r', ..]
+        [b' ' | b'\t' | b'\n' | VERTICAL_TAB | FORM_FEED | b'\r', ..]
     )
 }
 
@@ -108,7 +113,10 @@ fn number_in(alloc: Global, word: &str, number: &str) -> Result<i64, ValueFault>
 }
 
 /// A count: a whole number.
-pub(crate) fn count_of(alloc: Global, word: &str) -> Result<i64, ValueFault>
+///
+/// Errors: `NumberTooLarge`, `FractionOperand`, `TclError` for another text, `OutOfMemory` where memory for its message
+/// runs out.
+pub fn count_of(alloc: Global, word: &str) -> Result<i64, ValueFault>
     ensures { Gives (λ n. n) result (count_of word.now) }
 {
     match read_number(word) {
@@ -121,7 +129,8 @@ pub(crate) fn count_of(alloc: Global, word: &str) -> Result<i64, ValueFault>
 
 /// The items from one index up to and with another, as far as they are there.
 pub(crate) fn between<T>(items: &[T], first: Index, last: Index) -> &[T]
-    ensures { result.now ≡ items_between (place (length items.entry.now) first) (place (length items.entry.now) last) items.entry.now }
+    ensures { result.now ≡ items_between (place (length items.entry.now) (index_view first))
+        (place (length items.entry.now) (index_view last)) items.entry.now }
 {
     let start = first.items_before(items.len());
     let end = last.items_through(items.len());

@@ -1,15 +1,16 @@
 //! Texts made of others: lists, and texts joined.
 ghost use Rattle.std.specs.Prelude.{◌≡◌, map, IfOk, string_bytes};
 ghost use Rattle.tcllist.specs.Lists.{list_text};
-ghost use Rattle.tclvalue.specs.Faults.{GivesText};
-ghost use Rattle.tclvalue.specs.Limits.{Appends, limited};
+ghost use Rattle.tcloperators.specs.Faults.{GivesText};
+ghost use Rattle.tclvalue.specs.Limits.{limited};
+ghost use Rattle.tclvalue.specs.Growing.{Appends};
 ghost use Rattle.tclvalue.specs.Characters.{joined, joined_rest, encoded_all};
 
 use crate::bounded::{Bounded, limited};
 use crate::characters::text_of;
-use crate::fault::ValueFault;
 use std::alloc::{AllocError, Global};
 use tcllist::write_list;
+use tcloperators::ValueFault;
 
 /// The texts as slices.
 fn slices(alloc: Global, texts: &[String]) -> Result<Vec<&str>, AllocError>
@@ -23,7 +24,7 @@ fn slices(alloc: Global, texts: &[String]) -> Result<Vec<&str>, AllocError>
 }
 
 /// The text of the list with these elements.
-pub(crate) fn list_text(alloc: Global, elements: &[String]) -> Result<String, AllocError>
+pub fn list_text(alloc: Global, elements: &[String]) -> Result<String, AllocError>
     ensures { IfOk result (λ t. string_bytes t ≡ list_text (map string_bytes elements.now)) }
 {
     write_list(alloc, &slices(alloc, elements)?)
@@ -66,8 +67,10 @@ pub(crate) fn texts_of(alloc: Global, rows: &[&[char]]) -> Result<Vec<String>, A
     Ok(texts)
 }
 
-/// The texts with a separator between them, unless this would pass the limit.
-pub(crate) fn joined(
+/// The texts with a separator between them.
+///
+/// Errors: `ValueTooLong` where this has more bytes than the limit, `OutOfMemory`.
+pub fn joined(
     alloc: Global,
     separator: &str,
     texts: &[String],

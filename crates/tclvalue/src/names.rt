@@ -1,31 +1,24 @@
 //! The names of the commands of values.
-ghost use Rattle.std.specs.Prelude.{◌≡◌};
-ghost use Rattle.tclvalue.specs.Commands.{command_named, text_command_named, takes_options, is_option};
+ghost use Rattle.std.specs.Prelude.{◌≡◌, option_map};
+ghost use Rattle.tclvalue.specs.Commands.{command_named, subcommand_named, is_option};
+ghost use Rattle.tclvalue.specs.Views.{command_view, subcommand_view, takes_options};
 
 /// A command of values.
 #[derive(Clone, Copy)]
 pub(crate) enum ValueCommand {
-    /// `list`
-    Elements,
-    /// `llength`
-    Length,
-    /// `lindex`
-    Index,
-    /// `lrange`
-    Range,
-    /// `split`
+    List,
+    Llength,
+    Lindex,
+    Lrange,
     Split,
-    /// `join`
     Join,
-    /// `concat`
     Concat,
-    /// `string`
-    Text,
+    String,
 }
 
 /// A subcommand of `string`.
 #[derive(Clone, Copy)]
-pub(crate) enum TextCommand {
+pub(crate) enum Subcommand {
     Length,
     Index,
     Range,
@@ -43,50 +36,50 @@ pub(crate) enum TextCommand {
 
 /// The command of values that a word names.
 pub(crate) fn command_named(name: &str) -> Option<ValueCommand>
-    ensures { result ≡ command_named name.now }
+    ensures { option_map command_view result ≡ command_named name.now }
 {
     match name {
-        "list" => Some(ValueCommand::Elements),
-        "llength" => Some(ValueCommand::Length),
-        "lindex" => Some(ValueCommand::Index),
-        "lrange" => Some(ValueCommand::Range),
+        "list" => Some(ValueCommand::List),
+        "llength" => Some(ValueCommand::Llength),
+        "lindex" => Some(ValueCommand::Lindex),
+        "lrange" => Some(ValueCommand::Lrange),
         "split" => Some(ValueCommand::Split),
         "join" => Some(ValueCommand::Join),
         "concat" => Some(ValueCommand::Concat),
-        "string" => Some(ValueCommand::Text),
+        "string" => Some(ValueCommand::String),
         _ => None,
     }
 }
 
 /// The subcommand of `string` that a word names.
-pub(crate) fn text_command_named(name: &str) -> Option<TextCommand>
-    ensures { result ≡ text_command_named name.now }
+pub(crate) fn subcommand_named(name: &str) -> Option<Subcommand>
+    ensures { option_map subcommand_view result ≡ subcommand_named name.now }
 {
     match name {
-        "length" => Some(TextCommand::Length),
-        "index" => Some(TextCommand::Index),
-        "range" => Some(TextCommand::Range),
-        "equal" => Some(TextCommand::Equal),
-        "compare" => Some(TextCommand::Compare),
-        "match" => Some(TextCommand::Match),
-        "first" => Some(TextCommand::First),
-        "last" => Some(TextCommand::Last),
-        "map" => Some(TextCommand::Map),
-        "repeat" => Some(TextCommand::Repeat),
-        "trim" => Some(TextCommand::Trim),
-        "trimleft" => Some(TextCommand::TrimLeft),
-        "trimright" => Some(TextCommand::TrimRight),
+        "length" => Some(Subcommand::Length),
+        "index" => Some(Subcommand::Index),
+        "range" => Some(Subcommand::Range),
+        "equal" => Some(Subcommand::Equal),
+        "compare" => Some(Subcommand::Compare),
+        "match" => Some(Subcommand::Match),
+        "first" => Some(Subcommand::First),
+        "last" => Some(Subcommand::Last),
+        "map" => Some(Subcommand::Map),
+        "repeat" => Some(Subcommand::Repeat),
+        "trim" => Some(Subcommand::Trim),
+        "trimleft" => Some(Subcommand::TrimLeft),
+        "trimright" => Some(Subcommand::TrimRight),
         _ => None,
     }
 }
 
 /// Whether the subcommand takes options before its two operands.
-pub(crate) fn takes_options(command: TextCommand) -> bool
+pub(crate) fn takes_options(command: Subcommand) -> bool
     ensures { result ≡ takes_options command }
 {
     matches!(
         command,
-        TextCommand::Equal | TextCommand::Compare | TextCommand::Match | TextCommand::Map
+        Subcommand::Equal | Subcommand::Compare | Subcommand::Match | Subcommand::Map
     )
 }
 

@@ -4,8 +4,8 @@ ghost use Rattle.tclvalue.specs.Globs.{glob};
 
 use tcltext::glob_match;
 
-/// Whether the text matches the pattern.
-pub(crate) fn glob(pattern: &str, text: &str) -> bool
+/// Whether the text matches the pattern. It takes no memory.
+pub fn glob(pattern: &str, text: &str) -> bool
     ensures { result ≡ glob pattern.now text.now }
 {
     glob_match(pattern, text)

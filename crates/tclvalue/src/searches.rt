@@ -2,14 +2,16 @@
 ghost use Rattle.std.specs.Prelude.{◌≡◌, ◌<◌, ◌-◌, ◌++◌, length, drop, map, string_bytes, IfOk, IfErr, OnOk};
 ghost use Rattle.std.specs.Option.{option_map, option_copied};
 ghost use Rattle.std.specs.Str.{chars};
-ghost use Rattle.tclvalue.specs.Faults.{GivesText};
-ghost use Rattle.tclvalue.specs.Limits.{limited, Appends, Exceeds};
-ghost use Rattle.tclvalue.specs.Searches.{first_place, last_place, fits, first_fit, pair_view, mapped};
+ghost use Rattle.tcloperators.specs.Faults.{Gives, GivesText};
+ghost use Rattle.tclvalue.specs.Limits.{limited};
+ghost use Rattle.tclvalue.specs.Growing.{Appends, Exceeds};
+ghost use Rattle.tclvalue.specs.Searches.{first_place, last_place, fits, first_fit, pairs_of, mapped};
+ghost use Rattle.tclvalue.specs.Views.{pair_view};
 
 use crate::bounded::{Bounded, limited};
 use crate::characters::characters;
-use crate::fault::ValueFault;
 use std::alloc::Global;
+use tcloperators::{ValueFault, not_a_list};
 
 /// The first place at which a text stands in another.
 pub(crate) fn first_place(sought: &[char], text: &[char]) -> Option<usize>
@@ -58,7 +60,8 @@ fn first_fit<'a, 'b>(
     replacements: &'a [Replacement<'b>],
     text: &[char],
 ) -> Option<&'a Replacement<'b>>
-    ensures { option_map pair_view (option_copied result) ≡ first_fit (map pair_view replacements.entry.now) text.now }
+    ensures { option_map pair_view (option_copied result)
+        ≡ first_fit (map pair_view replacements.entry.now) text.now }
 {
     let mut rest = replacements;
     while let [first, after @ ..] = rest {
@@ -133,4 +136,25 @@ fn after_key<'a>(found: &Replacement, text: &'a [char]) -> &'a [char]
     ensures { result.now ≡ drop (length (pair_view found.now).0 - 1) text.entry.now }
 {
     text.get(found.key.len().saturating_sub(1)..).unwrap_or(&[])
+}
+
+/// The keys and values of a list.
+pub(crate) fn replacements(
+    alloc: Global,
+    elements: &[String],
+) -> Result<Vec<Replacement<'_>>, ValueFault>
+    ensures { Gives (λ v. map pair_view v.items) result (pairs_of (map string_bytes elements.entry.now)) }
+{
+    let mut replacements = Vec::new(alloc);
+    let mut rest = elements;
+    while let [key, value, after @ ..] = rest {
+        let key = characters(alloc, key)?;
+        replacements.push(Replacement { key, value })?;
+        rest = after;
+    }
+    if rest.is_empty() {
+        Ok(replacements)
+    } else {
+        Err(not_a_list(alloc))
+    }
 }

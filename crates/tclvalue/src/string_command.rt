@@ -1,24 +1,23 @@
 //! The command `string` (string(n)).
-ghost use Rattle.std.specs.Prelude.{◌≡◌, map, string_bytes, IfOk};
-ghost use Rattle.std.specs.Option.{option_map};
-ghost use Rattle.tclvalue.specs.Limits.{GivesWithin};
+ghost use Rattle.std.specs.Prelude.{◌≡◌, map, option_map, string_bytes, IfOk};
 ghost use Rattle.tclvalue.specs.Searches.{first_place, last_place};
-ghost use Rattle.tclvalue.specs.Commands.{text_command_named, option_in, option_of, order_text, place_text, sought_place, text_value, named_text_value};
-ghost use Rattle.tclvalue.specs.declared.names.TextCommand.TheVariants as texts;
+ghost use Rattle.tclvalue.specs.Commands.{subcommand_value, subcommand_named, option_in, order_text, place_text, sought_place};
+ghost use Rattle.tclvalue.specs.Commands.{string_length, string_index, string_range, string_equal, string_compare};
+ghost use Rattle.tclvalue.specs.Commands.{string_match, string_first, string_last, string_map, string_repeat};
+ghost use Rattle.tclvalue.specs.Commands.{string_trim, string_trimleft, string_trimright};
+ghost use Rattle.tclvalue.specs.Growing.{GivesWithin};
+ghost use Rattle.tclvalue.specs.Views.{operation, option_of};
 
 use crate::bounded::limited;
 use crate::characters::{character_count, characters};
-use crate::elements::{elements, replacements};
-use crate::fault::ValueFault;
 use crate::index::{count_of, index_of};
-use crate::messages::{left_out, wrong_words};
-use crate::names::{TextCommand, is_option, takes_options, text_command_named};
-use crate::operators::{text_order, truth_text};
+use crate::names::{Subcommand, is_option, subcommand_named, takes_options};
 use crate::pattern::glob;
-use crate::searches::{first_place, last_place, mapped};
+use crate::searches::{first_place, last_place, mapped, replacements};
 use crate::texts::{Ends, characters_between, repeated, trimmed, trimmed_of_space};
 use std::alloc::{AllocError, Global};
 use std::cmp::Ordering;
+use tcloperators::{ValueFault, elements, left_out, text_order, truth_text, wrong_words};
 
 /// The answer of `string` to a subcommand and its operands, within a limit on its bytes.
 pub(crate) fn string_value(
@@ -27,19 +26,20 @@ pub(crate) fn string_value(
     operands: &[String],
     limit: usize,
 ) -> Result<String, ValueFault>
-    ensures { GivesWithin limit result (named_text_value subcommand.now (map string_bytes operands.now) (text_command_named subcommand.now)) }
+    ensures { GivesWithin limit result (subcommand_value subcommand.now (map string_bytes operands.now)
+        (subcommand_named subcommand.now)) }
 {
-    let Some(command) = text_command_named(subcommand) else {
+    let Some(command) = subcommand_named(subcommand) else {
         return Err(left_out(alloc, subcommand));
     };
     if let Some(option) = option_of(command, operands) {
         return Err(left_out(alloc, option));
     }
-    text_value(alloc, command, operands, limit)
+    operation_value(alloc, command, operands, limit)
 }
 
 /// The option among the operands of a subcommand.
-fn option_of(command: TextCommand, operands: &[String]) -> Option<&str>
+fn option_of(command: Subcommand, operands: &[String]) -> Option<&str>
     ensures { option_map (λ w. w.now) result ≡ option_of command (map string_bytes operands.entry.now) }
 {
     if takes_options(command) {
@@ -59,33 +59,34 @@ fn option_in(operands: &[String]) -> Option<&str>
     }
 }
 
-fn text_value(
+/// The answer of a subcommand to its operands, among which there is no option.
+fn operation_value(
     alloc: Global,
-    command: TextCommand,
+    command: Subcommand,
     operands: &[String],
     limit: usize,
 ) -> Result<String, ValueFault>
-    ensures { GivesWithin limit result (text_value command (map string_bytes operands.now)) }
+    ensures { GivesWithin limit result (operation command (map string_bytes operands.now)) }
 {
     match command {
-        TextCommand::Length => length_value(alloc, operands, limit),
-        TextCommand::Index => index_value(alloc, operands, limit),
-        TextCommand::Range => range_value(alloc, operands, limit),
-        TextCommand::Equal => equal_value(alloc, operands, limit),
-        TextCommand::Compare => compare_value(alloc, operands, limit),
-        TextCommand::Match => match_value(alloc, operands, limit),
-        TextCommand::First => first_value(alloc, operands, limit),
-        TextCommand::Last => last_value(alloc, operands, limit),
-        TextCommand::Map => map_value(alloc, operands, limit),
-        TextCommand::Repeat => repeat_value(alloc, operands, limit),
-        TextCommand::Trim => trim_value(alloc, operands, limit),
-        TextCommand::TrimLeft => trim_left_value(alloc, operands, limit),
-        TextCommand::TrimRight => trim_right_value(alloc, operands, limit),
+        Subcommand::Length => length_value(alloc, operands, limit),
+        Subcommand::Index => index_value(alloc, operands, limit),
+        Subcommand::Range => range_value(alloc, operands, limit),
+        Subcommand::Equal => equal_value(alloc, operands, limit),
+        Subcommand::Compare => compare_value(alloc, operands, limit),
+        Subcommand::Match => match_value(alloc, operands, limit),
+        Subcommand::First => first_value(alloc, operands, limit),
+        Subcommand::Last => last_value(alloc, operands, limit),
+        Subcommand::Map => map_value(alloc, operands, limit),
+        Subcommand::Repeat => repeat_value(alloc, operands, limit),
+        Subcommand::Trim => trim_value(alloc, operands, limit),
+        Subcommand::TrimLeft => trim_left_value(alloc, operands, limit),
+        Subcommand::TrimRight => trim_right_value(alloc, operands, limit),
     }
 }
 
 fn length_value(alloc: Global, operands: &[String], limit: usize) -> Result<String, ValueFault>
-    ensures { GivesWithin limit result (text_value texts.Length (map string_bytes operands.now)) }
+    ensures { GivesWithin limit result (string_length (map string_bytes operands.now)) }
 {
     match operands {
         [text] => limited(character_count(text).to_string(alloc)?, limit),
@@ -94,7 +95,7 @@ fn length_value(alloc: Global, operands: &[String], limit: usize) -> Result<Stri
 }
 
 fn index_value(alloc: Global, operands: &[String], limit: usize) -> Result<String, ValueFault>
-    ensures { GivesWithin limit result (text_value texts.Index (map string_bytes operands.now)) }
+    ensures { GivesWithin limit result (string_index (map string_bytes operands.now)) }
 {
     match operands {
         [text, index] => {
@@ -106,7 +107,7 @@ fn index_value(alloc: Global, operands: &[String], limit: usize) -> Result<Strin
 }
 
 fn range_value(alloc: Global, operands: &[String], limit: usize) -> Result<String, ValueFault>
-    ensures { GivesWithin limit result (text_value texts.Range (map string_bytes operands.now)) }
+    ensures { GivesWithin limit result (string_range (map string_bytes operands.now)) }
 {
     match operands {
         [text, first, last] => {
@@ -119,7 +120,7 @@ fn range_value(alloc: Global, operands: &[String], limit: usize) -> Result<Strin
 }
 
 fn equal_value(alloc: Global, operands: &[String], limit: usize) -> Result<String, ValueFault>
-    ensures { GivesWithin limit result (text_value texts.Equal (map string_bytes operands.now)) }
+    ensures { GivesWithin limit result (string_equal (map string_bytes operands.now)) }
 {
     match operands {
         [left, right] => limited(truth_text(alloc, left.as_str() == right.as_str())?, limit),
@@ -128,7 +129,7 @@ fn equal_value(alloc: Global, operands: &[String], limit: usize) -> Result<Strin
 }
 
 fn compare_value(alloc: Global, operands: &[String], limit: usize) -> Result<String, ValueFault>
-    ensures { GivesWithin limit result (text_value texts.Compare (map string_bytes operands.now)) }
+    ensures { GivesWithin limit result (string_compare (map string_bytes operands.now)) }
 {
     match operands {
         [left, right] => limited(order_text(alloc, text_order(left, right))?, limit),
@@ -148,7 +149,7 @@ fn order_text(alloc: Global, order: Ordering) -> Result<String, AllocError>
 }
 
 fn match_value(alloc: Global, operands: &[String], limit: usize) -> Result<String, ValueFault>
-    ensures { GivesWithin limit result (text_value texts.Match (map string_bytes operands.now)) }
+    ensures { GivesWithin limit result (string_match (map string_bytes operands.now)) }
 {
     match operands {
         [pattern, text] => limited(truth_text(alloc, glob(pattern, text))?, limit),
@@ -157,7 +158,7 @@ fn match_value(alloc: Global, operands: &[String], limit: usize) -> Result<Strin
 }
 
 fn first_value(alloc: Global, operands: &[String], limit: usize) -> Result<String, ValueFault>
-    ensures { GivesWithin limit result (text_value texts.First (map string_bytes operands.now)) }
+    ensures { GivesWithin limit result (string_first (map string_bytes operands.now)) }
 {
     match operands {
         [sought, text] => limited(place_text(alloc, first_of(alloc, sought, text)?)?, limit),
@@ -166,7 +167,7 @@ fn first_value(alloc: Global, operands: &[String], limit: usize) -> Result<Strin
 }
 
 fn last_value(alloc: Global, operands: &[String], limit: usize) -> Result<String, ValueFault>
-    ensures { GivesWithin limit result (text_value texts.Last (map string_bytes operands.now)) }
+    ensures { GivesWithin limit result (string_last (map string_bytes operands.now)) }
 {
     match operands {
         [sought, text] => limited(place_text(alloc, last_of(alloc, sought, text)?)?, limit),
@@ -207,7 +208,7 @@ fn place_text(alloc: Global, place: Option<usize>) -> Result<String, AllocError>
 }
 
 fn map_value(alloc: Global, operands: &[String], limit: usize) -> Result<String, ValueFault>
-    ensures { GivesWithin limit result (text_value texts.Map (map string_bytes operands.now)) }
+    ensures { GivesWithin limit result (string_map (map string_bytes operands.now)) }
 {
     match operands {
         [list, text] => {
@@ -219,7 +220,7 @@ fn map_value(alloc: Global, operands: &[String], limit: usize) -> Result<String,
 }
 
 fn repeat_value(alloc: Global, operands: &[String], limit: usize) -> Result<String, ValueFault>
-    ensures { GivesWithin limit result (text_value texts.Repeat (map string_bytes operands.now)) }
+    ensures { GivesWithin limit result (string_repeat (map string_bytes operands.now)) }
 {
     match operands {
         [text, count] => {
@@ -231,7 +232,7 @@ fn repeat_value(alloc: Global, operands: &[String], limit: usize) -> Result<Stri
 }
 
 fn trim_value(alloc: Global, operands: &[String], limit: usize) -> Result<String, ValueFault>
-    ensures { GivesWithin limit result (text_value texts.Trim (map string_bytes operands.now)) }
+    ensures { GivesWithin limit result (string_trim (map string_bytes operands.now)) }
 {
     match operands {
         [text] => limited(trimmed_of_space(alloc, Ends::Both, text)?, limit),
@@ -241,7 +242,7 @@ fn trim_value(alloc: Global, operands: &[String], limit: usize) -> Result<String
 }
 
 fn trim_left_value(alloc: Global, operands: &[String], limit: usize) -> Result<String, ValueFault>
-    ensures { GivesWithin limit result (text_value texts.TrimLeft (map string_bytes operands.now)) }
+    ensures { GivesWithin limit result (string_trimleft (map string_bytes operands.now)) }
 {
     match operands {
         [text] => limited(trimmed_of_space(alloc, Ends::Start, text)?, limit),
@@ -251,7 +252,7 @@ fn trim_left_value(alloc: Global, operands: &[String], limit: usize) -> Result<S
 }
 
 fn trim_right_value(alloc: Global, operands: &[String], limit: usize) -> Result<String, ValueFault>
-    ensures { GivesWithin limit result (text_value texts.TrimRight (map string_bytes operands.now)) }
+    ensures { GivesWithin limit result (string_trimright (map string_bytes operands.now)) }
 {
     match operands {
         [text] => limited(trimmed_of_space(alloc, Ends::End, text)?, limit),

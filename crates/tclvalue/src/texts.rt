@@ -1,15 +1,17 @@
 //! Commands on texts (string(n), split(n), concat(n)).
 ghost use Rattle.std.specs.Prelude.{◌≡◌, ◌∷◌, [], map, string_bytes, IfOk};
 ghost use Rattle.std.specs.List.{repeat, slice_split};
-ghost use Rattle.tclvalue.specs.Faults.{GivesText};
+ghost use Rattle.tcloperators.specs.Faults.{GivesText};
 ghost use Rattle.tclvalue.specs.Limits.{limited};
-ghost use Rattle.tclvalue.specs.Characters.{is_among, trimmed, without, characters_between, parts, pieces, encoded_all, white_space, split_space};
+ghost use Rattle.tclvalue.specs.Characters.{is_among, characters_between, parts, pieces, encoded_all};
+ghost use Rattle.tclvalue.specs.Characters.{white_space, split_space};
+ghost use Rattle.tclvalue.specs.Views.{without, trimmed_at, index_view};
 
 use crate::characters::{characters, is_among, text_of, without_end, without_start};
-use crate::fault::ValueFault;
 use crate::index::{Index, between};
 use crate::lists::texts_of;
 use std::alloc::{AllocError, Global};
+use tcloperators::ValueFault;
 
 /// Space, tab, newline, vertical tab, form feed and carriage return.
 const WHITE_SPACE: &str = " \t\n\u{b}\u{c}\r";
@@ -32,7 +34,7 @@ pub(crate) fn trimmed(
     set: &str,
     text: &str,
 ) -> Result<String, AllocError>
-    ensures { IfOk result (λ t. string_bytes t ≡ trimmed ends set.now text.now) }
+    ensures { IfOk result (λ t. string_bytes t ≡ trimmed_at ends set.now text.now) }
 {
     let set = characters(alloc, set)?;
     let characters = characters(alloc, text)?;
@@ -42,7 +44,7 @@ pub(crate) fn trimmed(
 /// The text without the white space at its ends.
 #[tactic(auto, unfolding(crate::specs::Characters::white_space))]
 pub(crate) fn trimmed_of_space(alloc: Global, ends: Ends, text: &str) -> Result<String, AllocError>
-    ensures { IfOk result (λ t. string_bytes t ≡ trimmed ends white_space text.now) }
+    ensures { IfOk result (λ t. string_bytes t ≡ trimmed_at ends white_space text.now) }
 {
     trimmed(alloc, ends, WHITE_SPACE, text)
 }
@@ -64,7 +66,7 @@ pub(crate) fn characters_between(
     first: Index,
     last: Index,
 ) -> Result<String, AllocError>
-    ensures { IfOk result (λ t. string_bytes t ≡ characters_between first last text.now) }
+    ensures { IfOk result (λ t. string_bytes t ≡ characters_between (index_view first) (index_view last) text.now) }
 {
     let characters = characters(alloc, text)?;
     text_of(alloc, between(&characters, first, last))

@@ -2,7 +2,7 @@ use Rattle.std.proofs.Common.{rules, tests, string_bytes, ◌∙◌}
 use Rattle.std.proofs.Common.{bytes_eq}
 use Rattle.std.proofs.lemmas.Iterator.Search.{any_from_yields_List}
 use Rattle.std.proofs.lemmas.Iterator.{YieldsList-from_slice}
-use Rattle.envstate.specs.declared.entry.Loaded.{Loaded}
+use Rattle.loadedlist.specs.declared.entry.Loaded.{Loaded}
 use Rattle.modules.proofs.LoadLemmas.{has_name}
 use Rattle.modules.proofs.running.is_loaded.Goals as goal
 

@@ -2,7 +2,7 @@ use Rattle.std.proofs.Common.{rules, tests, string_bytes}
 use Rattle.std.proofs.lemmas.Iterator.Search.{find_from_yields_List}
 use Rattle.std.proofs.lemmas.Iterator.Adapters.{YieldsList-from_rev_slice}
 use Rattle.modulename.specs.ModuleName.{means}
-use Rattle.envstate.specs.declared.entry.Loaded.{Loaded}
+use Rattle.loadedlist.specs.declared.entry.Loaded.{Loaded}
 use Rattle.modules.proofs.LoadLemmas.{find-meant}
 use Rattle.modules.proofs.running.last_meant.Goals as goal
 

@@ -1,6 +1,6 @@
 use Rattle.std.proofs.Common.{◌≡◌, string_bytes, [], ◌∷◌, ap, ◌∙◌, Ok, Err}
 use Rattle.std.proofs.lemmas.Result.{err_from_is_err_and}
-use Rattle.envstate.specs.Refused.{refused_of}
+use Rattle.envstate.specs.Reasons.{reason_of}
 use Rattle.envstate.specs.Loaded.{added_loaded}
 use Rattle.modules.specs.declared.evaluate.Mode.TheVariants.{Load}
 use Rattle.modules.specs.Then.{◌>>=◌, refused_as}
@@ -17,8 +17,8 @@ returns-in_err-add_loaded c =
     let path = string_bytes c.args.found.path in
     let made = rw c.in_ok-after.ensures.ok at (c.in_ok-run.ensures name) in
     let left = loaded_left c.args.limits c.args.env.now c.run.new.env name path c.args.text.now (recorded Load name c.args.limits c.args.env.now c.run.new.env c.args.text.now made) in
-    let outcome = rw (c.new.ensures.items, c.new-2.ensures.items) at c.in_err-add_loaded.ensures.1 in
-    rw (p.1, p.2) (edit_stands (refused_of c.in_err-add_loaded.field-0.0) (added_loaded c.run.new.env (bare_entry name path)) (λ r. left_by Loads Load c.args.limits c.args.env.now name path c.args.text.now ≡ Err r) outcome
+    let outcome = rw (c.new.ensures.items, c.new-2.ensures.items) at c.in_err-add_loaded.ensures.edits.1 in
+    rw (p.1, p.2) (edit_stands (reason_of c.in_err-add_loaded.field-0.0) (added_loaded c.run.new.env (bare_entry name path)) (λ r. left_by Loads Load c.args.limits c.args.env.now name path c.args.text.now ≡ Err r) outcome
     (λ r h. left ∙ ap (λ x. refused_as bad_edit x >>= (λ t. Ok (record { env = t; loaded = name ∷ []; messages = []; report = [] }))) h))
 
 pub returns : goal.returns
@@ -27,6 +27,6 @@ returns c =
     let path = string_bytes c.args.found.path in
     let made = rw c.in_ok-after.ensures.ok at (c.in_ok-run.ensures name) in
     let left = loaded_left c.args.limits c.args.env.now c.run.new.env name path c.args.text.now (recorded Load name c.args.limits c.args.env.now c.run.new.env c.args.text.now made) in
-    let outcome = rw (c.new.ensures.items, c.new-2.ensures.items) at c.in_ok-add_loaded.ensures in
+    let outcome = rw (c.new.ensures.items, c.new-2.ensures.items) at c.in_ok-add_loaded.ensures.edits in
     rw (c.in_ok-loaded.ensures, c.as_str.ensures.value, c.new-3.ensures.bytes, c.new-4.ensures.bytes)
     (left ∙ ap (λ x. refused_as bad_edit x >>= (λ t. Ok (record { env = t; loaded = name ∷ []; messages = []; report = [] }))) outcome)

@@ -1,5 +1,5 @@
 use Rattle.std.proofs.Common.{map, string_bytes}
-use Rattle.envstate.specs.Loaded.{entry_of}
+use Rattle.envstate.specs.LoadedEntries.{entry_of}
 use Rattle.modules.specs.Answers.{done_of}
 use Rattle.modules.proofs.Refusals.{tells_along}
 use Rattle.modules.proofs.StepLemmas.{step-load, step-unload}

@@ -1,5 +1,5 @@
 use Rattle.std.proofs.Common.{rules, map, string_bytes, sym}
-use Rattle.envstate.specs.Loaded.{entry_of}
+use Rattle.envstate.specs.LoadedEntries.{entry_of}
 use Rattle.modules.specs.Steps.{Unloads}
 use Rattle.modules.specs.declared.evaluate.Mode.TheVariants.{Unload}
 use Rattle.modules.specs.Answers.{done_of}

@@ -1,6 +1,6 @@
 use Rattle.std.proofs.Common.{◌≡◌, string_bytes, [], ap, ◌∙◌, Ok, Err}
 use Rattle.std.proofs.lemmas.Result.{err_from_is_err_and}
-use Rattle.envstate.specs.Refused.{refused_of}
+use Rattle.envstate.specs.Reasons.{reason_of}
 use Rattle.envstate.specs.Loaded.{dropped_loaded}
 use Rattle.modules.specs.declared.evaluate.Mode.TheVariants.{Unload}
 use Rattle.modules.specs.Then.{◌>>=◌, refused_as}
@@ -17,6 +17,6 @@ returns-in_err-drop_loaded c =
     let path = string_bytes c.args.entry.now.path in
     let made = rw c.in_ok-after.ensures.ok at (c.in_ok-run.ensures name) in
     let left = unloaded_left c.args.limits c.args.env.now c.run.new.env name path c.args.text.now (recorded Unload name c.args.limits c.args.env.now c.run.new.env c.args.text.now made) in
-    let outcome = rw c.as_str.ensures.value at c.in_err-drop_loaded.ensures.1 in
-    rw (p.1, p.2) (edit_stands (refused_of c.in_err-drop_loaded.field-0.0) (dropped_loaded c.run.new.env name) (λ r. left_by Unloads Unload c.args.limits c.args.env.now name path c.args.text.now ≡ Err r) outcome
+    let outcome = rw c.as_str.ensures.value at c.in_err-drop_loaded.ensures.edits.1 in
+    rw (p.1, p.2) (edit_stands (reason_of c.in_err-drop_loaded.field-0.0) (dropped_loaded c.run.new.env name) (λ r. left_by Unloads Unload c.args.limits c.args.env.now name path c.args.text.now ≡ Err r) outcome
     (λ r h. left ∙ ap (λ x. refused_as bad_edit x >>= (λ t. Ok (record { env = t; loaded = []; messages = []; report = [] }))) h))

@@ -28,7 +28,7 @@ script_nesting-loop-command-preserved g t c = λ shown less.
     let items = c.deref-command-items.result.now in
     let i = c.loop-command.command-index in
     let e : take (i + 1) items ≡ take i items ++ c.command-item.result ∷ [] = take_more items i c.command-item.result (omega arith) ∙ ap (λ x. take i items ++ x ∷ []) (sym c.command-item.is) in
-    let k = tallest_more 18446744073709551615 c.loop-command.height c.words_nesting.result (nesting (commands_of (map (command_view shown) (take i items)))) (words_nesting (command_view shown c.command-item.result).1)
+    let k = tallest_more 18446744073709551615 c.loop-command.height c.words_nesting.result (nesting (commands_of (map (command_view shown) (take i items)))) (words_nesting (command_view shown c.command-item.result).words)
     (nesting (commands_of (map (command_view shown) (take (i + 1) items)))) (commands_step shown (take i items) (take (i + 1) items) c.command-item.result e) (c.loop-command.invariant shown) (subst (Tallest 18446744073709551615 c.words_nesting.result) (ap words_nesting (sym (words_of_command shown c.command-item.result))) (c.words_nesting.ensures shown)) less in
     c.larger-height.ensures ∙ k
 

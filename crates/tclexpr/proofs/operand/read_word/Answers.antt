@@ -16,7 +16,7 @@ returns-then-not-is_truth g c =
 pub returns-in-None : goal.returns-in-None
 returns-in-None g c =
     word-read c.args.text.now c.split_front.result.0.now c.split_front.result.1.now (g.S.Source.shown c.args.source.now c.cut.result) c.split_front.ensures.run c.split_front.ensures.rest
-    (ap is_truth (sym c.as_bytes.ensures.value) ∙ sym c.if-not-is_truth.ensures) c.in-None.ensures c.cut.ensures
+    (ap is_truth (sym c.as_bytes.ensures.value) ∙ sym c.if-not-is_truth.ensures) c.in-None.ensures c.cut.ensures.text
 
 pub returns-in-Some : goal.returns-in-Some
 returns-in-Some g c =

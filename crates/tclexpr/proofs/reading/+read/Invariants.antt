@@ -1,7 +1,7 @@
 use Rattle.std.proofs.Common.{length, ◌+◌, ◌*◌}
 use denote.Text.{Utf8}
 use denote.Shadow.{shadow}
-use Rattle.tclexpr.specs.View.{tall_view}
+use Rattle.tclexpr.specs.View.{with_height_view}
 use Rattle.tclexpr.proofs.Turns.{ChainSoFar}
 use Rattle.tclexpr.proofs.reading.+read.Given as goal
 
@@ -27,7 +27,7 @@ abbrev pub decreases-read_whole : goal.decreases-read_whole
 decreases-read_whole g l = 4 * l.depth + 3
 
 abbrev pub invariant-read_chain-loop-between : goal.invariant-read_chain-loop-between
-invariant-read_chain-loop-between g l = shadow (Utf8 l.rest) × ChainSoFar l.depth l.limit l.text (tall_view (g.S.Source.shown l.source) l.left) l.rest
+invariant-read_chain-loop-between g l = shadow (Utf8 l.rest) × ChainSoFar l.depth l.limit l.text (with_height_view (g.S.Source.shown l.source) l.left) l.rest
 
 abbrev pub decreases-read_chain-loop-between : goal.decreases-read_chain-loop-between
 decreases-read_chain-loop-between g l = length l.rest

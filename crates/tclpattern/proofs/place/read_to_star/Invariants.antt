@@ -1,16 +1,16 @@
-use Rattle.std.proofs.Common.{◌≤◌, ◌↔◌, ℕ, List, length}
+use Rattle.std.proofs.Common.{◌+◌, ◌≤◌, ◌↔◌, ℕ, List, length}
 use Rattle.std.specs.Str.{chars}
 use Rattle.tclpattern.specs.Patterns.{IsMatch}
-use Rattle.tclpattern.specs.Hops.{Leads}
-use Rattle.tclpattern.specs.Places.{IsPlaceIn}
+use Rattle.tclpattern.specs.Search.Steps.{Leads}
+use Rattle.tclpattern.specs.Search.Places.{IsText}
 use Rattle.tclpattern.proofs.place.read_to_star.Given as goal
 
 abbrev pub invariant-loop-first : goal.invariant-loop-first
 invariant-loop-first l = record {
-  inside : IsPlaceIn (chars l.pattern) (chars l.text) l.place;
+  text : IsText l.place;
   same : IsMatch (chars l.place.pattern.now) (chars l.place.text.now) ↔ IsMatch (chars l.pattern) (chars l.text);
-  leads : (qs ds : List ℕ) → Leads (chars l.place.pattern.now) (chars l.place.text.now) qs ds ↔ Leads (chars l.pattern) (chars l.text) qs ds;
-  no_longer : length l.place.pattern.now ≤ length l.pattern;
+  leads : (qs ds : List ℕ) → Leads (chars l.place.pattern.now) (chars l.place.text.now) qs ds → Leads (chars l.pattern) (chars l.text) qs ds;
+  no_longer : length l.place.pattern.now + length l.place.text.now ≤ length l.pattern + length l.text;
 }
 
 abbrev pub decreases-loop-first : goal.decreases-loop-first

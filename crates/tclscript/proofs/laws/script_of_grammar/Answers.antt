@@ -4,7 +4,7 @@ use Rattle.std.proofs.Common.{refl}
 use Rattle.tclchars.specs.declared.fault.TextFault.TheVariants.{OutOfMemory}
 
 pub returns-clause-tree : goal.returns-clause-tree
-returns-clause-tree c = λ bs s. (tree_is bs s, λ h. tree_met bs s h.0 h.1 h.2)
+returns-clause-tree c = λ bs s. (tree_is bs s, λ h. tree_met bs s h)
 
 pub returns-clause-fault : goal.returns-clause-fault
 returns-clause-fault c = λ bs f some. (λ h. (fault_is bs f h).0, fault_met bs f some)

@@ -1,12 +1,13 @@
-use Rattle.std.proofs.Common.{◌≡◌, ◌∷◌, Ok, map, sym, ap, subst, ◌∙◌, refl, arith, rules}
+use Rattle.std.proofs.Common.{◌≡◌, ◌≤◌, ◌-◌, ◌∷◌, length, Ok, map, sym, ap, subst, ◌∙◌, refl, arith, rules}
 use Rattle.std.proofs.lemmas.Result.{err_from_is_err_and}
 use Rattle.std.proofs.lemmas.List.{map_push}
 use Rattle.tclscript.specs.declared.runs.Passing.TheVariants.{Blanks, Gap, Name}
 use Rattle.tclscript.specs.Pieces.{IsEndOf, IsFrontOf}
-use Rattle.tclscript.specs.Ends.{parts_end}
-use Rattle.tclscript.specs.Reading.{part_at, inner_at}
+use Rattle.tclscript.specs.Ends.{script_ends, parts_end}
+use Rattle.tclscript.specs.Passing.{skip_gap}
+use Rattle.tclscript.specs.Reading.{part_at, command_in, inner_at}
 use Rattle.tclscript.specs.View.{script_view, command_view, word_view, part_view, parts_view}
-use Rattle.tclscript.proofs.Ends.{end_mark, end_through}
+use Rattle.tclscript.proofs.Ends.{end_mark, end_through, end_no_longer}
 use Rattle.tclscript.proofs.Passes.{pass_end, pass_front}
 use Rattle.tclscript.proofs.Readers.{expanded_end, inner_leaves}
 use Rattle.tclscript.proofs.Loops.{so_far-none}
@@ -35,7 +36,7 @@ read_index-returns-in_err-rest g t c =
 pub read_command-returns-in_err-first : goal.read_command-returns-in_err-first
 read_command-returns-in_err-first g t c =
     let p = err_from_is_err_and c.from_residual.result c.from_residual.ensures.1 in
-    rw (p.1, p.2) (first-fails c.args.nested c.args.depth c.args.text.now c.in_err-first.field-0.0 c.in_err-first.ensures)
+    rw (p.1, p.2) (first-fails c.args.nested c.args.depth c.args.place c.args.text.now c.in_err-first.field-0.0 c.in_err-first.ensures)
 
 pub read_command-taken-first_text-requires-clause-rest : goal.read_command-taken-first_text-requires-clause-rest
 read_command-taken-first_text-requires-clause-rest g t c =
@@ -56,9 +57,9 @@ read_command-loop-alloc-init g t c =
 
 pub read_command-returns-then-command_ends : goal.read_command-returns-then-command_ends
 read_command-returns-then-command_ends g t c =
-    command-end c.args.nested c.args.depth c.args.text.now (g.S.Source.shown c.args.source.now c.taken-first_text.result) (map (word_view (g.S.Source.shown c.args.source.now)) c.loop-alloc.words.items)
+    command-end c.args.nested c.args.depth c.args.place c.args.text.now (g.S.Source.shown c.args.source.now c.taken-first_text.result) (map (word_view (g.S.Source.shown c.args.source.now)) c.loop-alloc.words.items)
     c.loop-alloc.rest.now c.skip_blanks-start.result.now c.skip_blanks-start.ensures (sym c.command_ends.ensures ∙ c.if-command_ends.true) c.loop-alloc.invariant.so_far
-    ∙ ap (λ x. Ok (x, c.skip_blanks-start.result.now)) (sym (view-Command (g.S.Source.shown c.args.source.now) c.taken-first_text.result c.loop-alloc.words))
+    ∙ ap (λ x. Ok (x, c.skip_blanks-start.result.now)) (sym (view-Command (g.S.Source.shown c.args.source.now) c.args.place c.taken-first_text.result c.loop-alloc.words))
 
 pub read_command-read_word-requires-in-loop-alloc : goal.read_command-read_word-requires-in-loop-alloc
 read_command-read_word-requires-in-loop-alloc g t c =
@@ -71,7 +72,7 @@ read_command-read_word-requires-in-loop-alloc g t c =
 pub read_command-returns-in_err-word : goal.read_command-returns-in_err-word
 read_command-returns-in_err-word g t c =
     let p = err_from_is_err_and c.from_residual-in_err-word.result c.from_residual-in_err-word.ensures.1 in
-    rw (p.1, p.2) (command-fails c.args.nested c.args.depth c.args.text.now (g.S.Source.shown c.args.source.now c.taken-first_text.result) (map (word_view (g.S.Source.shown c.args.source.now)) c.loop-alloc.words.items)
+    rw (p.1, p.2) (command-fails c.args.nested c.args.depth c.args.place c.args.text.now (g.S.Source.shown c.args.source.now c.taken-first_text.result) (map (word_view (g.S.Source.shown c.args.source.now)) c.loop-alloc.words.items)
     c.loop-alloc.rest.now c.skip_blanks-start.result.now c.in_err-word.field-0.0 c.skip_blanks-start.ensures (sym c.command_ends.ensures ∙ c.if-command_ends.false) c.in_err-word.ensures c.loop-alloc.invariant.so_far)
 
 pub read_command-loop-alloc-smaller : goal.read_command-loop-alloc-smaller
@@ -95,6 +96,19 @@ read_command-loop-alloc-preserved g t c =
           (rw c.in_ok-push-2.ensures.items (map_push (word_view (g.S.Source.shown c.args.source.now)) c.loop-alloc.words.items c.in_ok-word.word)) c.loop-alloc.invariant.so_far;
     }
 
+pub read_script-loop-alloc-init : goal.read_script-loop-alloc-init
+read_script-loop-alloc-init g t c = record {
+  utf8 = search rules;
+  end = search rules;
+  shorter = omega arith;
+  so_far = rw c.new-commands.ensures.items (so_far-none skip_gap (script_ends c.args.nested) (command_in (length c.args.text.now) c.args.nested (inner_at c.args.depth)) c.args.text.now);
+}
+
+pub read_script-overflow_sub-place : goal.read_script-overflow_sub-place
+read_script-overflow_sub-place g t c =
+    let e : IsEndOf c.loop-alloc.rest.now c.skip_gap-start.result.now = subst (IsEndOf c.loop-alloc.rest.now) (sym c.skip_gap-start.ensures) (pass_end Gap c.loop-alloc.rest.now) in
+    omega (arith, end_no_longer c.loop-alloc.rest.now c.skip_gap-start.result.now e, c.loop-alloc.invariant.shorter)
+
 pub read_script-returns-then-script_ends : goal.read_script-returns-then-script_ends
 read_script-returns-then-script_ends g t c =
     script-end c.args.nested c.args.depth c.args.text.now (map (command_view (g.S.Source.shown c.args.source.now)) c.loop-alloc.commands.items)
@@ -117,17 +131,18 @@ read_script-returns-in_err-command g t c =
 
 pub read_script-loop-alloc-smaller : goal.read_script-loop-alloc-smaller
 read_script-loop-alloc-smaller g t c =
-    (script-behind c.args.nested c.args.depth c.loop-alloc.rest.now c.skip_gap-start.result.now (command_view (g.S.Source.shown c.args.source.now) c.in_ok-command.command) c.in_ok-command.after.now
+    (script-behind c.args.nested c.args.depth (length c.args.text.now - length c.skip_gap-start.result.now) c.loop-alloc.rest.now c.skip_gap-start.result.now (command_view (g.S.Source.shown c.args.source.now) c.in_ok-command.command) c.in_ok-command.after.now
     c.skip_gap-start.ensures (sym c.script_ends.ensures ∙ c.if-script_ends.false) c.in_ok-command.ensures).1
 
 pub read_script-loop-alloc-preserved : goal.read_script-loop-alloc-preserved
 read_script-loop-alloc-preserved g t c =
-    let behind = script-behind c.args.nested c.args.depth c.loop-alloc.rest.now c.skip_gap-start.result.now (command_view (g.S.Source.shown c.args.source.now) c.in_ok-command.command) c.in_ok-command.after.now
+    let behind = script-behind c.args.nested c.args.depth (length c.args.text.now - length c.skip_gap-start.result.now) c.loop-alloc.rest.now c.skip_gap-start.result.now (command_view (g.S.Source.shown c.args.source.now) c.in_ok-command.command) c.in_ok-command.after.now
     c.skip_gap-start.ensures (sym c.script_ends.ensures ∙ c.if-script_ends.false) c.in_ok-command.ensures
     in
     record {
       utf8 = search rules;
       end = end_through (g.S.Source.text c.args.source.now) c.loop-alloc.rest.now c.in_ok-command.after.now c.loop-alloc.invariant.end behind.0;
+      shorter = omega (arith, behind.1, c.loop-alloc.invariant.shorter);
       so_far =
           script-more c.args.nested c.args.depth c.args.text.now (map (command_view (g.S.Source.shown c.args.source.now)) c.loop-alloc.commands.items)
           (map (command_view (g.S.Source.shown c.args.source.now)) c.push.new.self.items)

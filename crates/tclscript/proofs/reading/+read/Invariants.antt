@@ -1,4 +1,4 @@
-use Rattle.std.proofs.Common.{length, map, ◌+◌, ◌*◌}
+use Rattle.std.proofs.Common.{◌≤◌, length, map, ◌+◌, ◌*◌}
 use denote.Text.{Utf8}
 use denote.Shadow.{shadow}
 use Rattle.tclscript.specs.Pieces.{IsEndOf}
@@ -63,6 +63,7 @@ abbrev pub invariant-read_script-loop-alloc : goal.invariant-read_script-loop-al
 invariant-read_script-loop-alloc g l = record {
   utf8 : shadow (Utf8 l.rest);
   end : IsEndOf (g.S.Source.text l.source) l.rest;
+  shorter : length l.rest ≤ length l.text;
   so_far : CommandsSoFar l.nested l.depth l.text (map (command_view (g.S.Source.shown l.source)) l.commands.items) l.rest;
 }
 

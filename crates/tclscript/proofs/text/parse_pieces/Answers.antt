@@ -1,5 +1,5 @@
 use Rattle.tclscript.specs.View.{script_view}
-use Rattle.tclscript.proofs.Clauses.{reads_found, reads_only, reads_fault}
+use Rattle.tclscript.proofs.Whole.{reads_found, reads_only, reads_fault}
 use Rattle.tclscript.proofs.text.parse_pieces.Goals as goal
 
 pub returns-clause-found : goal.returns-clause-found

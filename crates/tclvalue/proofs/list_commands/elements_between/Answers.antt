@@ -1,7 +1,7 @@
 use Rattle.std.proofs.Common.{◌≡◌, ℕ, length, map, take, drop, string_bytes, sym, ap, ◌∙◌, List, ◌+ℤ◌, pos}
 use Rattle.std.proofs.lemmas.List.{take-map, drop-map, length-map}
-use Rattle.tclvalue.specs.Indexes.{place, items_between, at_least_0}
-use Rattle.tclvalue.specs.declared.index.Index.{Index}
+use Rattle.tclvalue.specs.Indexes.{Index, place, items_between, at_least_0}
+use Rattle.tclvalue.specs.Views.{index_view}
 use Rattle.tclvalue.proofs.list_commands.elements_between.Goals as goal
 
 mapped : {X Y : Type 0} (f : X → Y) (i j : Index) (xs : List X)
@@ -17,4 +17,4 @@ mapped f i j xs =
     last n = at_least_0 (place n j +ℤ pos 1)
 
 pub returns : goal.returns
-returns c = ap (map string_bytes) c.between.ensures ∙ mapped string_bytes c.args.first c.args.last c.args.elements.now
+returns c = ap (map string_bytes) c.between.ensures ∙ mapped string_bytes (index_view c.args.first) (index_view c.args.last) c.args.elements.now

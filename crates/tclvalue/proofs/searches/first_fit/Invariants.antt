@@ -1,5 +1,6 @@
 use Rattle.std.proofs.Common.{◌≡◌, length, map}
-use Rattle.tclvalue.specs.Searches.{first_fit, pair_view}
+use Rattle.tclvalue.specs.Searches.{first_fit}
+use Rattle.tclvalue.specs.Views.{pair_view}
 use Rattle.tclvalue.proofs.searches.first_fit.Given as goal
 
 abbrev pub invariant-loop-rest : goal.invariant-loop-rest

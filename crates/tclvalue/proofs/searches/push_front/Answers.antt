@@ -1,5 +1,5 @@
 use Rattle.std.proofs.Common.{refl, sym, map}
-use Rattle.tclvalue.specs.Searches.{pair_view}
+use Rattle.tclvalue.specs.Views.{pair_view}
 use Rattle.tclvalue.proofs.SearchLemmas.{replaced_front}
 use Rattle.tclvalue.proofs.searches.push_front.Goals as goal
 

@@ -1,5 +1,6 @@
 use Rattle.std.proofs.Common.{◌≡◌, ◌++◌, length, map, string_bytes}
-use Rattle.tclvalue.specs.Searches.{mapped, pair_view}
+use Rattle.tclvalue.specs.Searches.{mapped}
+use Rattle.tclvalue.specs.Views.{pair_view}
 use Rattle.tclvalue.proofs.searches.push_mapped.Given as goal
 
 abbrev pub invariant-loop-rest : goal.invariant-loop-rest

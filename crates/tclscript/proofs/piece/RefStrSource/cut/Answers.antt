@@ -1,8 +1,9 @@
-use Rattle.std.proofs.Common.{◌≡◌, sym, subst, ◌∙◌}
+use Rattle.std.proofs.Common.{◌≡◌, ℕ, ◌+◌, ◌-◌, length, sym, subst, ◌∙◌, arith}
 use Rattle.std.specs.Str.{IsUtf8}
 use Rattle.tclchars.specs.Runs.{Text}
-use Rattle.tclscript.specs.Pieces.{IsFrontOf}
-use Rattle.tclscript.proofs.Ends.{end_cut, end_drop, front_cut}
+use Rattle.tclscript.specs.Pieces.{IsFrontOf, between}
+use Rattle.tclscript.proofs.Ends.{end_cut, end_drop, front_cut, front_take}
+use Rattle.tclscript.proofs.Ranges.{between_at}
 use Rattle.tclscript.proofs.piece.RefStrSource.cut.Goals as goal
 
 pub split_at-requires : goal.split_at-requires
@@ -12,3 +13,9 @@ pub split_at-requires-2 : goal.split_at-requires-2
 split_at-requires-2 c =
     let is : c.args.rest.now ≡ c.split_at.result.1.now = sym (c.split_at.ensures.back ∙ end_drop c.args.self.now.now c.args.rest.now c.requires.end) in
     front_cut c.split_at.result.1.now c.args.piece.now (subst IsUtf8 is c.utf8.rest) c.utf8.piece (subst (λ (bs : Text). IsFrontOf bs c.args.piece.now) is c.requires.front)
+
+pub returns-clause-place : goal.returns-clause-place
+returns-clause-place c = λ start at.
+    let is : c.args.rest.now ≡ c.split_at.result.1.now = sym (c.split_at.ensures.back ∙ end_drop c.args.self.now.now c.args.rest.now c.requires.end) in
+    between_at c.args.self.now.now c.args.rest.now c.args.piece.now start c.utf8.rest c.utf8.piece c.requires.end c.requires.front at
+    ∙ sym (c.split_at-2.ensures.front ∙ front_take c.split_at.result.1.now c.args.piece.now (subst (λ (bs : Text). IsFrontOf bs c.args.piece.now) is c.requires.front))

@@ -1,0 +1,49 @@
+-- The difference of two environments.
+use Rattle.std.specs.Prelude.{◌≡◌, Bool, true, false, List, [], ◌∷◌, map, bytes_eq, string_bytes, Option, Some, None, if◌then◌else◌}
+use Rattle.std.specs.Ordering.{nat_cmp}
+use Rattle.std.specs.Cmp.Lexicographic.{slice_cmp}
+use Rattle.std.specs.List.Sorted.{IsStrictlySortedBy}
+use Rattle.std.specs.Option.{option_map}
+use Rattle.std.specs.declared.vec.Vec.{Vec}
+use Rattle.std.specs.declared.alloc.Global.{Global}
+use Rattle.environment.specs.Texts.{Text}
+use Rattle.environment.specs.Environment.{Environment, lookup, with_value}
+use Rattle.environment.specs.declared.change.Change.{Change}
+
+-- a name, and its new value or none
+abbrev pub Edit : Type 0
+Edit = Text × Option Text
+
+-- whether a variable has the same value, or is unset in both
+abbrev pub same_value : Option Text → Option Text → Bool
+same_value None None = true
+same_value None (Some y) = false
+same_value (Some x) None = false
+same_value (Some x) (Some y) = bytes_eq x y
+
+-- what the changes make of a name, if they name it
+abbrev pub edit_at : List Edit → Text → Option (Option Text)
+edit_at [] q = None
+edit_at (c ∷ cs) q = if bytes_eq q c.0 then Some c.1 else edit_at cs q
+
+-- each name whose value differs, once, in the order of bytes, with its new value or none
+pub record AreChanges (old new : Environment) (cs : List Edit) : Type 0 where
+  pub ordered : IsStrictlySortedBy (slice_cmp nat_cmp) (map (λ c. c.0) cs)
+  pub each : (q : Text) → edit_at cs q ≡ (if same_value (lookup old q) (lookup new q) then None else Some (lookup new q))
+
+-- the environment with each change made, from the first to the last
+abbrev pub applied : List Edit → Environment → Environment
+applied [] e = e
+applied (c ∷ cs) e = applied cs (with_value e c.0 c.1)
+
+-- what a change of the code says
+abbrev pub edit_of : Change → Edit
+edit_of c = (string_bytes c.name, option_map string_bytes c.value)
+
+-- what the changes of a vector say
+abbrev pub edits_in : Vec Change Global → List Edit
+edits_in v = map edit_of v.items
+
+-- the change of one name, if it has one
+abbrev pub difference_at : Environment → Environment → Text → Option Edit
+difference_at old new q = if same_value (lookup old q) (lookup new q) then None else Some (q, lookup new q)

@@ -1,0 +1,10 @@
+pub mod Texts
+pub mod Fields
+pub mod Escapes
+pub mod EscapeReading
+pub mod Environment
+pub mod Changes
+pub mod Edited
+pub mod Tables
+pub mod Reasons
+pub mod Names

@@ -1,0 +1,50 @@
+-- Why edits are refused, as contracts see it: the cause and the variable, and nothing of memory.
+use Rattle.std.specs.Prelude.{◌≡◌, ℕ, string_bytes, Option, Some, None, IfSome, Result, Ok, Err}
+use Rattle.environment.specs.Texts.{Text}
+use Rattle.environment.specs.Environment.{Environment}
+use Rattle.environment.specs.declared.fault.EnvFault.{EnvFault}
+use Rattle.environment.specs.declared.fault.EnvFault.TheVariants.{OutOfMemory, BadVariable, Protected, CounterFull, Inconsistent, BadStack, BadValue}
+
+-- why an edit is refused, with the variable's name
+pub data EnvReason : Type 0 where
+  bad_variable : (name : Text) → EnvReason
+  protected : (name : Text) → EnvReason
+  counter_full : (name : Text) → EnvReason
+  inconsistent : EnvReason
+  bad_stack : (name : Text) → EnvReason
+  bad_value : (name : Text) → EnvReason
+
+-- the reason that a fault names; out of memory is none in the edit
+abbrev pub reason_of : EnvFault → Option EnvReason
+reason_of OutOfMemory = None
+reason_of (BadVariable name) = Some (bad_variable (string_bytes name))
+reason_of (Protected name) = Some (protected (string_bytes name))
+reason_of (CounterFull name) = Some (counter_full (string_bytes name))
+reason_of Inconsistent = Some inconsistent
+reason_of (BadStack name) = Some (bad_stack (string_bytes name))
+reason_of (BadValue name) = Some (bad_value (string_bytes name))
+
+-- the number of a fault
+abbrev pub number_of : EnvFault → ℕ
+number_of OutOfMemory = 31
+number_of (BadVariable name) = 32
+number_of (Protected name) = 33
+number_of (CounterFull name) = 34
+number_of Inconsistent = 35
+number_of (BadStack name) = 36
+number_of (BadValue name) = 37
+
+-- the reason, where there is one, and else the outcome
+abbrev pub unless : {A : Type 0} → Option EnvReason → Result A EnvReason → Result A EnvReason
+unless None outcome = outcome
+unless (Some r) outcome = Err r
+
+-- An edit ends as the outcome says, or out of memory. A refused edit leaves the environment as it was.
+abbrev pub Edits : Result (Unit {0}) EnvFault → Environment → Environment → Result Environment EnvReason → Type 0
+Edits (Ok u) old new outcome = outcome ≡ Ok new
+Edits (Err e) old new outcome = (new ≡ old) × IfSome (reason_of e) (λ r. outcome ≡ Err r)
+
+-- A judgment ends well where there is no reason against it, and else for that reason, or out of memory.
+abbrev pub Judges : Result (Unit {0}) EnvFault → Option EnvReason → Type 0
+Judges (Ok u) refusal = refusal ≡ None
+Judges (Err e) refusal = IfSome (reason_of e) (λ r. refusal ≡ Some r)

@@ -1,0 +1,23 @@
+-- Texts, as contracts see them.
+use Rattle.std.specs.Prelude.{ℕ, Bool, List, map, bytes_eq, string_bytes}
+use Rattle.std.specs.List.{list_any}
+use Rattle.std.specs.Borrow.{Bor}
+use Rattle.std.specs.declared.vec.Vec.{Vec}
+use Rattle.std.specs.declared.string.String.{String}
+use Rattle.std.specs.declared.alloc.Global.{Global}
+
+-- a text is its bytes
+abbrev pub Text : Type 0
+Text = List ℕ
+
+-- whether the text is one of the list
+abbrev pub has : Text → List Text → Bool
+has x xs = list_any (bytes_eq x) xs
+
+-- the texts that slices show
+abbrev pub shown : List (Bor Text) → List Text
+shown xs = map (λ x. x.now) xs
+
+-- the texts that a vector holds
+abbrev pub texts_in : Vec (String Global) Global → List Text
+texts_in v = map string_bytes v.items

@@ -1,0 +1,143 @@
+//! The environment.
+ghost use Rattle.std.specs.Prelude.{◌≡◌, map, string_bytes, OnOk, OnErr, IfOk, IfErr};
+ghost use Rattle.std.specs.Option.{option_map};
+ghost use Rattle.std.specs.FinMap as finite;
+ghost use Rattle.std.specs.BTreeMap.{IsOrdered};
+ghost use Rattle.std.specs.String.{string_cmp};
+ghost use Rattle.environment.specs.Environment.{lookup};
+ghost use Rattle.environment.specs.Changes.{applied, edits_in};
+ghost use Rattle.environment.specs.Tables.{names_set};
+ghost use Rattle.environment.specs.declared.fault.EnvFault.TheVariants.{OutOfMemory};
+
+use crate::change::Change;
+use crate::fault::EnvFault;
+use crate::table::{Table, enter, found, make_changes};
+use crate::vars::Vars;
+use std::alloc::{AllocError, Global};
+use std::collections::BTreeMap;
+use std::marker::Model;
+
+/// The variables that are set, with their values (environ(7)): a finite map from names to texts.
+#[derive(Drop)]
+pub struct Env {
+    /// The names that were ever set, where a name that is unset now may have no value.
+    vars: Table,
+    alloc: Global,
+}
+
+impl Model for Env {
+    ghost use Rattle.std.specs.FinMap as finite;
+    ghost use Rattle.environment.specs.Environment.{Environment, environment_code};
+    ghost use Rattle.environment.specs.Tables.{written_over};
+
+    ghost Value = { Environment };
+
+    ghost coded = { environment_code };
+
+    ghost view = { λ a. written_over finite.empty a.vars.entries };
+}
+
+impl Env {
+    /// No variable is set.
+    pub fn new(alloc: Global) -> Self
+        ensures { result ≡ finite.empty }
+    {
+        Env {
+            vars: BTreeMap::new(alloc),
+            alloc,
+        }
+    }
+
+    /// Where the environment takes its memory.
+    pub(crate) fn alloc(&self) -> Global {
+        self.alloc
+    }
+
+    /// The value of a variable, or none where it is unset.
+    pub fn get(&self, name: &str) -> Option<&str>
+        ensures { option_map (λ x. x.now) result ≡ lookup self.now name.now }
+    {
+        match found(&self.vars, name) {
+            Some(value) => value,
+            None => None,
+        }
+    }
+
+    /// Sets a variable. Any name and any value will do. It is refused for want of memory alone, and nothing has
+    /// changed then.
+    pub fn set(&mut self, name: &str, value: &str) -> Result<(), EnvFault>
+        ensures ok { OnOk result (self.new ≡ finite.insert self.old name.now value.now) }
+        ensures err { OnErr result (self.new ≡ self.old) }
+        ensures only { IfErr result (λ e. e ≡ OutOfMemory) }
+    {
+        enter(self.alloc, &mut self.vars, name, Some(value))?;
+        Ok(())
+    }
+
+    /// Unsets a variable. It takes no memory.
+    pub fn unset(&mut self, name: &str)
+        ensures { self.new ≡ finite.remove self.old name.now }
+    {
+        let _ = self.vars.remove(name);
+    }
+
+    /// The same variables and values once more. It is refused for want of memory alone.
+    pub fn copy(&self) -> Result<Env, EnvFault>
+        ensures ok { IfOk result (λ copy. copy ≡ self.now) }
+        ensures only { IfErr result (λ e. e ≡ OutOfMemory) }
+    {
+        Ok(Env {
+            vars: self.vars.clone()?,
+            alloc: self.alloc,
+        })
+    }
+
+    /// The names of the variables that are set, in the order of their bytes. It is refused for want of memory alone.
+    pub fn names(&self) -> Result<Vec<String>, EnvFault>
+        ensures ok { IfOk result (λ names. map string_bytes names.items ≡ finite.keys self.now) }
+        ensures only { IfErr result (λ e. e ≡ OutOfMemory) }
+    {
+        Ok(names_of(self.alloc, &self.vars)?)
+    }
+}
+
+impl Vars for Env {
+    ghost use Rattle.std.specs.FinMap as finite;
+
+    ghost vars = { λ env. env };
+
+    ghost under = { λ _. finite.empty };
+
+    fn get(&self, name: &str) -> Option<&str> {
+        self.get(name)
+    }
+
+    fn set(&mut self, name: &str, value: &str) -> Result<(), EnvFault> {
+        self.set(name, value)
+    }
+
+    fn unset(&mut self, name: &str) -> Result<(), EnvFault> {
+        self.unset(name);
+        Ok(())
+    }
+
+    fn apply(&mut self, changes: Vec<Change>) -> Result<(), EnvFault> {
+        let nothing = Env::new(self.alloc);
+        make_changes(self.alloc, &mut self.vars, &nothing, changes)?;
+        Ok(())
+    }
+}
+
+/// The names of a table that have a value, copied.
+fn names_of(alloc: Global, vars: &Table) -> Result<Vec<String>, AllocError>
+    ensures copied { IfOk result (λ names. map string_bytes names.items ≡ names_set vars.now.entries) }
+    ensures ordered { IsOrdered string_cmp vars.now }
+{
+    let mut names = Vec::new(alloc);
+    for (name, value) in vars {
+        if value.is_some() {
+            names.push(name.clone()?)?;
+        }
+    }
+    Ok(names)
+}

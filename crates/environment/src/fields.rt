@@ -1,0 +1,113 @@
+//! Texts made of fields: parted, joined, each once.
+ghost use Rattle.std.specs.Prelude.{◌≡◌, ◌==◌, ◌<◌, map, IfOk, string_bytes};
+ghost use Rattle.std.specs.List.{slice_split, join_with_byte};
+ghost use Rattle.std.specs.Option.{option_map};
+ghost use Rattle.environment.specs.Texts.{shown, texts_in};
+ghost use Rattle.environment.specs.Fields.{elements_in, text_of, firsts, are_distinct};
+
+use indexmap::IndexSet;
+use std::alloc::{AllocError, Global};
+
+/// The parts between the separators, which are ASCII.
+pub fn parts(alloc: Global, text: &str, separator: char) -> Result<Vec<&str>, AllocError>
+    requires { separator < 128 }
+    ensures { IfOk result (λ v. shown v.items ≡ slice_split (λ b. b == separator) text.now) }
+{
+    text.split(separator).collect(alloc)
+}
+
+/// The parts with the separator between them, which is ASCII.
+pub fn join(alloc: Global, parts: &[&str], separator: char) -> Result<String, AllocError>
+    requires { separator < 128 }
+    ensures { IfOk result (λ t. string_bytes t ≡ join_with_byte separator (shown parts.now)) }
+{
+    let [first, later @ ..] = parts else {
+        return Ok(String::new(alloc));
+    };
+    let mut text = String::from_str(alloc, first)?;
+    let mut rest = later;
+    while let [part, after @ ..] = rest {
+        text.push(separator)?;
+        text.push_str(part)?;
+        rest = after;
+    }
+    Ok(text)
+}
+
+/// The elements of a text, parted by colons; none where it is unset or empty.
+pub fn elements(alloc: Global, text: Option<&str>) -> Result<Vec<&str>, AllocError>
+    ensures { IfOk result (λ v. shown v.items ≡ elements_in (option_map (λ t. t.now) text.entry)) }
+{
+    match text {
+        None => Ok(Vec::new(alloc)),
+        Some(text) => {
+            if text.is_empty() {
+                Ok(Vec::new(alloc))
+            } else {
+                parts(alloc, text, ':')
+            }
+        }
+    }
+}
+
+/// The elements with colons between them; none unsets the variable.
+pub fn text_of(alloc: Global, elements: &[&str]) -> Result<Option<String>, AllocError>
+    ensures { IfOk result (λ t. option_map string_bytes t ≡ text_of (shown elements.now)) }
+{
+    if elements.is_empty() {
+        return Ok(None);
+    }
+    Ok(Some(join(alloc, elements, ':')?))
+}
+
+/// Each text once, by its first place.
+pub fn once<'a>(alloc: Global, texts: &[&'a str]) -> Result<Vec<&'a str>, AllocError>
+    ensures { IfOk result (λ v. shown v.items ≡ firsts (shown texts.now)) }
+{
+    let mut done = IndexSet::new(alloc);
+    let mut rest = texts;
+    while let [text, after @ ..] = rest {
+        done.insert(*text)?;
+        rest = after;
+    }
+    done.into_iter().collect(alloc)
+}
+
+/// Whether no text stands twice.
+pub fn are_distinct(alloc: Global, texts: &[&str]) -> Result<bool, AllocError>
+    ensures { IfOk result (λ b. b ≡ are_distinct (shown texts.now)) }
+{
+    Ok(once(alloc, texts)?.len() == texts.len())
+}
+
+/// The text, copied.
+pub fn copy(alloc: Global, text: Option<&str>) -> Result<Option<String>, AllocError>
+    ensures { IfOk result (λ t. option_map string_bytes t ≡ option_map (λ x. x.now) text.entry) }
+{
+    match text {
+        None => Ok(None),
+        Some(text) => Ok(Some(String::from_str(alloc, text)?)),
+    }
+}
+
+/// The texts as slices.
+pub fn slices(alloc: Global, texts: &[String]) -> Result<Vec<&str>, AllocError>
+    ensures { IfOk result (λ v. shown v.items ≡ map string_bytes texts.now) }
+{
+    let mut slices = Vec::new(alloc);
+    for text in texts {
+        slices.push(text.as_str())?;
+    }
+    Ok(slices)
+}
+
+/// The texts, copied.
+pub fn copies(alloc: Global, texts: &[&str]) -> Result<Vec<String>, AllocError>
+    ensures { IfOk result (λ v. texts_in v ≡ shown texts.now) }
+{
+    let mut copies = Vec::new(alloc);
+    for text in texts {
+        copies.push(String::from_str(alloc, text)?)?;
+    }
+    Ok(copies)
+}

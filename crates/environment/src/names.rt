@@ -1,0 +1,85 @@
+//! The names of variables.
+ghost use Rattle.std.specs.Prelude.{◌≡◌, IfOk, string_bytes, nat_eq, codes};
+ghost use Rattle.std.specs.List.{list_all, starts_with};
+ghost use Rattle.environment.specs.Names.{is_name_start, is_name_byte, is_variable_name, is_protected, is_plain_value, name_reason, share_name, stack_name};
+ghost use Rattle.environment.specs.Reasons.{Judges};
+
+use crate::fault::EnvFault;
+use std::alloc::{AllocError, Global};
+
+fn is_name_start(b: u8) -> bool
+    ensures { result ≡ is_name_start b }
+{
+    (b'A' <= b && b <= b'Z') || (b'a' <= b && b <= b'z') || b == b'_'
+}
+
+fn is_name_byte(b: u8) -> bool
+    ensures { result ≡ is_name_byte b }
+{
+    is_name_start(b) || (b'0' <= b && b <= b'9')
+}
+
+fn are_name_bytes(bytes: &[u8]) -> bool
+    ensures { result ≡ list_all is_name_byte bytes.now }
+{
+    bytes.iter().all(|b| is_name_byte(*b))
+}
+
+/// Whether the text is spelled as the name of a variable: letters, digits and underscores, and no digit
+/// first (POSIX XBD, "Name").
+pub fn is_variable_name(name: &str) -> bool
+    ensures { result ≡ is_variable_name name.now }
+{
+    match name.as_bytes() {
+        [] => false,
+        [first, rest @ ..] => is_name_start(*first) && are_name_bytes(rest),
+    }
+}
+
+fn is_kept(name: &str) -> bool
+    ensures { result ≡ starts_with nat_eq name.now (codes "__MODULES_") }
+{
+    name.starts_with("__MODULES_")
+}
+
+/// Whether the variable of this name holds the tool's own state, so that no modulefile may edit it.
+pub fn is_protected(name: &str) -> bool
+    ensures { result ≡ is_protected name.now }
+{
+    name == "LOADEDMODULES" || name == "_LMFILES_" || is_kept(name)
+}
+
+/// Refuses the names of variables that can't be edited: by `BadVariable` one that isn't spelled as a variable's, then by
+/// `Protected` one that holds the tool's own state. Memory can run out.
+pub fn judge_name(alloc: Global, name: &str) -> Result<(), EnvFault>
+    ensures { Judges result (name_reason name.now) }
+{
+    if !is_variable_name(name) {
+        return Err(EnvFault::BadVariable(String::from_str(alloc, name)?));
+    }
+    if is_protected(name) {
+        return Err(EnvFault::Protected(String::from_str(alloc, name)?));
+    }
+    Ok(())
+}
+
+/// Whether a variable may hold the value: one without NUL.
+pub fn is_plain_value(value: &str) -> bool
+    ensures { result ≡ is_plain_value value.now }
+{
+    value.as_bytes().iter().all(|b| *b != 0)
+}
+
+/// The name of the variable that holds the counters of a path variable.
+pub fn share_name(alloc: Global, name: &str) -> Result<String, AllocError>
+    ensures { IfOk result (λ s. string_bytes s ≡ share_name name.now) }
+{
+    format!(in alloc; "__MODULES_SHARE_{name}")
+}
+
+/// The name of the variable that holds the stack of a variable.
+pub fn stack_name(alloc: Global, name: &str) -> Result<String, AllocError>
+    ensures { IfOk result (λ s. string_bytes s ≡ stack_name name.now) }
+{
+    format!(in alloc; "__MODULES_PUSHENV_{name}")
+}

@@ -1,0 +1,45 @@
+//! What holds variables.
+ghost use Rattle.std.specs.Prelude.{◌≡◌, map, IfErr, OnOk, OnErr};
+ghost use Rattle.std.specs.Option.{option_map};
+ghost use Rattle.std.specs.FinMap as finite;
+ghost use Rattle.environment.specs.Environment.{Environment, lookup};
+ghost use Rattle.environment.specs.Changes.{applied, edits_in};
+ghost use Rattle.environment.specs.declared.fault.EnvFault.TheVariants.{OutOfMemory};
+
+use crate::change::Change;
+use crate::fault::EnvFault;
+
+/// What holds variables: a finite map from names to texts (environ(7)), in which a refused call changes nothing. Each
+/// call is refused for want of memory alone.
+pub trait Vars {
+    /// The variables that are set, with their values.
+    ghost vars: { Self → Environment };
+
+    /// The environment that these variables stand over, which no call changes.
+    ghost under: { Self → Environment };
+
+    /// The value of a variable, or none where it is unset. It takes no memory.
+    fn get(&self, name: &str) -> Option<&str>
+        ensures { option_map (λ x. x.now) result ≡ lookup (vars self.now) name.now };
+
+    /// Sets a variable. Any name and any value will do.
+    fn set(&mut self, name: &str, value: &str) -> Result<(), EnvFault>
+        ensures ok { OnOk result (vars self.new ≡ finite.insert (vars self.old) name.now value.now) }
+        ensures err { OnErr result (vars self.new ≡ vars self.old) }
+        ensures only { IfErr result (λ e. e ≡ OutOfMemory) }
+        ensures under { under self.new ≡ under self.old };
+
+    /// Unsets a variable.
+    fn unset(&mut self, name: &str) -> Result<(), EnvFault>
+        ensures ok { OnOk result (vars self.new ≡ finite.remove (vars self.old) name.now) }
+        ensures err { OnErr result (vars self.new ≡ vars self.old) }
+        ensures only { IfErr result (λ e. e ≡ OutOfMemory) }
+        ensures under { under self.new ≡ under self.old };
+
+    /// Makes all the changes, from the first to the last, or none.
+    fn apply(&mut self, changes: Vec<Change>) -> Result<(), EnvFault>
+        ensures ok { OnOk result (vars self.new ≡ applied (edits_in changes) (vars self.old)) }
+        ensures err { OnErr result (vars self.new ≡ vars self.old) }
+        ensures only { IfErr result (λ e. e ≡ OutOfMemory) }
+        ensures under { under self.new ≡ under self.old };
+}

@@ -1,0 +1,110 @@
+//! A working environment: changes over an environment that stays as it is.
+ghost use Rattle.std.specs.Prelude.{◌≡◌, ◌++◌, [], ◌∷◌, OnOk, IfOk, IfErr};
+ghost use Rattle.environment.specs.Changes.{AreChanges, edits_in};
+ghost use Rattle.environment.specs.Tables.{differing, written_over};
+ghost use Rattle.environment.specs.declared.fault.EnvFault.TheVariants.{OutOfMemory};
+
+use crate::change::Change;
+use crate::env::Env;
+use crate::fault::EnvFault;
+use crate::table::{Table, enter, found, make_changes};
+use crate::vars::Vars;
+use std::alloc::AllocError;
+use std::collections::BTreeMap;
+use std::marker::Model;
+
+/// Changes over an environment that stays as it is. An edit costs what it touches, whatever else is set.
+#[derive(Drop)]
+pub struct Working<'a> {
+    old: &'a Env,
+    /// The names that were touched, with their values now.
+    touched: Table,
+}
+
+impl<'a> Model for Working<'a> {
+    ghost use Rattle.environment.specs.Tables.{written_over};
+    ghost use Rattle.environment.specs.Edited.{Edited, edited_code};
+
+    ghost Value = { Edited };
+
+    ghost coded = { edited_code };
+
+    ghost view = { λ a. record { old = a.old.now; new = written_over a.old.now a.touched.entries } };
+}
+
+impl<'a> Working<'a> {
+    /// The environment as it is, with no changes.
+    pub fn over(old: &'a Env) -> Self
+        ensures old { result.old ≡ old.entry.now }
+        ensures new { result.new ≡ old.entry.now }
+    {
+        Working {
+            old,
+            touched: BTreeMap::new(old.alloc()),
+        }
+    }
+
+    /// Each name whose value differs from that in the old environment, once, in the order of bytes. It costs what was
+    /// touched, and is refused for want of memory alone.
+    pub fn into_changes(self) -> Result<Vec<Change>, EnvFault>
+        ensures ok { IfOk result (λ v. AreChanges self.entry.old self.entry.new (edits_in v)) }
+        ensures only { IfErr result (λ e. e ≡ OutOfMemory) }
+    {
+        let Working { old, touched } = self;
+        Ok(differing(old, touched)?)
+    }
+}
+
+impl<'a> Vars for Working<'a> {
+    ghost vars = { λ working. working.new };
+
+    ghost under = { λ working. working.old };
+
+    fn get(&self, name: &str) -> Option<&str> {
+        match found(&self.touched, name) {
+            Some(value) => value,
+            None => self.old.get(name),
+        }
+    }
+
+    fn set(&mut self, name: &str, value: &str) -> Result<(), EnvFault> {
+        enter(self.old.alloc(), &mut self.touched, name, Some(value))?;
+        Ok(())
+    }
+
+    fn unset(&mut self, name: &str) -> Result<(), EnvFault> {
+        enter(self.old.alloc(), &mut self.touched, name, None)?;
+        Ok(())
+    }
+
+    fn apply(&mut self, changes: Vec<Change>) -> Result<(), EnvFault> {
+        make_changes(self.old.alloc(), &mut self.touched, self.old, changes)?;
+        Ok(())
+    }
+}
+
+/// Puts the change of a name at the end, if its value isn't the old one.
+fn push_change(
+    changes: &mut Vec<Change>,
+    old: &Env,
+    name: String,
+    value: Option<String>,
+) -> Result<(), AllocError>
+    ensures { OnOk result (edits_in changes.new ≡ edits_in changes.old ++ differing old.now ((name, value) ∷ [])) }
+{
+    if old.get(name.as_str()) != value.as_deref() {
+        changes.push(Change { name, value })?;
+    }
+    Ok(())
+}
+
+/// The changes of the names whose values aren't the old ones.
+fn differing(old: &Env, touched: Table) -> Result<Vec<Change>, AllocError>
+    ensures { IfOk result (λ v. AreChanges old.now (written_over old.now touched.entries) (edits_in v)) }
+{
+    let mut changes = Vec::new(old.alloc());
+    for (name, value) in touched {
+        push_change(&mut changes, old, name, value)?;
+    }
+    Ok(changes)
+}

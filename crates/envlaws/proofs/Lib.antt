@@ -1,0 +1,3 @@
+pub mod PlaceLemmas
+pub mod FrameLemmas
+pub mod StateLemmas

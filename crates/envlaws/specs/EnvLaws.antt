@@ -1,0 +1,204 @@
+-- The laws of whole environments.
+use Rattle.std.specs.Prelude.{◌≡◌, ◌≢◌, ℕ, true, false, List, [], ◌∷◌, ◌++◌, map, bytes_eq, Option, Some, None, Ok}
+use Rattle.std.specs.List.{list_all}
+use Rattle.modulename.specs.ModuleName.{is_module_name}
+use Rattle.environment.specs.Texts.{Text, has}
+use Rattle.environment.specs.Fields.{without, are_distinct}
+use Rattle.environment.specs.Names.{share_name, stack_name, name_reason}
+use Rattle.environment.specs.Environment.{Environment, lookup, with_value}
+use Rattle.pathstate.specs.PathVariables.{path_in, added_path, dropped_path}
+use Rattle.pathstate.specs.PathOrder.{IsPathInOrder}
+use Rattle.pathstate.specs.declared.paths.End.{End}
+use Rattle.stackstate.specs.Stacks.{StackState, holds}
+use Rattle.stackstate.specs.StackRuns.{IsOwnedStart, standing}
+use Rattle.stackstate.specs.StackVariables.{stack_in, pushed_value, popped_value, is_loaded_owner, IsStackInOrder}
+use Rattle.loadedlist.specs.LoadedTexts.{names_variable, files_variable, conflicts_variable, prereqs_variable}
+use Rattle.loadedlist.specs.Loaded.{Entry, names_of, is_path, loaded_in, AreLoadedInOrder, kept_once, without_entry, added_loaded, dropped_loaded}
+use Rattle.envlaws.specs.Places.{place_of, is_editable, IsNameOf}
+use Rattle.envlaws.specs.Places.Place.{Variable, Counters, Stack, LoadedNames, LoadedFiles, LoadedConflicts, LoadedPrereqs, Other}
+use Rattle.envlaws.specs.Frames.{OnlyAmong, loaded_names, EditsPath, EditsStack, EditsVariable, KeepsVariable, KeepsLoaded}
+
+-- names
+
+-- Each name is the one of its place.
+abbrev pub PlacesName : Type 0
+PlacesName = (n : Text) → IsNameOf n (place_of n)
+
+-- The names that are kept for a variable that may be edited, and its own, have their places.
+pub record HasPlaces (v : Text) : Type 0 where
+  pub variable : place_of v ≡ Variable v
+  pub counters : place_of (share_name v) ≡ Counters v
+  pub stack : place_of (stack_name v) ≡ Stack v
+
+abbrev pub VariablesHavePlaces : Type 0
+VariablesHavePlaces = (v : Text) → is_editable v ≡ true → HasPlaces v
+
+pub record LoadedHavePlaces : Type 0 where
+  pub names : place_of names_variable ≡ LoadedNames
+  pub files : place_of files_variable ≡ LoadedFiles
+  pub conflicts : place_of conflicts_variable ≡ LoadedConflicts
+  pub prereqs : place_of prereqs_variable ≡ LoadedPrereqs
+
+-- Names of two places are two.
+abbrev pub PlacesPartNames : Type 0
+PlacesPartNames = (m n : Text) → place_of m ≢ place_of n → bytes_eq m n ≡ false
+
+-- A variable may be edited exactly where there is no reason against its name.
+abbrev pub EditableHasNoReason : Type 0
+EditableHasNoReason =
+    (name : Text) → (is_editable name ≡ true → name_reason name ≡ None) × (name_reason name ≡ None
+    → is_editable name ≡ true)
+
+-- accepted edits
+
+abbrev pub AddEditsPath : Type 0
+AddEditsPath =
+    (old new : Environment) (name : Text) (delim : ℕ) (xs : List Text) (end : End)
+    → added_path old name delim xs end ≡ Ok new → EditsPath old new name
+
+abbrev pub DropEditsPath : Type 0
+DropEditsPath =
+    (old new : Environment) (name : Text) (delim : ℕ) (xs : List Text)
+    → dropped_path old name delim xs ≡ Ok new → EditsPath old new name
+
+abbrev pub PushEditsStack : Type 0
+PushEditsStack =
+    (old new : Environment) (name owner value : Text) → pushed_value old name owner value ≡ Ok new
+    → EditsStack old new name
+
+abbrev pub PopEditsStack : Type 0
+PopEditsStack =
+    (old new : Environment) (name owner : Text) → popped_value old name owner ≡ Ok new → EditsStack old new name
+
+-- Setting or unsetting a variable touches neither its counters nor its stack.
+abbrev pub SetEditsVariable : Type 0
+SetEditsVariable =
+    (e : Environment) (name : Text) (value : Option Text) → is_editable name ≡ true
+    → EditsPath e (with_value e name value) name × EditsStack e (with_value e name value) name
+
+abbrev pub AddEditsLoaded : Type 0
+AddEditsLoaded =
+    (old new : Environment) (entry : Entry) → added_loaded old entry ≡ Ok new → OnlyAmong old new loaded_names
+
+abbrev pub DropEditsLoaded : Type 0
+DropEditsLoaded =
+    (old new : Environment) (name : Text) → dropped_loaded old name ≡ Ok new → OnlyAmong old new loaded_names
+
+-- frames
+
+-- An edit of a path or of a stack is one of the variable, which keeps the other of the two.
+abbrev pub PathLeavesStack : Type 0
+PathLeavesStack =
+    (old new : Environment) (name : Text) → EditsPath old new name
+    → EditsVariable old new name × (lookup new (stack_name name) ≡ lookup old (stack_name name))
+
+abbrev pub StackLeavesCounters : Type 0
+StackLeavesCounters =
+    (old new : Environment) (name : Text) → EditsStack old new name
+    → EditsVariable old new name × (lookup new (share_name name) ≡ lookup old (share_name name))
+
+-- An edit of a variable keeps every other one, and the loaded list.
+abbrev pub EditKeepsOthers : Type 0
+EditKeepsOthers =
+    (old new : Environment) (name other : Text) → EditsVariable old new name
+    → is_editable other ≡ true → bytes_eq other name ≡ false → KeepsVariable old new other
+
+abbrev pub EditKeepsLoaded : Type 0
+EditKeepsLoaded = (old new : Environment) (name : Text) → EditsVariable old new name → KeepsLoaded old new
+
+-- An edit of the loaded list keeps every variable.
+abbrev pub LoadedKeepsVariables : Type 0
+LoadedKeepsVariables =
+    (old new : Environment) (name : Text) → OnlyAmong old new loaded_names → is_editable name ≡ true
+    → KeepsVariable old new name
+
+-- No edit touches a name that stands for something else.
+abbrev pub EditsLeaveRest : Type 0
+EditsLeaveRest =
+    (old new : Environment) (name other : Text) → EditsVariable old new name → place_of other ≡ Other
+    → lookup new other ≡ lookup old other
+
+abbrev pub LoadedLeavesRest : Type 0
+LoadedLeavesRest =
+    (old new : Environment) (other : Text) → OnlyAmong old new loaded_names → place_of other ≡ Other
+    → lookup new other ≡ lookup old other
+
+-- stacks in order
+
+-- the state of a stack in order, from which the law of stacks can be started
+pub record IsStartOf (loaded : List Text) (e : Environment) (name : Text) (s : StackState) : Type 0 where
+  pub found : stack_in e name ≡ Some s
+  pub owned : IsOwnedStart s
+  pub owners : list_all (λ item. is_loaded_owner loaded item.0) s.items ≡ true
+
+abbrev pub OrderGivesStart : Type 0
+OrderGivesStart =
+    (loaded : List Text) (e : Environment) (name : Text) → list_all is_module_name loaded ≡ true
+    → IsStackInOrder loaded e name → (s : StackState) × IsStartOf loaded e name s
+
+-- An owner that is neither in the start nor live is not in what stands.
+abbrev pub StrangerIsAbsent : Type 0
+StrangerIsAbsent =
+    (start : StackState) (pushes : List (Text × Text)) (owner : Text) → holds owner start.items ≡ false
+    → has owner (map (λ p. p.0) pushes) ≡ false → holds owner (standing start pushes).items ≡ false
+
+-- one state, one writing
+
+-- the variable and its counters are the same in both
+pub record SamePath (d e : Environment) (name : Text) : Type 0 where
+  pub elements : lookup d name ≡ lookup e name
+  pub counters : lookup d (share_name name) ≡ lookup e (share_name name)
+
+abbrev pub PathsHaveOneWriting : Type 0
+PathsHaveOneWriting =
+    (d e : Environment) (name : Text) (delim : ℕ) → IsPathInOrder d name delim → IsPathInOrder e name delim
+    → path_in d name delim ≡ path_in e name delim → SamePath d e name
+
+pub record SameStack (d e : Environment) (name : Text) : Type 0 where
+  pub value : lookup d name ≡ lookup e name
+  pub stack : lookup d (stack_name name) ≡ lookup e (stack_name name)
+
+abbrev pub StacksHaveOneWriting : Type 0
+StacksHaveOneWriting =
+    (loaded others : List Text) (d e : Environment) (name : Text)
+    → list_all is_module_name loaded ≡ true → list_all is_module_name others ≡ true
+    → IsStackInOrder loaded d name → IsStackInOrder others e name
+    → stack_in d name ≡ stack_in e name → SameStack d e name
+
+pub record SameLoaded (d e : Environment) : Type 0 where
+  pub names : lookup d names_variable ≡ lookup e names_variable
+  pub files : lookup d files_variable ≡ lookup e files_variable
+  pub conflicts : lookup d conflicts_variable ≡ lookup e conflicts_variable
+  pub prereqs : lookup d prereqs_variable ≡ lookup e prereqs_variable
+
+abbrev pub ListsHaveOneWriting : Type 0
+ListsHaveOneWriting =
+    (d e : Environment) → AreLoadedInOrder d → AreLoadedInOrder e → loaded_in d ≡ loaded_in e → SameLoaded d e
+
+-- the loaded list
+
+abbrev pub AddNames : Type 0
+AddNames =
+    (entries : List Entry) (entry : Entry) → names_of (entries ++ kept_once entry ∷ [])
+    ≡ names_of entries ++ entry.name ∷ []
+
+abbrev pub DropNames : Type 0
+DropNames =
+    (entries : List Entry) (name : Text) → names_of (without_entry name entries) ≡ without name (names_of entries)
+
+-- each name is well spelled and stands once, and no path is empty or has a colon
+pub record AreSound (entries : List Entry) : Type 0 where
+  pub names : list_all is_module_name (names_of entries) ≡ true
+  pub once : are_distinct (names_of entries) ≡ true
+  pub paths : list_all (λ x. is_path x.path) entries ≡ true
+
+-- A list in order is read, and is sound.
+abbrev pub OrderGivesList : Type 0
+OrderGivesList =
+    (e : Environment) → AreLoadedInOrder e → (entries : List Entry) × (loaded_in e ≡ Some entries) × AreSound entries
+
+-- After any accepted drop the list is without the module.
+abbrev pub DropLeavesList : Type 0
+DropLeavesList =
+    (old new : Environment) (name : Text) (entries : List Entry) → loaded_in old ≡ Some entries
+    → dropped_loaded old name ≡ Ok new → loaded_in new ≡ Some (without_entry name entries)

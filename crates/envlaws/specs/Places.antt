@@ -1,0 +1,58 @@
+-- What the names of variables stand for.
+use Rattle.std.specs.Prelude.{◌≡◌, Bool, true, not, ◌&&◌, ◌==◌, [], ◌∷◌, bytes_eq, codes, Option, Some, None, if◌then◌else◌}
+use Rattle.environment.specs.Texts.{Text}
+use Rattle.environment.specs.Names.{is_variable_name, is_protected, share_name, stack_name}
+use Rattle.loadedlist.specs.LoadedTexts.{names_variable, files_variable, conflicts_variable, prereqs_variable}
+
+-- a variable that modulefiles may edit
+abbrev pub is_editable : Text → Bool
+is_editable name = not (is_protected name) && is_variable_name name
+
+-- a variable that may be edited, the counters or the stack of one, a text of the loaded list, or something else
+pub data Place : Type 0 where
+  Variable : (name : Text) → Place
+  Counters : (name : Text) → Place
+  Stack : (name : Text) → Place
+  LoadedNames : Place
+  LoadedFiles : Place
+  LoadedConflicts : Place
+  LoadedPrereqs : Place
+  Other : Place
+
+-- what stands behind the front, where a text begins so
+abbrev pub behind : Text → Text → Option Text
+behind [] n = Some n
+behind (c ∷ front) [] = None
+behind (c ∷ front) (k ∷ n) = if c == k then behind front n else None
+
+-- the place of a variable that may be edited
+abbrev pub of_editable : Text → Place → Place
+of_editable name place = if is_editable name then place else Other
+
+-- the place of a name that is kept, by what stands behind either front
+abbrev pub kept_place : Text → Option Text → Option Text → Place
+kept_place n (Some v) o = of_editable v (Counters v)
+kept_place n None (Some v) = of_editable v (Stack v)
+kept_place n None None =
+    if bytes_eq n names_variable then LoadedNames
+    else if bytes_eq n files_variable then LoadedFiles
+    else if bytes_eq n conflicts_variable then LoadedConflicts
+    else if bytes_eq n prereqs_variable then LoadedPrereqs
+    else Other
+
+-- what a name stands for
+abbrev pub place_of : Text → Place
+place_of n =
+    if is_editable n then Variable n else kept_place n (behind (codes "__MODULES_SHARE_") n) (behind
+    (codes "__MODULES_PUSHENV_") n)
+
+-- the name is the one of the place
+abbrev pub IsNameOf : Text → Place → Type 0
+IsNameOf n (Variable v) = (is_editable v ≡ true) × (n ≡ v)
+IsNameOf n (Counters v) = (is_editable v ≡ true) × (n ≡ share_name v)
+IsNameOf n (Stack v) = (is_editable v ≡ true) × (n ≡ stack_name v)
+IsNameOf n LoadedNames = n ≡ names_variable
+IsNameOf n LoadedFiles = n ≡ files_variable
+IsNameOf n LoadedConflicts = n ≡ conflicts_variable
+IsNameOf n LoadedPrereqs = n ≡ prereqs_variable
+IsNameOf n Other = Unit {0}

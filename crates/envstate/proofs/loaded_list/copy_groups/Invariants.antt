@@ -1,6 +1,0 @@
-use Rattle.std.proofs.Common.{◌≡◌, map, take}
-use Rattle.envstate.specs.Loaded.{texts_in, groups_in}
-use Rattle.envstate.proofs.loaded_list.copy_groups.Given as goal
-
-abbrev pub invariant-loop-group : goal.invariant-loop-group
-invariant-loop-group l = groups_in l.copied ≡ map texts_in (take l.group-index l.groups)

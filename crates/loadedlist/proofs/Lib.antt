@@ -1,0 +1,7 @@
+pub mod LoadedReading
+pub mod LoadedWriting
+pub mod LoadedAgain
+pub mod LoadedReadable
+pub mod LoadedEdits
+pub mod LoadedExamples
+pub mod LoadedOrder

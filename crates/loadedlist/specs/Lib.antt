@@ -1,0 +1,4 @@
+pub mod LoadedTexts
+pub mod Loaded
+pub mod LoadedEntries
+pub mod LoadedLaws

@@ -1,0 +1,166 @@
+-- The loaded modules (modulefile(5)): a list of entries in load order, and the four variables that say it.
+use Rattle.std.specs.Option.{option_map}
+use Rattle.std.specs.Prelude.{◌≡◌, Bool, true, false, not, ◌&&◌, ◌==◌, List, [], ◌∷◌, ◌++◌, map, filter, bytes_eq, if◌then◌else◌, Option, Some, None, Result, Ok, Err}
+use Rattle.std.specs.List.{list_any, list_all}
+use Rattle.modulename.specs.ModuleName.{is_module_name}
+use Rattle.environment.specs.Texts.{Text, has}
+use Rattle.environment.specs.Fields.{colon, text_of, firsts, elements_in, are_distinct}
+use Rattle.loadedlist.specs.LoadedTexts.{names_variable, files_variable, conflicts_variable, prereqs_variable, is_empty, are_consistent, first_element, words_in, conflicts_among, prereqs_among, has_names, element_of, group_text}
+use Rattle.environment.specs.Environment.{Environment, lookup}
+use Rattle.environment.specs.Changes.{Edit, applied}
+use Rattle.environment.specs.Reasons.{EnvReason, inconsistent}
+
+-- a loaded module, its full path, the names that it conflicts with, and the groups of names of which it needs one each
+pub record Entry : Type 0 where
+  pub name : Text
+  pub path : Text
+  pub conflicts : List Text
+  pub prereqs : List (List Text)
+
+-- the names of the entries
+abbrev pub names_of : List Entry → List Text
+names_of entries = map (λ x. x.name) entries
+
+-- each name with its file, and with what the element that either of the other two texts has for it says
+abbrev pub entries_from : (Text → Option Text) → (Text → Option Text) → List Text → List Text → List Entry
+entries_from conflicts prereqs [] files = []
+entries_from conflicts prereqs (name ∷ names) [] = []
+entries_from conflicts prereqs (name ∷ names) (file ∷ files) =
+    record {
+      name = name;
+      path = file;
+      conflicts = conflicts_among (words_in (conflicts name));
+      prereqs = prereqs_among (words_in (prereqs name));
+    } ∷ entries_from conflicts prereqs names files
+
+-- the first element that a text has for a module
+abbrev pub first_in : Option Text → Text → Option Text
+first_in text name = first_element name (elements_in text)
+
+-- The list that the four texts say; none where the first two do not fit together.
+abbrev pub entries_in : Option Text → Option Text → Option Text → Option Text → Option (List Entry)
+entries_in names files conflicts prereqs =
+    if are_consistent (elements_in names) (elements_in files)
+    then Some (entries_from (first_in conflicts) (first_in prereqs) (elements_in names) (elements_in files))
+    else None
+
+-- the loaded modules of an environment; none where they are inconsistent
+abbrev pub loaded_in : Environment → Option (List Entry)
+loaded_in e = entries_in (lookup e names_variable) (lookup e files_variable) (lookup e conflicts_variable) (lookup e prereqs_variable)
+
+-- Writing: a list without elements unsets its variable.
+abbrev pub names_text : List Entry → Option Text
+names_text entries = text_of (names_of entries)
+
+-- the paths, in the same order
+abbrev pub files_text : List Entry → Option Text
+files_text entries = text_of (map (λ x. x.path) entries)
+
+-- an element for each module that conflicts with some
+abbrev pub conflict_elements : List Entry → List Text
+conflict_elements [] = []
+conflict_elements (x ∷ xs) = if has_names x.conflicts then element_of x.name x.conflicts ∷ conflict_elements xs else conflict_elements xs
+
+-- what the modules conflict with
+abbrev pub conflicts_text : List Entry → Option Text
+conflicts_text entries = text_of (conflict_elements entries)
+
+-- whether there is a group
+abbrev pub has_groups : List (List Text) → Bool
+has_groups [] = false
+has_groups (group ∷ groups) = true
+
+-- an element for each module that needs some
+abbrev pub prereq_elements : List Entry → List Text
+prereq_elements [] = []
+prereq_elements (x ∷ xs) = if has_groups x.prereqs then element_of x.name (map group_text x.prereqs) ∷ prereq_elements xs else prereq_elements xs
+
+-- what the modules need
+abbrev pub prereqs_text : List Entry → Option Text
+prereqs_text entries = text_of (prereq_elements entries)
+
+-- what is written of the list
+abbrev pub loaded_edits : List Entry → List Edit
+loaded_edits entries =
+    (names_variable, names_text entries) ∷ (files_variable, files_text entries) ∷ (conflicts_variable, conflicts_text entries) ∷ (prereqs_variable, prereqs_text entries) ∷ []
+
+-- the environment with this list in the four variables
+abbrev pub with_loaded : Environment → List Entry → Environment
+with_loaded e entries = applied (loaded_edits entries) e
+
+-- a path has a byte, and no colon
+abbrev pub is_path : Text → Bool
+is_path path = not (is_empty path) && not (list_any (λ b. b == colon) path)
+
+-- a group has names, and each is well spelled
+abbrev pub is_group : List Text → Bool
+is_group group = has_names group && list_all is_module_name group
+
+-- an entry that is read again as it was written, but for repeated conflicts
+abbrev pub is_entry : Entry → Bool
+is_entry x = (is_module_name x.name && is_path x.path) && (list_all is_module_name x.conflicts && list_all is_group x.prereqs)
+
+-- Each entry can be written, no module stands twice, and no entry has a conflict twice.
+pub record IsLoadedList (entries : List Entry) : Type 0 where
+  pub each : list_all is_entry entries ≡ true
+  pub names : are_distinct (names_of entries) ≡ true
+  pub conflicts : list_all (λ x. are_distinct x.conflicts) entries ≡ true
+
+-- In order: the four texts are those that one list is written as.
+pub record AreLoadedInOrder (e : Environment) : Type 0 where
+  pub entries : List Entry
+  pub list : IsLoadedList entries
+  pub written : with_loaded e entries ≡ e
+
+-- the entry joins the list where it can be written, and its module is not loaded
+abbrev pub can_be_added : List Entry → Entry → Bool
+can_be_added entries x = is_entry x && not (has x.name (names_of entries))
+
+-- a repeated conflict is kept once
+abbrev pub kept_once : Entry → Entry
+kept_once x = record { name = x.name; path = x.path; conflicts = firsts x.conflicts; prereqs = x.prereqs }
+
+-- an entry added to the list that was read
+abbrev pub added_to : Environment → Entry → Option (List Entry) → Result Environment EnvReason
+added_to e x None = Err inconsistent
+added_to e x (Some entries) = if can_be_added entries x then Ok (with_loaded e (entries ++ kept_once x ∷ [])) else Err inconsistent
+
+-- a new last entry
+abbrev pub added_loaded : Environment → Entry → Result Environment EnvReason
+added_loaded e x = added_to e x (loaded_in e)
+
+-- the entries of other modules
+abbrev pub without_entry : Text → List Entry → List Entry
+without_entry name entries = filter (λ x. not (bytes_eq name x.name)) entries
+
+-- a module dropped from the list that was read
+abbrev pub dropped_from : Environment → Text → Option (List Entry) → Result Environment EnvReason
+dropped_from e name None = Err inconsistent
+dropped_from e name (Some entries) = if has name (names_of entries) then Ok (with_loaded e (without_entry name entries)) else Ok e
+
+-- the module's entry leaves; where it is not loaded nothing changes
+abbrev pub dropped_loaded : Environment → Text → Result Environment EnvReason
+dropped_loaded e name = dropped_from e name (loaded_in e)
+
+-- the entry of a module
+abbrev pub entry_named : Text → List Entry → Option Entry
+entry_named name [] = None
+entry_named name (x ∷ xs) = if bytes_eq name x.name then Some x else entry_named name xs
+
+-- the conflicts of an entry, if there is one
+abbrev pub conflicts_of_entry : Option Entry → List Text
+conflicts_of_entry None = []
+conflicts_of_entry (Some x) = x.conflicts
+
+-- the groups of an entry, if there is one
+abbrev pub prereqs_of_entry : Option Entry → List (List Text)
+prereqs_of_entry None = []
+prereqs_of_entry (Some x) = x.prereqs
+
+-- what a loaded module conflicts with; nothing where it is not loaded
+abbrev pub conflicts_in : Environment → Text → Option (List Text)
+conflicts_in e name = option_map (λ entries. conflicts_of_entry (entry_named name entries)) (loaded_in e)
+
+-- what a loaded module needs; nothing where it is not loaded
+abbrev pub prereqs_in : Environment → Text → Option (List (List Text))
+prereqs_in e name = option_map (λ entries. prereqs_of_entry (entry_named name entries)) (loaded_in e)

@@ -1,0 +1,288 @@
+//! The loaded modules, which four variables list.
+ghost use Rattle.std.specs.Prelude.{◌≡◌, ◌==◌, ◌&&◌, ◌++◌, [], ◌∷◌, not, length, map, filter, bytes_eq, if◌then◌else◌, OnOk, IfOk};
+ghost use Rattle.std.specs.List.{list_all};
+ghost use Rattle.std.specs.Option.{option_map, option_or};
+ghost use Rattle.modulename.specs.ModuleName.{is_module_name};
+ghost use Rattle.environment.specs.Texts.{Text, shown, texts_in};
+ghost use Rattle.loadedlist.specs.LoadedTexts.{are_consistent, parts_of, is_of, first_element, words_in, conflicts_among, prereqs_among, names_of_group, has_names};
+ghost use Rattle.loadedlist.specs.LoadedEntries.{element_in, Lists, Answers, groups_in, entry_of};
+ghost use Rattle.loadedlist.specs.Loaded.{entries_from, loaded_in, entry_named, conflicts_in, prereqs_in};
+
+use crate::entry::Loaded;
+use environment::fields::{are_distinct, copies, elements, once, parts, slices};
+use environment::{EnvFault, Vars};
+use indexmap::IndexMap;
+use modulename::is_module_name;
+use std::alloc::{AllocError, Global};
+
+pub(crate) const NAMES: &str = "LOADEDMODULES";
+
+pub(crate) const FILES: &str = "_LMFILES_";
+
+pub(crate) const CONFLICTS: &str = "__MODULES_LMCONFLICT";
+
+pub(crate) const PREREQS: &str = "__MODULES_LMPREREQ";
+
+/// The first element of each module.
+type FirstElements<'a> = IndexMap<&'a str, &'a str>;
+
+/// The words that are well spelled as names of modules.
+fn names_among<'a>(alloc: Global, words: &[&'a str]) -> Result<Vec<&'a str>, AllocError>
+    ensures { IfOk result (λ v. v.items ≡ filter (λ word. is_module_name word.now) words.now) }
+{
+    words
+        .iter()
+        .copied()
+        .filter(|word| is_module_name(word))
+        .collect(alloc)
+}
+
+fn are_names(names: &[&str]) -> bool
+    ensures { result ≡ list_all (λ name. is_module_name name.now) names.now }
+{
+    names.iter().all(|name| is_module_name(name))
+}
+
+fn are_paths(files: &[&str]) -> bool
+    ensures { result ≡ list_all (λ file. not (length file.now == 0)) files.now }
+{
+    files.iter().all(|file| !file.is_empty())
+}
+
+/// Whether the names and the files are as many, and spelled as they must be.
+fn fit_together(names: &[&str], files: &[&str]) -> bool
+    ensures { result ≡ (length names.now == length files.now && list_all (λ name. is_module_name name.now) names.now && list_all (λ file. not (length file.now == 0)) files.now) }
+{
+    names.len() == files.len() && are_names(names) && are_paths(files)
+}
+
+/// Whether the names and the files are those of one list.
+fn are_consistent(alloc: Global, names: &[&str], files: &[&str]) -> Result<bool, AllocError>
+    ensures { IfOk result (λ b. b ≡ are_consistent (shown names.now) (shown files.now)) }
+{
+    if !fit_together(names, files) {
+        return Ok(false);
+    }
+    are_distinct(alloc, names)
+}
+
+/// Notes the element of a module, unless an earlier one is noted.
+fn note_first<'a>(
+    firsts: &mut FirstElements<'a>,
+    module_name: &'a str,
+    element: &'a str,
+) -> Result<(), AllocError>
+    ensures { OnOk result ((name : Text) → element_in firsts.new name ≡ option_or (element_in firsts.old name) (if bytes_eq name module_name.entry.now then Some element.entry.now else None)) }
+{
+    if firsts.get(module_name).is_none() {
+        firsts.insert(module_name, element)?;
+    }
+    Ok(())
+}
+
+/// Notes an element, unless it names no module or an earlier one is of the same module.
+fn note<'a>(firsts: &mut FirstElements<'a>, element: &'a str) -> Result<(), AllocError>
+    ensures { OnOk result ((name : Text) → element_in firsts.new name ≡ option_or (element_in firsts.old name) (if is_of name (parts_of element.entry.now) then Some element.entry.now else None)) }
+{
+    let Some((module, _)) = element.split_once('&') else {
+        return Ok(());
+    };
+    note_first(firsts, module, element)
+}
+
+/// The first element of each module among these.
+fn first_elements<'a>(alloc: Global, elements: &[&'a str]) -> Result<FirstElements<'a>, AllocError>
+    ensures { IfOk result (λ m. (name : Text) → element_in m name ≡ first_element name (shown elements.now)) }
+{
+    let mut firsts = IndexMap::new(alloc);
+    let mut rest = elements;
+    while let [element, after @ ..] = rest {
+        note(&mut firsts, element)?;
+        rest = after;
+    }
+    Ok(firsts)
+}
+
+/// The words of an element, which stand behind its first `&`.
+fn words(alloc: Global, element: Option<&str>) -> Result<Vec<&str>, AllocError>
+    ensures { IfOk result (λ v. shown v.items ≡ words_in (option_map (λ t. t.now) element.entry)) }
+{
+    let Some(element) = element else {
+        return Ok(Vec::new(alloc));
+    };
+    match element.split_once('&') {
+        Some((_, words)) => parts(alloc, words, '&'),
+        None => Ok(Vec::new(alloc)),
+    }
+}
+
+/// The conflicts that an element says.
+fn conflict_names(alloc: Global, element: Option<&str>) -> Result<Vec<String>, AllocError>
+    ensures { IfOk result (λ v. texts_in v ≡ conflicts_among (words_in (option_map (λ t. t.now) element.entry))) }
+{
+    let words = words(alloc, element)?;
+    let names = names_among(alloc, words.as_slice())?;
+    let names = once(alloc, names.as_slice())?;
+    copies(alloc, names.as_slice())
+}
+
+/// Puts a group at the end, if it has names.
+fn push_group(alloc: Global, groups: &mut Vec<Vec<String>>, word: &str) -> Result<(), AllocError>
+    ensures { OnOk result (groups_in groups.new ≡ groups_in groups.old ++ filter has_names (names_of_group word.now ∷ [])) }
+{
+    let alternatives = parts(alloc, word, '|')?;
+    let names = names_among(alloc, alternatives.as_slice())?;
+    if names.is_empty() {
+        return Ok(());
+    }
+    groups.push(copies(alloc, names.as_slice())?)?;
+    Ok(())
+}
+
+/// The groups of names that the words say.
+fn groups_among(alloc: Global, words: &[&str]) -> Result<Vec<Vec<String>>, AllocError>
+    ensures { IfOk result (λ v. groups_in v ≡ prereqs_among (shown words.now)) }
+{
+    let mut groups = Vec::new(alloc);
+    let mut rest = words;
+    while let [word, after @ ..] = rest {
+        push_group(alloc, &mut groups, word)?;
+        rest = after;
+    }
+    Ok(groups)
+}
+
+/// The prereqs that an element says.
+fn prereq_groups(alloc: Global, element: Option<&str>) -> Result<Vec<Vec<String>>, AllocError>
+    ensures { IfOk result (λ v. groups_in v ≡ prereqs_among (words_in (option_map (λ t. t.now) element.entry))) }
+{
+    let words = words(alloc, element)?;
+    groups_among(alloc, words.as_slice())
+}
+
+/// An entry, with what its elements say.
+fn entry(
+    alloc: Global,
+    name: &str,
+    path: &str,
+    conflicts: Option<&str>,
+    prereqs: Option<&str>,
+) -> Result<Loaded, AllocError>
+    ensures { IfOk result (λ x. entry_of x ≡ record { name = name.now; path = path.now; conflicts = conflicts_among (words_in (option_map (λ t. t.now) conflicts.entry)); prereqs = prereqs_among (words_in (option_map (λ t. t.now) prereqs.entry)) }) }
+{
+    Ok(Loaded {
+        name: String::from_str(alloc, name)?,
+        path: String::from_str(alloc, path)?,
+        conflicts: conflict_names(alloc, conflicts)?,
+        prereqs: prereq_groups(alloc, prereqs)?,
+    })
+}
+
+/// An entry for each name with its file.
+fn entries(
+    alloc: Global,
+    names: &[&str],
+    files: &[&str],
+    conflicts: &FirstElements<'_>,
+    prereqs: &FirstElements<'_>,
+) -> Result<Vec<Loaded>, AllocError>
+    ensures { IfOk result (λ v. map entry_of v.items ≡ entries_from (element_in conflicts.now) (element_in prereqs.now) (shown names.now) (shown files.now)) }
+{
+    let mut entries = Vec::new(alloc);
+    let mut names_left = names;
+    let mut files_left = files;
+    while let [name, later_names @ ..] = names_left {
+        let [file, later_files @ ..] = files_left else {
+            return Ok(entries);
+        };
+        let conflicts = conflicts.get(*name).copied();
+        let prereqs = prereqs.get(*name).copied();
+        entries.push(entry(alloc, name, file, conflicts, prereqs)?)?;
+        names_left = later_names;
+        files_left = later_files;
+    }
+    Ok(entries)
+}
+
+/// The loaded modules in load order, as `LOADEDMODULES`, `_LMFILES_`, `__MODULES_LMCONFLICT` and `__MODULES_LMPREREQ`
+/// say them (modulefile(5)).
+///
+/// The answer is `Inconsistent` where the names and the files are not as many, a path is empty, or a name is empty,
+/// ill spelled or there twice. The other two texts are never a cause: what is ill spelled in them is passed over.
+pub fn loaded<V: Vars>(alloc: Global, env: &V) -> Result<Vec<Loaded>, EnvFault>
+    ensures { Lists result (loaded_in (V.vars env.now)) }
+{
+    let names = elements(alloc, env.get(NAMES))?;
+    let files = elements(alloc, env.get(FILES))?;
+    if !are_consistent(alloc, names.as_slice(), files.as_slice())? {
+        return Err(EnvFault::Inconsistent);
+    }
+    let conflicts = elements(alloc, env.get(CONFLICTS))?;
+    let prereqs = elements(alloc, env.get(PREREQS))?;
+    let conflicts = first_elements(alloc, conflicts.as_slice())?;
+    let prereqs = first_elements(alloc, prereqs.as_slice())?;
+    let entries = entries(
+        alloc,
+        names.as_slice(),
+        files.as_slice(),
+        &conflicts,
+        &prereqs,
+    )?;
+    Ok(entries)
+}
+
+/// The entry of a module.
+pub(crate) fn find<'a>(list: &'a [Loaded], name: &str) -> Option<&'a Loaded>
+    ensures { option_map (λ x. entry_of x.now) result ≡ entry_named name.now (map entry_of list.entry.now) }
+{
+    let mut rest = list;
+    while let [entry, after @ ..] = rest {
+        if entry.name.as_str() == name {
+            return Some(entry);
+        }
+        rest = after;
+    }
+    None
+}
+
+/// Groups of names, copied.
+pub(crate) fn copy_groups(
+    alloc: Global,
+    groups: &[Vec<String>],
+) -> Result<Vec<Vec<String>>, AllocError>
+    ensures { IfOk result (λ v. groups_in v ≡ map texts_in groups.now) }
+{
+    let mut copied = Vec::new(alloc);
+    for group in groups {
+        let names = slices(alloc, group.as_slice())?;
+        copied.push(copies(alloc, names.as_slice())?)?;
+    }
+    Ok(copied)
+}
+
+/// The names that a loaded module conflicts with, each once; none where it isn't loaded.
+///
+/// The answer is `Inconsistent` where that of `loaded` is.
+pub fn conflicts_of<V: Vars>(alloc: Global, env: &V, name: &str) -> Result<Vec<String>, EnvFault>
+    ensures { Answers texts_in result (conflicts_in (V.vars env.now) name.now) }
+{
+    let list = loaded(alloc, env)?;
+    let Some(entry) = find(list.as_slice(), name) else {
+        return Ok(Vec::new(alloc));
+    };
+    let names = slices(alloc, entry.conflicts.as_slice())?;
+    Ok(copies(alloc, names.as_slice())?)
+}
+
+/// The groups of names of which a loaded module needs one each; none where it isn't loaded.
+///
+/// The answer is `Inconsistent` where that of `loaded` is.
+pub fn prereqs_of<V: Vars>(alloc: Global, env: &V, name: &str) -> Result<Vec<Vec<String>>, EnvFault>
+    ensures { Answers groups_in result (prereqs_in (V.vars env.now) name.now) }
+{
+    let list = loaded(alloc, env)?;
+    let Some(entry) = find(list.as_slice(), name) else {
+        return Ok(Vec::new(alloc));
+    };
+    Ok(copy_groups(alloc, entry.prereqs.as_slice())?)
+}

@@ -1,0 +1,6 @@
+use Rattle.modulecmd.proofs.EntryLemmas.{last_kept}
+use Rattle.modulecmd.proofs.block.environment_of.Goals as goal
+
+pub loop-entry-preserved : goal.loop-entry-preserved
+loop-entry-preserved c =
+    last_kept c.loop-entry.entries.items c.pop.new.self.items c.in-Some.entry c.loop-entry.env c.keep.new.env _ c.in-Some.ensures.items c.in_ok-keep.ensures.ok c.loop-entry.invariant

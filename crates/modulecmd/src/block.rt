@@ -1,0 +1,76 @@
+//! The environment that a block of entries says.
+ghost use Rattle.std.specs.Prelude.{◌≡◌, map, length, Some, None, IfOk, IfErr, OnOk, OnErr, nat_lt, if◌then◌else◌};
+ghost use Rattle.std.specs.List.{position_or_len};
+ghost use Rattle.envstate.specs.Environment.{with_value};
+ghost use Rattle.environment.specs.declared.fault.EnvFault.TheVariants.{OutOfMemory};
+ghost use Rattle.modulecmd.specs.Given as given;
+ghost use Rattle.modulecmd.specs.Given.{with_entry, entries_of, is_equals, readable};
+
+use envstate::{Env, EnvFault};
+use std::alloc::{AllocError, Global};
+use std::str;
+
+/// The environment that a block of entries `NAME=VALUE` says, each ended by NUL (environ(7)). An entry without `=`, or
+/// without a name in UTF-8 before it, says nothing. Of several for one name the first counts, and its variable is unset
+/// where the value isn't UTF-8.
+///
+/// Refused as `OutOfMemory` alone.
+pub fn environment_of(alloc: Global, block: &[u8]) -> Result<Env, EnvFault>
+    ensures said { IfOk result (λ env. env ≡ given.environment_of block.now) }
+    ensures only { IfErr result (λ e. e ≡ OutOfMemory) }
+{
+    let mut entries = entries_of(alloc, block)?;
+    let mut env = Env::new(alloc);
+    while let Some(entry) = entries.pop() {
+        keep(&mut env, entry)?;
+    }
+    Ok(env)
+}
+
+/// The pieces between NULs.
+fn entries_of(alloc: Global, block: &[u8]) -> Result<Vec<&[u8]>, AllocError>
+    ensures { IfOk result (λ v. map (λ x. x.now) v.items ≡ entries_of block.now) }
+{
+    block.split(|b| *b == 0).collect(alloc)
+}
+
+/// The place of the first `=`.
+fn place_of_equals(entry: &[u8]) -> Option<usize>
+    ensures { result ≡ if nat_lt (position_or_len is_equals entry.now) (length entry.now) then Some (position_or_len is_equals entry.now) else None }
+{
+    entry.iter().position(|b| *b == b'=')
+}
+
+/// Sets the variable, or unsets it where the value isn't UTF-8.
+fn set_or_unset(env: &mut Env, name: &str, value: &[u8]) -> Result<(), EnvFault>
+    ensures ok { OnOk result (env.new ≡ with_value env.old name.now (readable value.now)) }
+    ensures err { OnErr result (env.new ≡ env.old) }
+    ensures only { IfErr result (λ e. e ≡ OutOfMemory) }
+{
+    match str::from_utf8(value) {
+        Ok(value) => env.set(name, value),
+        Err(_) => {
+            env.unset(name);
+            Ok(())
+        }
+    }
+}
+
+/// Sets or unsets the variable of an entry, if it gives one.
+#[tactic(auto, using(crate::proofs::EntryLemmas::no_equals, crate::proofs::EntryLemmas::no_text, crate::proofs::EntryLemmas::no_name))]
+fn keep(env: &mut Env, entry: &[u8]) -> Result<(), EnvFault>
+    ensures ok { OnOk result (env.new ≡ with_entry entry.now env.old) }
+    ensures err { OnErr result (env.new ≡ env.old) }
+    ensures only { IfErr result (λ e. e ≡ OutOfMemory) }
+{
+    let Some(end) = place_of_equals(entry) else {
+        return Ok(());
+    };
+    let Ok(name) = str::from_utf8(&entry[..end]) else {
+        return Ok(());
+    };
+    if name.is_empty() {
+        return Ok(());
+    }
+    set_or_unset(env, name, &entry[end + 1..])
+}

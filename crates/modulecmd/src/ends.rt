@@ -1,0 +1,26 @@
+//! How a command ends.
+ghost use Rattle.std.specs.Prelude.{◌≡◌};
+ghost use Rattle.modulecmd.specs.Output.{status_of};
+
+/// How a command ends.
+#[derive(Clone, Copy, Debug, PartialEq, Eq)]
+pub enum Exit {
+    /// It was accepted, and all is written.
+    Success,
+    /// It was refused, or a write failed, and the line that tells why is written.
+    Told,
+    /// The same, but a beginning of that line is written, not all: writing it failed.
+    CutShort,
+}
+
+impl Exit {
+    /// The status of the process: 0 for a success, and else 1.
+    pub fn status(self) -> u8
+        ensures { result ≡ status_of self }
+    {
+        match self {
+            Exit::Success => 0,
+            Exit::Told | Exit::CutShort => 1,
+        }
+    }
+}

@@ -1,0 +1,2 @@
+mod Effected
+mod Moved

@@ -1,0 +1,39 @@
+-- The laws of records and moves.
+use Rattle.std.specs.Prelude.{◌≡◌, true, List, ◌++◌, Ok}
+use Rattle.std.specs.List.{list_all}
+use Rattle.environment.specs.Texts.{Text}
+use Rattle.environment.specs.Environment.{Environment}
+use Rattle.modulerecords.specs.Records.{Record}
+use Rattle.modulerecords.specs.Judgments.{is_proper}
+use Rattle.modulerecords.specs.Effects.{Mode, effects}
+use Rattle.modulerecords.specs.Moves.{Move, moved, made, Lead, IsProper, AreProper}
+
+-- Records that all have their effects are proper, in every mode.
+abbrev pub EffectsAreProper : Type 0
+EffectsAreProper =
+    (mode : Mode) (owner : Text) (rs : List Record) (old new : Environment)
+    → effects mode owner rs old ≡ Ok new → list_all is_proper rs ≡ true
+
+-- The effects of two lists, one after the other, are those of the longer list.
+abbrev pub EffectsGoOn : Type 0
+EffectsGoOn =
+    (mode : Mode) (owner : Text) (rs more : List Record) (old mid new : Environment)
+    → effects mode owner rs old ≡ Ok mid → effects mode owner more mid ≡ Ok new
+    → effects mode owner (rs ++ more) old ≡ Ok new
+
+-- An accepted move is proper.
+abbrev pub MovedIsProper : Type 0
+MovedIsProper = (m : Move) (old new : Environment) → moved m old ≡ Ok new → IsProper m
+
+-- Moves that lead somewhere are proper, and make it.
+abbrev pub LeadIsProper : Type 0
+LeadIsProper = (ms : List Move) (old new : Environment) → Lead ms old new → AreProper ms
+
+abbrev pub LeadIsMade : Type 0
+LeadIsMade = (ms : List Move) (old new : Environment) → Lead ms old new → made ms old ≡ Ok new
+
+-- Moves lead on from where others led.
+abbrev pub LeadsGoOn : Type 0
+LeadsGoOn =
+    (ms more : List Move) (old mid new : Environment)
+    → Lead ms old mid → Lead more mid new → Lead (ms ++ more) old new

@@ -1,0 +1,77 @@
+-- Moves: a module is loaded with its records, or unloaded with its records (module(1)).
+use Rattle.std.specs.Prelude.{◌≡◌, true, false, ◌&&◌, List, [], ◌∷◌, bytes_eq, Some, Result, Ok}
+use Rattle.std.specs.List.{list_all, list_any}
+use Rattle.environment.specs.Texts.{Text, has}
+use Rattle.environment.specs.Environment.{Environment}
+use Rattle.environment.specs.Fields.{firsts}
+use Rattle.loadedlist.specs.Loaded.{Entry, names_of, loaded_in, added_loaded, dropped_loaded}
+use Rattle.modulerecords.specs.Records.{Record, conflict_names, prereq_groups}
+use Rattle.modulerecords.specs.Judgments.{RecordReason, is_proper}
+use Rattle.modulerecords.specs.Effects.{Mode, load, unload, effects, by_edit, and_then}
+
+-- a module with the records of its file
+pub record Module : Type 0 where
+  pub name : Text
+  pub path : Text
+  pub records : List Record
+
+-- what the loaded list says of it: a repeated conflict once
+abbrev pub entry_of : Module → Entry
+entry_of m =
+    record {
+      name = m.name;
+      path = m.path;
+      conflicts = firsts (conflict_names m.records);
+      prereqs = prereq_groups m.records;
+    }
+
+pub data Move : Type 0 where
+  Loads : Module → Move
+  Unloads : Module → Move
+
+abbrev pub module_of : Move → Module
+module_of (Loads m) = m
+module_of (Unloads m) = m
+
+abbrev pub mode_of : Move → Mode
+mode_of (Loads m) = load
+mode_of (Unloads m) = unload
+
+-- the entry joins the loaded list or leaves it
+abbrev pub listed : Move → Environment → Result Environment RecordReason
+listed (Loads m) e = by_edit (added_loaded e (entry_of m))
+listed (Unloads m) e = by_edit (dropped_loaded e m.name)
+
+-- what a move makes of an environment: the effects of the records, and then the entry
+abbrev pub moved : Move → Environment → Result Environment RecordReason
+moved m e = and_then (effects (mode_of m) (module_of m).name (module_of m).records e) (listed m)
+
+-- what moves make, the first of them first
+abbrev pub made : List Move → Environment → Result Environment RecordReason
+made [] e = Ok e
+made (m ∷ ms) e = and_then (moved m e) (made ms)
+
+-- the names of the modules that moves load, in order
+abbrev pub loaded_names : List Move → List Text
+loaded_names [] = []
+loaded_names (Loads m ∷ ms) = m.name ∷ loaded_names ms
+loaded_names (Unloads m ∷ ms) = loaded_names ms
+
+-- nothing forbids any record of the move
+abbrev pub IsProper : Move → Type 0
+IsProper m = list_all is_proper (module_of m).records ≡ true
+
+-- the same of several
+abbrev pub AreProper : List Move → Type 0
+AreProper [] = Unit {0}
+AreProper (m ∷ ms) = IsProper m × AreProper ms
+
+-- A module that is loaded isn't loaded already; one that is unloaded is, by this path.
+abbrev pub Fits : Move → Environment → Type 0
+Fits (Loads m) e = (xs : List Entry) × (loaded_in e ≡ Some xs) × (has m.name (names_of xs) ≡ false)
+Fits (Unloads m) e = (xs : List Entry) × (loaded_in e ≡ Some xs) × (list_any (λ x. bytes_eq m.name x.name && bytes_eq m.path x.path) xs ≡ true)
+
+-- The moves lead from one environment to the other, and each fits where it is made.
+abbrev pub Lead : List Move → Environment → Environment → Type 0
+Lead [] old new = new ≡ old
+Lead (m ∷ ms) old new = Fits m old × ((mid : Environment) × (moved m old ≡ Ok mid) × Lead ms mid new)

@@ -1,0 +1,52 @@
+-- What an accepted command of a modulefile leaves on record, one for each command of the table of modulefile(5), in every mode.
+use Rattle.std.specs.Prelude.{ℕ, List, [], ◌∷◌, ◌++◌, Option, Some, None}
+use Rattle.environment.specs.Texts.{Text}
+
+-- the delimiter of a path is a character
+pub data Record : Type 0 where
+  -- `setenv VAR value`
+  Set : (var : Text) (value : Text) → Record
+  -- `unsetenv VAR ?value?`
+  Unset : (var : Text) (value : Option Text) → Record
+  -- `pushenv VAR value`
+  Push : (var : Text) (value : Text) → Record
+  -- `prepend-path`, `append-path` and `remove-path VAR value...`: the values, cut at the delimiter
+  Front : (delim : ℕ) (var : Text) (elements : List Text) → Record
+  Back : (delim : ℕ) (var : Text) (elements : List Text) → Record
+  Remove : (delim : ℕ) (var : Text) (elements : List Text) → Record
+  -- `conflict NAME...`
+  Conflict : (names : List Text) → Record
+  -- `prereq NAME...`, any one of which will do
+  Prereq : (names : List Text) → Record
+  -- `module-whatis WORD...`, the words joined by spaces
+  Whatis : (text : Text) → Record
+
+-- the variable that a record names
+abbrev pub variable_of : Record → Option Text
+variable_of (Set var value) = Some var
+variable_of (Unset var value) = Some var
+variable_of (Push var value) = Some var
+variable_of (Front delim var xs) = Some var
+variable_of (Back delim var xs) = Some var
+variable_of (Remove delim var xs) = Some var
+variable_of (Conflict names) = None
+variable_of (Prereq names) = None
+variable_of (Whatis text) = None
+
+-- the names that the records are in conflict with, in the order of their mention
+abbrev pub conflict_names : List Record → List Text
+conflict_names [] = []
+conflict_names (Conflict names ∷ rs) = names ++ conflict_names rs
+conflict_names (r ∷ rs) = conflict_names rs
+
+-- the alternatives of each `prereq`
+abbrev pub prereq_groups : List Record → List (List Text)
+prereq_groups [] = []
+prereq_groups (Prereq names ∷ rs) = names ∷ prereq_groups rs
+prereq_groups (r ∷ rs) = prereq_groups rs
+
+-- the texts of each `module-whatis`
+abbrev pub whatis_texts : List Record → List Text
+whatis_texts [] = []
+whatis_texts (Whatis text ∷ rs) = text ∷ whatis_texts rs
+whatis_texts (r ∷ rs) = whatis_texts rs

@@ -1,0 +1,3 @@
+pub mod OneFound
+pub mod OneListing
+pub mod CandidateLemmas

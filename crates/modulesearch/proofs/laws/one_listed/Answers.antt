@@ -1,0 +1,5 @@
+use Rattle.modulesearch.proofs.OneListing.{one_listed}
+use Rattle.modulesearch.proofs.laws.one_listed.Goals as goal
+
+pub returns : goal.returns
+returns g c = λ files folders modulepath ls ks h k. one_listed g.D.DefaultFiles.leaves files folders modulepath ls ks h k

@@ -1,0 +1,34 @@
+//! What holds of the definitions that the contracts cite.
+ghost use Rattle.std.specs.Prelude.{◌≡◌, [], ◌∷◌, List, Result, codes, Some, None};
+ghost use Rattle.modulename.specs.ModuleName.{Text};
+ghost use Rattle.lookup.specs.Agreement.{Files, Folders};
+ghost use Rattle.modulesearch.specs.Reasons.{Reason};
+ghost use Rattle.modulesearch.specs.DefaultFiles.{last_default};
+ghost use Rattle.modulesearch.specs.Found.{Module, Found};
+ghost use Rattle.modulesearch.specs.Listed.{Listing, Listed};
+
+use crate::default_files::DefaultFiles;
+
+/// A name means one module at most, or there is one reason that it means none.
+pub fn one_found<D: DefaultFiles>()
+    ensures { (files : Files) (folders : Folders) (modulepath name : Text) (o p : Result Module Reason)
+        → Found D.leaves files folders modulepath name o → Found D.leaves files folders modulepath name p → o ≡ p }
+{}
+
+/// A MODULEPATH has one listing at most.
+pub fn one_listed<D: DefaultFiles>()
+    ensures { (files : Files) (folders : Folders) (modulepath : Text) (ls ks : List Listing)
+        → Listed D.leaves files folders modulepath ls → Listed D.leaves files folders modulepath ks → ls ≡ ks }
+{}
+
+/// What `module-version` commands make the default of a folder.
+pub fn rows_of_defaults()
+    ensures named { last_default (codes "d/e") ((codes "module-version" ∷ codes "d/e/1" ∷ codes "default" ∷ [])
+        ∷ (codes "module-version" ∷ codes "d/e/2" ∷ codes "old" ∷ []) ∷ []) ≡ Some (codes "1") }
+    ensures last { last_default (codes "ver") ((codes "module-version" ∷ codes "ver/1" ∷ codes "default" ∷ [])
+        ∷ (codes "module-version" ∷ codes "./2" ∷ codes "new" ∷ codes "default" ∷ []) ∷ []) ≡ Some (codes "2") }
+    ensures slash { last_default (codes "ver") ((codes "module-version" ∷ codes "/3" ∷ codes "default" ∷ [])
+        ∷ (codes "module-version" ∷ codes "other/2" ∷ codes "default" ∷ []) ∷ []) ≡ Some (codes "3") }
+    ensures other { last_default (codes "ver") ((codes "module-version" ∷ codes "other/2" ∷ codes "default" ∷ [])
+        ∷ []) ≡ None }
+{}

@@ -1,0 +1,3 @@
+pub mod Versions
+-- for this crate's own contracts alone
+pub mod Runs

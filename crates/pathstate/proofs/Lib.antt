@@ -1,0 +1,10 @@
+pub mod PathLemmas
+pub mod PairLemmas
+pub mod CounterLemmas
+pub mod WritingLemmas
+pub mod RoundTrip
+pub mod Readable
+pub mod Examples
+pub mod PathSteps
+pub mod PathEditLemmas
+pub mod PathOrderLemmas

@@ -1,0 +1,140 @@
+-- The text of the counters as it is written.
+use Rattle.std.proofs.Common.{◌≡◌, ℕ, ◌-◌, ◌≤◌, Bool, true, false, cond, not, ◌||◌, List, [], ◌∷◌, ◌++◌, refl, sym, ap, ◌∙◌, arith, leb, Option, Some, None, Result, Ok, Err, Bor, take, get_or, append_assoc, take_all, string_bytes}
+use Rattle.std.proofs.Common.{drop as cut}
+use Rattle.std.specs.Prelude.{filter, flat_map, bytes_eq, unwrap_or, decimal, encode_utf8, if◌then◌else◌}
+use Rattle.std.specs.Option.{option_map}
+use Rattle.std.specs.Result.{IfOk}
+use Rattle.std.specs.List.{list_any}
+use Rattle.std.specs.declared.string.String.{String}
+use Rattle.std.proofs.Math.ListN.{length}
+use Rattle.std.specs.Map as maps
+use Rattle.std.proofs.lemmas.Bool.{false≢true}
+use Rattle.std.proofs.lemmas.Bool.Decides.{nat_tests}
+use Rattle.std.proofs.lemmas.Str.{encode_ascii}
+use Rattle.indexmap.specs.IndexMap.{IndexMap, values}
+use Rattle.environment.specs.Texts.{Text, shown}
+use Rattle.environment.specs.Fields.{joined, text_of, without, firsts}
+use Rattle.environment.specs.Escapes.{escaped}
+use Rattle.pathstate.specs.PathTexts.{is_lone_empty, counter_fields, pairs_text}
+use Rattle.pathstate.specs.Tables.{Table, counter_in, count_in, stated, pair_fields}
+use Rattle.pathstate.proofs.PairLemmas.{or_left, or_right}
+
+-- a field behind others
+
+joined-push : (f : Text) (fs : List Text) (x : Text) → joined (f ∷ (fs ++ x ∷ [])) ≡ joined (f ∷ fs) ++ 58 ∷ x
+joined-push f [] x = refl
+joined-push f (g ∷ gs) x = ap (λ (l : Text). f ++ 58 ∷ l) (joined-push g gs x) ∙ sym (append_assoc f (58 ∷ joined (g ∷ gs)) (58 ∷ x))
+
+pub text-opened : (t text : Text) (fs : List Text) (x : Text) → Some text ≡ text_of fs → t ≡ text ++ encode_utf8 58 → Some (t ++ x) ≡ text_of (fs ++ x ∷ [])
+text-opened t text [] x e h = cc
+text-opened t text (f ∷ fs) x e h =
+    let same : text ≡ joined (f ∷ fs) = cc in
+    let one : t ≡ text ++ 58 ∷ [] = h ∙ ap (λ (l : Text). text ++ l) (encode_ascii 58 (omega arith)) in
+    ap (λ (l : Text). Some (l ++ x)) one ∙ ap Some (append_assoc text (58 ∷ []) x ∙ ap (λ (l : Text). l ++ 58 ∷ x) same ∙ sym (joined-push f fs x))
+
+two_fields : (f : Text) (fs : List Text) (x d : Text) → joined (f ∷ (fs ++ (x ++ 58 ∷ d) ∷ [])) ≡ joined (f ∷ (fs ++ x ∷ d ∷ []))
+two_fields f [] x d = refl
+two_fields f (g ∷ gs) x d = ap (λ (l : Text). f ++ 58 ∷ l) (two_fields g gs x d)
+
+two : (fs : List Text) (x d : Text) → text_of (fs ++ (x ++ 58 ∷ d) ∷ []) ≡ text_of (fs ++ x ∷ d ∷ [])
+two [] x d = refl
+two (f ∷ fs) x d = ap Some (two_fields f fs x d)
+
+-- the pair of an element behind others, where its counter is written
+pub text-counted : (t old element : Text) (fs : List Text) (count : ℕ) → 2 ≤ count → t ≡ old ++ (escaped element ++ 58 ∷ decimal count)
+    → ((x : Text) → Some (old ++ x) ≡ text_of (fs ++ x ∷ [])) → Some t ≡ text_of (fs ++ pair_fields (λ x. count) element)
+text-counted t old element fs count l e h =
+    let b : leb 2 count ≡ true = grind (arith, nat_tests) in
+    ap Some e ∙ h (escaped element ++ 58 ∷ decimal count) ∙ two fs (escaped element) (decimal count)
+    ∙ ap (λ (c : Bool). text_of (fs ++ cond c (escaped element ∷ decimal count ∷ []) [])) (sym b)
+
+-- one element after another
+
+-- an element that is written once has the counter 1 from then on
+left : (b : Bool) (o : Option ℕ) → b ≡ true → unwrap_or (cond b (Some 1) o) 0 ≡ 1
+left true o e = refl
+left false o e = absurd (false≢true e)
+
+other : (b : Bool) (o : Option ℕ) → b ≡ false → unwrap_or (cond b (Some 1) o) 0 ≡ unwrap_or o 0
+other true o e = absurd (false≢true (sym e))
+other false o e = refl
+
+pairs_at : (m n : Table) (x y : Text) (ys : List Text) (b : Bool) → bytes_eq y x ≡ b → ((z : Text) → n z ≡ cond (bytes_eq z x) (Some 1) (m z)) → flat_map (pair_fields (count_in n)) ys ≡ flat_map (pair_fields (count_in m)) (without x ys)
+    → pair_fields (count_in n) y ++ flat_map (pair_fields (count_in n)) ys ≡ flat_map (pair_fields (count_in m)) (cond (not b) (y ∷ without x ys) (without x ys))
+pairs_at m n x y ys true e f h =
+    let one : count_in n y ≡ 1 = ap (λ (o : Option ℕ). unwrap_or o 0) (f y) ∙ left (bytes_eq y x) (m y) e in
+    ap (λ (c : ℕ). cond (leb 2 c) (escaped y ∷ decimal c ∷ []) [] ++ flat_map (pair_fields (count_in n)) ys) one ∙ h
+pairs_at m n x y ys false e f h =
+    let same : count_in n y ≡ count_in m y = ap (λ (o : Option ℕ). unwrap_or o 0) (f y) ∙ other (bytes_eq y x) (m y) e in
+    ap (λ (c : ℕ). cond (leb 2 c) (escaped y ∷ decimal c ∷ []) [] ++ flat_map (pair_fields (count_in n)) ys) same ∙ ap (λ (l : List Text). pair_fields (count_in m) y ++ l) h
+
+pairs_left : (m n : Table) (x : Text) (ys : List Text) → ((z : Text) → n z ≡ cond (bytes_eq z x) (Some 1) (m z)) → flat_map (pair_fields (count_in n)) ys ≡ flat_map (pair_fields (count_in m)) (without x ys)
+pairs_left m n x [] f = refl
+pairs_left m n x (y ∷ ys) f = pairs_at m n x y ys (bytes_eq y x) refl f (pairs_left m n x ys f)
+
+counted_turn : (m n : Table) (fs : List Text) (rest : List (Bor Text)) (d : Bor Text) (all : List Text) (count : ℕ) → 1 ≤ length rest → ((z : Text) → n z ≡ cond (bytes_eq z (get_or rest 0 d).now) (Some 1) (m z))
+    → count ≡ count_in m (get_or rest 0 d).now → fs ++ flat_map (pair_fields (count_in m)) (firsts (shown rest)) ≡ all
+    → (fs ++ pair_fields (λ x. count) (get_or rest 0 d).now) ++ flat_map (pair_fields (count_in n)) (firsts (shown (take (length rest - 1) (cut 1 rest)))) ≡ all
+counted_turn m n fs [] d all count l f c h = absurd (omega arith)
+counted_turn m n fs (y ∷ ys) d all count l f c h =
+    let w : take (length (y ∷ ys) - 1) ys ≡ ys = take_all _ ys (omega arith) in
+    ap (λ (zs : List (Bor Text)). (fs ++ pair_fields (λ x. count) y.now) ++ flat_map (pair_fields (count_in n)) (firsts (shown zs))) w
+    ∙ ap (λ (l : List Text). (fs ++ pair_fields (λ x. count) y.now) ++ l) (pairs_left m n y.now (firsts (shown ys)) f)
+    ∙ append_assoc fs (pair_fields (λ x. count) y.now) (flat_map (pair_fields (count_in m)) (without y.now (firsts (shown ys))))
+    ∙ ap (λ (k : ℕ). fs ++ (cond (leb 2 k) (escaped y.now ∷ decimal k ∷ []) [] ++ flat_map (pair_fields (count_in m)) (without y.now (firsts (shown ys))))) c
+    ∙ h
+
+pub counts_turn : (m n : Table) (o p : Option Text) (rest : List (Bor Text)) (d : Bor Text) (all : List Text) (count : ℕ) → 1 ≤ length rest → ((z : Text) → n z ≡ cond (bytes_eq z (get_or rest 0 d).now) (Some 1) (m z))
+    → count ≡ count_in m (get_or rest 0 d).now → ((fs : List Text) → o ≡ text_of fs → p ≡ text_of (fs ++ pair_fields (λ x. count) (get_or rest 0 d).now))
+    → (fs : List Text) × (o ≡ text_of fs) × (fs ++ flat_map (pair_fields (count_in m)) (firsts (shown rest)) ≡ all)
+    → (fs : List Text) × (p ≡ text_of fs) × (fs ++ flat_map (pair_fields (count_in n)) (firsts (shown (take (length rest - 1) (cut 1 rest)))) ≡ all)
+counts_turn m n o p rest d all count l f c w h = (h.0 ++ pair_fields (λ x. count) (get_or rest 0 d).now, w h.0 h.1, counted_turn m n h.0 rest d all count l f c h.2)
+
+-- the fields that are written
+
+written_at : (b : Bool) (x d : Text) (rest more : List Text) → rest ≡ more → (if b then x ∷ d ∷ [] else []) ++ rest ≡ (if b then x ∷ d ∷ more else more)
+written_at true x d rest more e = ap (λ (l : List Text). x ∷ d ∷ l) e
+written_at false x d rest more e = e
+
+fields_cond : (xs : List Text) (table : Table) (b : Bool) (x : Text) (ws : List Text) → (if b then escaped x ∷ decimal (count_in table x) ∷ counter_fields (stated xs table) ws else counter_fields (stated xs table) ws) ≡ counter_fields (stated xs table) (cond b (x ∷ ws) ws)
+fields_cond xs table true x ws = refl
+fields_cond xs table false x ws = refl
+
+or_none : (b : Bool) → b ≡ (b || false)
+or_none true = refl
+or_none false = refl
+
+counts_written : (xs : List Text) (table : Table) (lone : Bool) (fs : List Text) → lone ≡ false → flat_map (pair_fields (count_in table)) fs ≡ counter_fields (stated xs table) (filter (λ x. leb 2 (count_in table x) || lone) fs)
+counts_written xs table lone [] e = refl
+counts_written xs table lone (f ∷ fs) e =
+    written_at (leb 2 (count_in table f)) (escaped f) (decimal (count_in table f)) _ _ (counts_written xs table lone fs e)
+    ∙ fields_cond xs table (leb 2 (count_in table f)) f (filter (λ x. leb 2 (count_in table x) || lone) fs)
+    ∙ ap (λ (b : Bool). counter_fields (stated xs table) (cond b (f ∷ filter (λ x. leb 2 (count_in table x) || lone) fs) (filter (λ x. leb 2 (count_in table x) || lone) fs))) (or_none (leb 2 (count_in table f)) ∙ ap (λ (b : Bool). leb 2 (count_in table f) || b) (sym e))
+
+pub pairs_written : {A E : Type 0} (r : Result (Option (String A)) E) (xs : List Text) (table : Table) (lone : Bool) → lone ≡ is_lone_empty xs → lone ≡ false
+    → IfOk r (λ t. option_map string_bytes t ≡ text_of (flat_map (pair_fields (count_in table)) (firsts xs))) → IfOk r (λ t. option_map string_bytes t ≡ pairs_text (stated xs table))
+pairs_written (Ok t) xs table lone l e h = h ∙ ap text_of (counts_written xs table (is_lone_empty xs) (firsts xs) (sym l ∙ e))
+pairs_written (Err x) xs table lone l e h = h
+
+-- where no counter is two or more, none is written
+
+none_at : (b : Bool) (x d : Text) (rest : List Text) → b ≡ false → rest ≡ [] → (if b then x ∷ d ∷ [] else []) ++ rest ≡ []
+none_at true x d rest e h = absurd (false≢true (sym e))
+none_at false x d rest e h = h
+
+no_pairs : (table : Table) (fs : List Text) → ((x : Text) → leb 2 (count_in table x) ≡ false) → flat_map (pair_fields (count_in table)) fs ≡ []
+no_pairs table [] h = refl
+no_pairs table (f ∷ fs) h = none_at (leb 2 (count_in table f)) (escaped f) (decimal (count_in table f)) _ (h f) (no_pairs table fs h)
+
+looked_at : (b : Bool) (v : ℕ) (o : Option ℕ) → leb 2 v ≡ false → leb 2 (unwrap_or o 0) ≡ false → leb 2 (unwrap_or (cond b (Some v) o) 0) ≡ false
+looked_at true v o e h = e
+looked_at false v o e h = h
+
+looked : {K : Type 0} (test : K → Bool) (es : List (K × ℕ)) → list_any (λ n. leb 2 n) (maps.values_of es) ≡ false → leb 2 (unwrap_or (maps.lookup test es) 0) ≡ false
+looked test [] h = refl
+looked test (e ∷ es) h = looked_at (test e.0) e.1 (maps.lookup test es) (or_left (leb 2 e.1) _ h) (looked test es (or_right (leb 2 e.1) _ h))
+
+pub none_repeated : {S : Type 0} (m : IndexMap (Bor Text) ℕ S) (xs : List Text) (lone b : Bool) → b ≡ list_any (λ n. leb 2 n) (values m) → b ≡ false → lone ≡ is_lone_empty xs → lone ≡ false → None ≡ pairs_text (stated xs (counter_in m))
+none_repeated m xs lone true e h l f = absurd (false≢true (sym h))
+none_repeated m xs lone false e h l f =
+    ap text_of (sym (no_pairs (counter_in m) (firsts xs) (λ x. looked (λ k. bytes_eq x k.now) m.entries (sym e))) ∙ counts_written xs (counter_in m) (is_lone_empty xs) (firsts xs) (sym l ∙ f))

@@ -1,0 +1,15 @@
+use Rattle.std.proofs.Common.{ap, ◌∙◌, ◌-◌, rules}
+use Rattle.std.specs.Prelude.{unwrap_or}
+use Rattle.pathstate.proofs.PathSteps.{counter_dropped, counter_lowered}
+use Rattle.pathstate.proofs.paths.drop_one.Goals as goal
+
+pub returns-then-count-le-LAST : goal.returns-then-count-le-LAST
+returns-then-count-le-LAST c =
+    counter_dropped c.args.counters.now c.swap_remove.new.self c.args.element.now c.unwrap_or-count.result
+    (c.unwrap_or-count.ensures ∙ ap (λ o. unwrap_or o 0) (c.copied.ensures ∙ c.get.ensures.value)) c.if-count-le-LAST.true c.swap_remove.ensures.updates
+
+pub returns-in-Some : goal.returns-in-Some
+returns-in-Some c =
+    counter_lowered c.args.counters.now (c.get_mut.follows.lender (c.unwrap_or-count.result - 1)) c.args.element.now c.unwrap_or-count.result
+    (c.unwrap_or-count.ensures ∙ ap (λ o. unwrap_or o 0) (c.copied.ensures ∙ c.get.ensures.value)) c.if-count-le-LAST.false
+    ((c.get_mut.follows.holds (c.unwrap_or-count.result - 1)).3 (search rules))

@@ -1,0 +1,19 @@
+-- Path variables in order: their texts are just what their state is written as.
+use Rattle.std.specs.Prelude.{◌≡◌, ℕ, false, bytes_eq}
+use Rattle.environment.specs.Texts.{Text}
+use Rattle.environment.specs.Names.{share_name}
+use Rattle.environment.specs.Environment.{Environment, lookup}
+use Rattle.pathstate.specs.Paths.{PathState}
+use Rattle.pathstate.specs.PathTexts.{elements_text, pairs_text}
+use Rattle.pathstate.specs.PathVariables.{path_in}
+
+-- the variable, parted by the delimiter, and its counters are as writing their state leaves them
+pub record IsPathInOrder (e : Environment) (name : Text) (delim : ℕ) : Type 0 where
+  pub elements : lookup e name ≡ elements_text delim (path_in e name delim).elements
+  pub counters : lookup e (share_name name) ≡ pairs_text (path_in e name delim)
+
+-- what an accepted edit leaves: the state in the variable, in order, and every other variable as it was
+pub record Leaves (old new : Environment) (name : Text) (delim : ℕ) (s : PathState) : Type 0 where
+  pub state : path_in new name delim ≡ s
+  pub order : IsPathInOrder new name delim
+  pub others : (q : Text) → bytes_eq q name ≡ false → bytes_eq q (share_name name) ≡ false → lookup new q ≡ lookup old q

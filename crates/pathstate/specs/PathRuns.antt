@@ -1,0 +1,58 @@
+-- Lists of adds and drops, and what stands after them.
+use Rattle.std.specs.Prelude.{◌≡◌, ℕ, ◌+◌, ◌-◌, ◌≤◌, ◌||◌, List, [], ◌∷◌, ◌++◌, filter, count_by, bytes_eq, nat_lt}
+use Rattle.environment.specs.Texts.{Text, has}
+use Rattle.pathstate.specs.Paths.{PathState, add_all, drop_all}
+use Rattle.pathstate.specs.declared.paths.End.{End}
+
+-- a command adds or drops elements
+pub data Edit : Type 0 where
+  Add : (xs : List Text) (end : End) → Edit
+  Drop : (xs : List Text) → Edit
+
+-- the state after the edits, the first of them first
+abbrev pub after : List Edit → PathState → PathState
+after [] s = s
+after (Add xs end ∷ edits) s = after edits (add_all s xs end)
+after (Drop xs ∷ edits) s = after edits (drop_all s xs)
+
+-- how often the edits add x, and how often they drop it
+abbrev pub adds : List Edit → Text → ℕ
+adds [] x = 0
+adds (Add xs end ∷ edits) x = count_by (bytes_eq x) xs + adds edits x
+adds (Drop xs ∷ edits) x = adds edits x
+
+-- how often they drop it
+abbrev pub drops : List Edit → Text → ℕ
+drops [] x = 0
+drops (Add xs end ∷ edits) x = drops edits x
+drops (Drop xs ∷ edits) x = count_by (bytes_eq x) xs + drops edits x
+
+-- how many adds of x no drop has undone
+abbrev pub live : List Edit → Text → ℕ
+live edits x = adds edits x - drops edits x
+
+-- Each drop undoes one earlier add that was not undone before: however many of the edits are done,
+-- no element was dropped more often than it was added.
+abbrev pub EachDropUndoes : List Edit → Type 0
+EachDropUndoes edits = (done rest : List Edit) → done ++ rest ≡ edits → (x : Text) → drops done x ≤ adds done x
+
+-- what stands over a start, where each element has so many live adds
+pub record Stands (start : PathState) (live : Text → ℕ) (now : PathState) : Type 0 where
+  pub order : filter (λ x. has x start.elements) now.elements ≡ start.elements
+  pub inside : (x : Text) → has x now.elements ≡ (has x start.elements || nat_lt 0 (live x))
+  pub counters : (x : Text) → now.counter x ≡ start.counter x + live x
+
+-- nothing is live
+abbrev pub none : Text → ℕ
+none x = 0
+
+-- these live as well, and these no longer
+abbrev pub more : (Text → ℕ) → List Text → Text → ℕ
+more live xs x = live x + count_by (bytes_eq x) xs
+
+abbrev pub fewer : (Text → ℕ) → List Text → Text → ℕ
+fewer live xs x = live x - count_by (bytes_eq x) xs
+
+-- each of these is live, as often as it stands there
+abbrev pub AreLive : (Text → ℕ) → List Text → Type 0
+AreLive live xs = (x : Text) → count_by (bytes_eq x) xs ≤ live x

@@ -1,0 +1,84 @@
+-- The two texts of a path variable: what state they say, and which texts a state is written as.
+use Rattle.std.specs.Prelude.{◌≡◌, ℕ, Bool, false, ◌&&◌, ◌||◌, List, [], ◌∷◌, length, filter, flat_map, bytes_eq, nat_le, ◌==◌, if◌then◌else◌, Option, Some, None, is_some, unwrap_or, decimal}
+use Rattle.std.specs.List.{slice_split, join_with_byte, list_any, AllByRecursion}
+use Rattle.std.specs.Option.{option_or}
+use Rattle.environment.specs.Texts.{Text, has}
+use Rattle.environment.specs.Fields.{text_of, firsts}
+use Rattle.environment.specs.Escapes.{escaped, unescaped_fields}
+use Rattle.pathstate.specs.Paths.{PathState, IsPathState, CountersFit}
+use Rattle.pathstate.specs.Counters.{counter_of}
+
+-- what parts the elements: a character from the space to the tilde
+abbrev pub is_delimiter : ℕ → Bool
+is_delimiter c = nat_le 32 c && nat_le c 126
+
+-- the parts of a text between its delimiters
+abbrev pub parted : ℕ → Text → List Text
+parted delim t = slice_split (λ b. b == delim) t
+
+-- fields in twos; a last field alone is left out
+abbrev pub paired : List Text → List (Text × Text)
+paired [] = []
+paired (x ∷ []) = []
+paired (x ∷ n ∷ rest) = (x, n) ∷ paired rest
+
+-- the counter of the first pair of x that has one
+abbrev pub counted : Text → List (Text × Text) → Option ℕ
+counted x [] = None
+counted x (p ∷ ps) = option_or (if bytes_eq x p.0 then counter_of p.1 else None) (counted x ps)
+
+-- the pairs that a text of counters says, none where it is unset
+abbrev pub pairs_of : Option Text → List (Text × Text)
+pairs_of None = []
+pairs_of (Some u) = paired (unescaped_fields u)
+
+-- an empty text is one empty element where that is counted, else no element
+abbrev pub elements_of : ℕ → Option Text → List (Text × Text) → List Text
+elements_of delim None pairs = []
+elements_of delim (Some []) pairs = if is_some (counted [] pairs) then [] ∷ [] else []
+elements_of delim (Some (b ∷ bs)) pairs = parted delim (b ∷ bs)
+
+-- the elements with the counters that are noted for them, and 1 where none is
+abbrev pub state_from : List Text → List (Text × Text) → PathState
+state_from xs pairs = record { elements = xs; counter = λ x. if has x xs then unwrap_or (counted x pairs) 1 else 0 }
+
+-- the state that the variable's text says beside these pairs
+abbrev pub state_beside : ℕ → Option Text → List (Text × Text) → PathState
+state_beside delim t pairs = state_from (elements_of delim t pairs) pairs
+
+-- the state that the two texts say
+abbrev pub state_of : ℕ → Option Text → Option Text → PathState
+state_of delim t u = state_beside delim t (pairs_of u)
+
+-- the elements with the delimiter between them; no element unsets the variable
+abbrev pub elements_text : ℕ → List Text → Option Text
+elements_text delim [] = None
+elements_text delim (x ∷ xs) = Some (join_with_byte delim (x ∷ xs))
+
+-- one empty element alone
+abbrev pub is_lone_empty : List Text → Bool
+is_lone_empty [] = false
+is_lone_empty (x ∷ []) = length x == 0
+is_lone_empty (x ∷ y ∷ ys) = false
+
+-- the elements whose counters are written: those that are counted twice or more, and an empty one alone
+abbrev pub written : PathState → List Text
+written s = filter (λ x. nat_le 2 (s.counter x) || is_lone_empty s.elements) (firsts s.elements)
+
+-- each element, with escapes, and its counter, as fields
+abbrev pub counter_fields : PathState → List Text → List Text
+counter_fields s xs = flat_map (λ x. escaped x ∷ decimal (s.counter x) ∷ []) xs
+
+-- the text of the counters, none where no counter is written
+abbrev pub pairs_text : PathState → Option Text
+pairs_text s = text_of (counter_fields s (written s))
+
+-- a text without the delimiter
+abbrev pub IsUnparted : ℕ → Text → Type 0
+IsUnparted delim x = list_any (λ b. b == delim) x ≡ false
+
+-- what the two texts can say
+pub record IsWritable (delim : ℕ) (s : PathState) : Type 0 where
+  pub valid : IsPathState s
+  pub fit : CountersFit s
+  pub unparted : AllByRecursion (IsUnparted delim) s.elements

@@ -1,0 +1,58 @@
+-- Tables of counters, and the path states that they stand for beside a list of elements.
+use Rattle.std.specs.Prelude.{◌≡◌, ℕ, ◌+◌, ◌-◌, List, [], ◌∷◌, ◌++◌, filter, bytes_eq, nat_le, if◌then◌else◌, Option, Some, None, is_some, unwrap_or, decimal}
+use Rattle.std.specs.Borrow.{Bor}
+use Rattle.indexmap.specs.IndexMap.{IndexMap, get_by}
+use Rattle.environment.specs.Texts.{Text, has}
+use Rattle.environment.specs.Escapes.{escaped}
+use Rattle.std.specs.Option.{option_map}
+use Rattle.pathstate.specs.Paths.{PathState}
+use Rattle.pathstate.specs.PathTexts.{counted}
+
+-- a counter for some elements
+abbrev pub Table : Type 0
+Table = Text → Option ℕ
+
+-- the counters that a map of the code has
+abbrev pub counter_in : {S : Type 0} → IndexMap (Bor Text) ℕ S → Table
+counter_in m x = get_by (λ k. bytes_eq x k.now) m
+
+-- 0 where there is none
+abbrev pub count_in : Table → Text → ℕ
+count_in table x = unwrap_or (table x) 0
+
+-- the counter 1 for each of the elements
+abbrev pub one_each : List Text → Table
+one_each xs x = if has x xs then Some 1 else None
+
+-- the counters, with those of the pairs noted over them, of which the first counts
+abbrev pub noted_over : List (Text × Text) → Table → Table
+noted_over pairs table x = option_map (λ k. unwrap_or (counted x pairs) k) (table x)
+
+-- a list of elements, with the counters of a table
+abbrev pub stated : List Text → Table → PathState
+stated xs table = record { elements = xs; counter = λ x. count_in table x }
+
+-- the table has a counter for each element of the list and for nothing else
+abbrev pub IsTable : List Text → Table → Type 0
+IsTable xs table = (x : Text) → is_some (table x) ≡ has x xs
+
+-- one more of x
+abbrev pub raised : Table → Text → Table
+raised table x y = if bytes_eq y x then Some (count_in table x + 1) else table y
+
+-- one fewer of x, and at 0 none
+abbrev pub lowered : Table → Text → Table
+lowered table x y =
+    if bytes_eq y x then (if nat_le (count_in table x) 1 then None else Some (count_in table x - 1)) else table y
+
+-- the element behind the list, unless the table has it
+abbrev pub with_other : List Text → Table → Text → List Text
+with_other xs table x = if is_some (table x) then xs else xs ++ x ∷ []
+
+-- the elements that the table has
+abbrev pub kept : List Text → Table → List Text
+kept xs table = filter (λ x. is_some (table x)) xs
+
+-- the pair of one element, where its counter is two or more
+abbrev pub pair_fields : (Text → ℕ) → Text → List Text
+pair_fields count x = if nat_le 2 (count x) then escaped x ∷ decimal (count x) ∷ [] else []

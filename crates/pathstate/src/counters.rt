@@ -1,0 +1,31 @@
+//! Counters of elements.
+ghost use Rattle.std.specs.Prelude.{◌≡◌, ◌&&◌, nat_le, slice_index};
+ghost use Rattle.pathstate.specs.Counters.{counter_of};
+
+use indexmap::IndexMap;
+
+/// A counter for each of some elements.
+pub(crate) type Counters<'a> = IndexMap<&'a str, u32>;
+
+/// Whether the text begins with a digit other than 0.
+fn begins_as_counter(text: &str) -> bool
+    ensures { result ≡ (nat_le 49 (slice_index text.now 0) && nat_le (slice_index text.now 0) 57) }
+{
+    match text.as_bytes() {
+        [first, ..] => b'1' <= *first && *first <= b'9',
+        [] => false,
+    }
+}
+
+/// The counter that a text spells.
+pub(crate) fn counter_of(text: &str) -> Option<u32>
+    ensures { result ≡ counter_of text.now }
+{
+    if !begins_as_counter(text) {
+        return None;
+    }
+    match text.parse() {
+        Ok(count) => Some(count),
+        Err(_) => None,
+    }
+}

@@ -1,0 +1,292 @@
+//! Reading and writing a path variable: its elements, and in another variable their counters.
+ghost use Rattle.std.specs.Prelude.{◌≡◌, ◌≤◌, ◌<◌, ◌==◌, ℕ, List, Option, IfOk, OnOk, None, Some, [], ◌∷◌, ◌++◌, decimal, flat_map, string_bytes, bytes_eq, nat_le, is_some, if◌then◌else◌};
+ghost use Rattle.std.specs.List.{slice_split, join_with_byte, list_any};
+ghost use Rattle.std.specs.Option.{option_or, option_map};
+ghost use Rattle.indexmap.specs.IndexMap.{values};
+ghost use Rattle.environment.specs.Texts.{Text, has, shown};
+ghost use Rattle.environment.specs.Fields.{text_of, firsts};
+ghost use Rattle.environment.specs.Escapes.{escaped};
+ghost use Rattle.pathstate.specs.Paths.{most};
+ghost use Rattle.pathstate.specs.Counters.{counter_of};
+ghost use Rattle.pathstate.specs.Tables.{counter_in, count_in, noted_over, one_each, stated, IsTable, pair_fields};
+ghost use Rattle.pathstate.specs.PathEdits.{AreTexts};
+ghost use Rattle.pathstate.specs.PathTexts.{counted, paired, elements_text, pairs_text, is_lone_empty, elements_of, state_beside, state_of};
+
+use crate::counters::{Counters, counter_of};
+use environment::escapes::{push_escaped, unescaped_fields};
+use environment::fields::{join, parts, slices};
+use indexmap::IndexMap;
+use itoa::Buffer;
+use std::alloc::{AllocError, Global};
+
+/// Gives an element the counter that a text spells, where the element has a counter and the text spells one.
+fn note(counters: &mut Counters<'_>, element: &str, number: &str)
+    ensures { (x : Text) → counter_in counters.new x
+        ≡ noted_over ((element.now, number.now) ∷ []) (counter_in counters.old) x }
+{
+    let Some(count) = counter_of(number) else {
+        return;
+    };
+    if let Some(slot) = counters.get_mut(element) {
+        *slot = count;
+    }
+}
+
+/// Notes the counters of the pairs that the fields make, from the last to the first: so the first of an element counts.
+fn note_each(counters: &mut Counters<'_>, fields: &[&str])
+    ensures { (x : Text) → counter_in counters.new x
+        ≡ noted_over (paired (shown fields.now)) (counter_in counters.old) x }
+{
+    let mut rest = &fields[..fields.len() - fields.len() % 2];
+    while let [before @ .., element, number] = rest {
+        note(counters, element, number);
+        rest = before;
+    }
+}
+
+/// Whether the fields have a counter of the empty element.
+fn counts_empty(fields: &[&str]) -> bool
+    ensures { result ≡ is_some (counted [] (paired (shown fields.now))) }
+{
+    let mut rest = fields;
+    while let [element, number, after @ ..] = rest {
+        if element.is_empty() && counter_of(number).is_some() {
+            return true;
+        }
+        rest = after;
+    }
+    false
+}
+
+/// The elements that a text says beside the fields of the counters.
+fn elements_of<'a>(
+    alloc: Global,
+    delim: char,
+    text: Option<&'a str>,
+    fields: &[&str],
+) -> Result<Vec<&'a str>, AllocError>
+    requires { delim < 128 }
+    ensures { IfOk result (λ v. shown v.items
+        ≡ elements_of delim (option_map (λ t. t.now) text.entry) (paired (shown fields.now))) }
+{
+    let Some(text) = text else {
+        return Ok(Vec::new(alloc));
+    };
+    if !text.is_empty() {
+        return parts(alloc, text, delim);
+    }
+    let mut elements = Vec::new(alloc);
+    if counts_empty(fields) {
+        elements.push(text)?;
+    }
+    Ok(elements)
+}
+
+/// The counter 1 for each of the elements.
+fn ones<'a>(alloc: Global, elements: &[&'a str]) -> Result<Counters<'a>, AllocError>
+    ensures { IfOk result (λ m. (x : Text) → counter_in m x ≡ one_each (shown elements.now) x) }
+{
+    let mut counters = IndexMap::with_capacity(alloc, elements.len())?;
+    let mut rest = elements;
+    while let [element, after @ ..] = rest {
+        counters.insert(*element, 1)?;
+        rest = after;
+    }
+    Ok(counters)
+}
+
+/// A path variable as it was read: its elements, and a counter for each of them and for nothing else.
+#[derive(Drop)]
+pub(crate) struct Path<'a> {
+    pub elements: Vec<&'a str>,
+    pub counters: Counters<'a>,
+}
+
+/// Reads a path variable beside the fields of its counters.
+fn path_of<'a>(
+    alloc: Global,
+    delim: char,
+    text: Option<&'a str>,
+    fields: &[&str],
+) -> Result<Path<'a>, AllocError>
+    requires { delim < 128 }
+    ensures state { IfOk result (λ p. stated (shown p.elements.items) (counter_in p.counters)
+        ≡ state_beside delim (option_map (λ t. t.now) text.entry) (paired (shown fields.now))) }
+    ensures fits { IfOk result (λ p. (x : Text) → count_in (counter_in p.counters) x ≤ most) }
+    ensures table { IfOk result (λ p. IsTable (shown p.elements.items) (counter_in p.counters)) }
+{
+    let elements = elements_of(alloc, delim, text, fields)?;
+    let mut counters = ones(alloc, elements.as_slice())?;
+    note_each(&mut counters, fields);
+    Ok(Path { elements, counters })
+}
+
+/// Reads a path variable and its counters.
+pub(crate) fn read_path<'a>(
+    alloc: Global,
+    delim: char,
+    text: Option<&'a str>,
+    counts: Option<&str>,
+) -> Result<Path<'a>, AllocError>
+    requires { delim < 128 }
+    ensures state { IfOk result (λ p. stated (shown p.elements.items) (counter_in p.counters)
+        ≡ state_of delim (option_map (λ t. t.now) text.entry) (option_map (λ t. t.now) counts.entry)) }
+    ensures fits { IfOk result (λ p. (x : Text) → count_in (counter_in p.counters) x ≤ most) }
+    ensures table { IfOk result (λ p. IsTable (shown p.elements.items) (counter_in p.counters)) }
+{
+    let Some(counts) = counts else {
+        return path_of(alloc, delim, text, &[]);
+    };
+    if !counts.contains('\\') {
+        return path_of(alloc, delim, text, parts(alloc, counts, ':')?.as_slice());
+    }
+    let fields = unescaped_fields(alloc, counts)?;
+    let fields = slices(alloc, fields.as_slice())?;
+    path_of(alloc, delim, text, fields.as_slice())
+}
+
+/// The text that a further field can be put behind.
+fn opened(alloc: Global, text: Option<String>) -> Result<String, AllocError>
+    ensures { IfOk result (λ t. (fs : List Text) (x : Text) → option_map string_bytes text ≡ text_of fs
+        → Some (string_bytes t ++ x) ≡ text_of (fs ++ x ∷ [])) }
+{
+    let Some(mut text) = text else {
+        return Ok(String::new(alloc));
+    };
+    text.push(':')?;
+    Ok(text)
+}
+
+/// Puts an element, with escapes, and its counter at the end of a text.
+fn push_pair(text: &mut String, element: &str, count: u32) -> Result<(), AllocError>
+    ensures { OnOk result (string_bytes text.new ≡ string_bytes text.old ++
+        (escaped element.now ++ 58 ∷ decimal count)) }
+{
+    push_escaped(text, element)?;
+    text.push(':')?;
+    text.push_str(Buffer::new().format(count))
+}
+
+/// The text with the pair of an element at its end, where its counter is two or more.
+fn with_count(
+    alloc: Global,
+    text: Option<String>,
+    element: &str,
+    count: u32,
+) -> Result<Option<String>, AllocError>
+    ensures { IfOk result (λ t. (fs : List Text) → option_map string_bytes text ≡ text_of fs
+        → option_map string_bytes t ≡ text_of (fs ++ pair_fields (λ x. count) element.now)) }
+{
+    if count < 2 {
+        return Ok(text);
+    }
+    let mut text = opened(alloc, text)?;
+    push_pair(&mut text, element, count)?;
+    Ok(Some(text))
+}
+
+/// The text of the counters of two or more. An element that stands twice is written at its first place.
+fn counts_text<'a>(
+    alloc: Global,
+    elements: &[&'a str],
+    mut counters: Counters<'a>,
+) -> Result<Option<String>, AllocError>
+    ensures { IfOk result (λ t. option_map string_bytes t
+        ≡ text_of (flat_map (pair_fields (count_in (counter_in counters.entry))) (firsts (shown elements.now)))) }
+{
+    let mut text = None;
+    let mut rest = elements;
+    while let [element, after @ ..] = rest {
+        let count = counters.insert(*element, 1)?.unwrap_or(0);
+        text = with_count(alloc, text, element, count)?;
+        rest = after;
+    }
+    Ok(text)
+}
+
+/// The text of the counter of an empty element alone.
+fn lone_text(alloc: Global, counters: &Counters<'_>) -> Result<Option<String>, AllocError>
+    ensures { IfOk result (λ t. option_map string_bytes t
+        ≡ text_of ([] ∷ decimal (count_in (counter_in counters.now) []) ∷ [])) }
+{
+    let count = counters.get("").copied().unwrap_or(0);
+    let mut text = String::new(alloc);
+    push_pair(&mut text, "", count)?;
+    Ok(Some(text))
+}
+
+/// Whether there is one element alone, and it is empty.
+fn is_lone_empty(elements: &[&str]) -> bool
+    ensures { result ≡ is_lone_empty (shown elements.now) }
+{
+    match elements {
+        [only] => only.is_empty(),
+        _ => false,
+    }
+}
+
+/// Whether a counter is two or more.
+fn are_repeated(counters: &Counters<'_>) -> bool
+    ensures { result ≡ list_any (λ count. nat_le 2 count) (values counters.now) }
+{
+    counters.values().any(|count| *count >= 2)
+}
+
+/// The text of the counters that are written.
+fn write_counters<'a>(
+    alloc: Global,
+    elements: &[&'a str],
+    counters: Counters<'a>,
+) -> Result<Option<String>, AllocError>
+    ensures { IfOk result (λ t. option_map string_bytes t
+        ≡ pairs_text (stated (shown elements.now) (counter_in counters.entry))) }
+{
+    if is_lone_empty(elements) {
+        return lone_text(alloc, &counters);
+    }
+    if !are_repeated(&counters) {
+        return Ok(None);
+    }
+    counts_text(alloc, elements, counters)
+}
+
+/// The texts of a path variable and of its counters, or none where the variable is unset.
+#[derive(Drop)]
+pub(crate) struct PathTexts {
+    pub elements: Option<String>,
+    pub counters: Option<String>,
+}
+
+/// The elements with the delimiter between them; none unsets the variable.
+fn elements_text(
+    alloc: Global,
+    delim: char,
+    elements: &[&str],
+) -> Result<Option<String>, AllocError>
+    requires { delim < 128 }
+    ensures { IfOk result (λ t. option_map string_bytes t ≡ elements_text delim (shown elements.now)) }
+{
+    if elements.is_empty() {
+        return Ok(None);
+    }
+    Ok(Some(join(alloc, elements, delim)?))
+}
+
+/// The texts that a path variable and its counters are written as.
+pub(crate) fn write_path(
+    alloc: Global,
+    delim: char,
+    path: Path<'_>,
+) -> Result<PathTexts, AllocError>
+    requires { delim < 128 }
+    ensures { IfOk result (λ t. AreTexts t delim (stated (shown path.entry.elements.items)
+        (counter_in path.entry.counters))) }
+{
+    let Path { elements, counters } = path;
+    let text = elements_text(alloc, delim, elements.as_slice())?;
+    let counts = write_counters(alloc, elements.as_slice(), counters)?;
+    Ok(PathTexts {
+        elements: text,
+        counters: counts,
+    })
+}

@@ -1,0 +1,9 @@
+mod Frames
+mod Uses
+mod Loads
+mod OneVariable
+mod OneStack
+mod LiveModules
+mod Steps
+mod WholeRuns
+mod Losses

@@ -1,0 +1,49 @@
+-- The laws of runs.
+use Rattle.std.specs.Prelude.{◌≡◌, List, [], ◌∷◌, ◌++◌, Some, Ok}
+use Rattle.environment.specs.Texts.{Text}
+use Rattle.environment.specs.Environment.{Environment}
+use Rattle.loadedlist.specs.Loaded.{Entry, loaded_in, kept_once}
+use Rattle.envlaws.specs.Frames.{OnlyAmong, loaded_names}
+use Rattle.modulerecords.specs.Effects.{load, effects}
+use Rattle.modulerecords.specs.Moves.{Module, Move, Loads, entry_of, moved, Lead}
+use Rattle.reversal.specs.Ways.{Way}
+use Rattle.reversal.specs.Standing.{IsInOrder, IsStart, Stands}
+use Rattle.reversal.specs.Runs.{live_after, AreFit, AreReversible}
+
+-- in order, standing over the start, and the start itself where no module is live
+pub record Holds (ways : Text → Way) (start : Environment) (live : List Module) (e : Environment) : Type 0 where
+  pub order : IsInOrder ways e
+  pub stands : Stands ways start live e
+  pub returned : live ≡ [] → e ≡ start
+
+-- Accepted loads and unloads of new modules that are reversible and apart lead from a start to an environment that is in
+-- order and stands over it, and back to it where no module is live.
+abbrev pub RunsReturn : Type 0
+RunsReturn =
+    (ways : Text → Way) (start e : Environment) (ms : List Move) → IsStart ways start
+    → AreReversible ways [] ms → Lead ms start e → Holds ways start (live_after [] ms) e
+
+-- So is every environment on the way.
+abbrev pub EachOnTheWay : Type 0
+EachOnTheWay =
+    (ways : Text → Way) (start e : Environment) (done rest : List Move) → IsStart ways start
+    → AreReversible ways [] (done ++ rest) → Lead (done ++ rest) start e
+    → (mid : Environment) × Lead done start mid × Lead rest mid e × Holds ways start (live_after [] done) mid
+
+-- The same from any environment that is in order and stands over a start, whatever led there.
+abbrev pub StepsKeep : Type 0
+StepsKeep =
+    (ways : Text → Way) (start old new : Environment) (live : List Module) (ms : List Move) → IsStart ways start
+    → IsInOrder ways old → Stands ways start live old → AreFit ways live
+    → AreReversible ways live ms → Lead ms old new
+    → Holds ways start (live_after live ms) new × AreFit ways (live_after live ms)
+
+-- what an accepted load makes: the effects of the records, and then the new entry at the end of the list
+pub record IsLoad (m : Module) (old new : Environment) : Type 0 where
+  pub after : Environment
+  pub effects : effects load m.name m.records old ≡ Ok after
+  pub entry : (xs : List Entry) → loaded_in after ≡ Some xs → loaded_in new ≡ Some (xs ++ kept_once (entry_of m) ∷ [])
+  pub only : OnlyAmong after new loaded_names
+
+abbrev pub LoadsMake : Type 0
+LoadsMake = (m : Module) (old new : Environment) → moved (Loads m) old ≡ Ok new → IsLoad m old new

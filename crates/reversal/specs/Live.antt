@@ -1,0 +1,64 @@
+-- What the live modules ask of one variable, and the loaded list with them. Live modules stand newest first.
+use Rattle.std.specs.Prelude.{ℕ, ◌+◌, List, [], ◌∷◌, ◌++◌, bytes_eq, count_by, if◌then◌else◌, Option, Some, None}
+use Rattle.std.specs.Option.{option_or}
+use Rattle.environment.specs.Texts.{Text}
+use Rattle.loadedlist.specs.Loaded.{Entry, kept_once}
+use Rattle.modulerecords.specs.Records.{Record, Set, Unset, Push, Front, Back}
+use Rattle.modulerecords.specs.Moves.{Module, entry_of}
+
+-- What a record sets the variable to, a value or unset; none where it does neither.
+abbrev pub set_by : Text → Record → Option (Option Text)
+set_by v (Set var value) = if bytes_eq v var then Some (Some value) else None
+set_by v (Unset var value) = if bytes_eq v var then Some None else None
+set_by v r = None
+
+-- by the last of the records that does
+abbrev pub last_set : Text → List Record → Option (Option Text)
+last_set v [] = None
+last_set v (r ∷ rs) = option_or (last_set v rs) (set_by v r)
+
+-- by the newest of the modules that does
+abbrev pub live_set : Text → List Module → Option (Option Text)
+live_set v [] = None
+live_set v (m ∷ live) = option_or (last_set v m.records) (live_set v live)
+
+-- how often a record adds the element to the variable
+abbrev pub adds_by : Text → Text → Record → ℕ
+adds_by v x (Front delim var xs) = if bytes_eq v var then count_by (bytes_eq x) xs else 0
+adds_by v x (Back delim var xs) = if bytes_eq v var then count_by (bytes_eq x) xs else 0
+adds_by v x r = 0
+
+-- how often the records do
+abbrev pub adds : Text → Text → List Record → ℕ
+adds v x [] = 0
+adds v x (r ∷ rs) = adds_by v x r + adds v x rs
+
+-- how often the modules do
+abbrev pub live_adds : Text → List Module → Text → ℕ
+live_adds v [] x = 0
+live_adds v (m ∷ live) x = adds v x m.records + live_adds v live x
+
+-- the value that a record pushes on the variable's stack
+abbrev pub push_by : Text → Record → Option Text
+push_by v (Push var value) = if bytes_eq v var then Some value else None
+push_by v r = None
+
+-- the last value that the records push
+abbrev pub last_push : Text → List Record → Option Text
+last_push v [] = None
+last_push v (r ∷ rs) = option_or (last_push v rs) (push_by v r)
+
+-- the pushes, and one by this owner if it has a value
+abbrev pub with_push : Text → Option Text → List (Text × Text) → List (Text × Text)
+with_push owner None pushes = pushes
+with_push owner (Some value) pushes = (owner, value) ∷ pushes
+
+-- one push for each of the modules that pushes, of its last value
+abbrev pub live_pushes : Text → List Module → List (Text × Text)
+live_pushes v [] = []
+live_pushes v (m ∷ live) = with_push m.name (last_push v m.records) (live_pushes v live)
+
+-- the entries, and behind them those of the live modules, the newest last; a repeated conflict stands once
+abbrev pub entries_over : List Entry → List Module → List Entry
+entries_over entries [] = entries
+entries_over entries (m ∷ live) = entries_over entries live ++ kept_once (entry_of m) ∷ []

@@ -1,0 +1,40 @@
+-- Runs of loads and unloads of modules that are reversible and apart.
+use Rattle.std.specs.Prelude.{◌≡◌, true, List, [], ◌∷◌, bytes_eq, if◌then◌else◌, Option, Some, None, is_some}
+use Rattle.environment.specs.Texts.{Text}
+use Rattle.modulerecords.specs.Moves.{Module, Move, Loads, Unloads}
+use Rattle.reversal.specs.Ways.{Way, AllSuit}
+use Rattle.reversal.specs.Live.{last_set, live_set}
+
+-- the live module of this name
+abbrev pub live_named : Text → List Module → Option Module
+live_named name [] = None
+live_named name (m ∷ live) = if bytes_eq name m.name then Some m else live_named name live
+
+-- the live modules without it
+abbrev pub without_live : Text → List Module → List Module
+without_live name [] = []
+without_live name (m ∷ live) = if bytes_eq name m.name then live else m ∷ without_live name live
+
+-- the live modules after the moves, newest first
+abbrev pub live_after : List Module → List Move → List Module
+live_after live [] = live
+live_after live (Loads m ∷ ms) = live_after (m ∷ live) ms
+live_after live (Unloads m ∷ ms) = live_after (without_live m.name live) ms
+
+-- The module is reversible, and apart from those that are live: it uses each variable in the variable's way, and sets or
+-- unsets none that a live module sets or unsets.
+pub record IsFit (ways : Text → Way) (live : List Module) (m : Module) : Type 0 where
+  pub suits : AllSuit ways m.records
+  pub alone : (v : Text) → is_some (last_set v m.records) ≡ true → live_set v live ≡ None
+
+-- each was so while the older ones were live
+abbrev pub AreFit : (Text → Way) → List Module → Type 0
+AreFit ways [] = Unit {0}
+AreFit ways (m ∷ live) = IsFit ways live m × AreFit ways live
+
+-- Each load is of a module that is reversible and apart from the live ones. Each unload is of a live module, with the
+-- records of its load: so no module of the start is unloaded.
+abbrev pub AreReversible : (Text → Way) → List Module → List Move → Type 0
+AreReversible ways live [] = Unit {0}
+AreReversible ways live (Loads m ∷ ms) = IsFit ways live m × AreReversible ways (m ∷ live) ms
+AreReversible ways live (Unloads m ∷ ms) = (live_named m.name live ≡ Some m) × AreReversible ways (without_live m.name live) ms

@@ -1,0 +1,71 @@
+-- An environment in order, and one that stands over a start with live modules.
+use Rattle.std.specs.Prelude.{◌≡◌, ℕ, true, List, [], ◌∷◌, Option, Some, unwrap_or}
+use Rattle.environment.specs.Texts.{Text}
+use Rattle.environment.specs.Names.{share_name, stack_name}
+use Rattle.environment.specs.Environment.{Environment, lookup}
+use Rattle.pathstate.specs.PathVariables.{path_in}
+use Rattle.pathstate.specs.PathOrder.{IsPathInOrder}
+use Rattle.pathstate.specs.PathRuns as path_runs
+use Rattle.stackstate.specs.Stacks.{StackState}
+use Rattle.stackstate.specs.StackRuns.{standing}
+use Rattle.stackstate.specs.StackVariables.{stack_in, IsStackInOrder}
+use Rattle.loadedlist.specs.Loaded.{Entry, names_of, loaded_in, AreLoadedInOrder}
+use Rattle.envlaws.specs.Places.{place_of, is_editable}
+use Rattle.envlaws.specs.Places.Place.{Other}
+use Rattle.modulerecords.specs.Moves.{Module}
+use Rattle.reversal.specs.Ways.{Way, Untouched, Fixed, Pathed, Stacked}
+use Rattle.reversal.specs.Live.{live_set, live_adds, live_pushes, entries_over}
+
+-- In order, for the variables that the ways name: the loaded list, each path by its delimiter, and each stack, whose owners
+-- are loaded.
+pub record IsInOrder (ways : Text → Way) (e : Environment) : Type 0 where
+  pub loaded : AreLoadedInOrder e
+  pub paths : (v : Text) (delim : ℕ) → is_editable v ≡ true → ways v ≡ Pathed delim → IsPathInOrder e v delim
+  pub stacks : (v : Text) (entries : List Entry) → is_editable v ≡ true → ways v ≡ Stacked → loaded_in e ≡ Some entries
+      → IsStackInOrder (names_of entries) e v
+
+-- A start: in order, and each variable that records fix has the value that their unload gives back.
+pub record IsStart (ways : Text → Way) (start : Environment) : Type 0 where
+  pub order : IsInOrder ways start
+  pub fixed : (v : Text) (value : Option Text) → is_editable v ≡ true → ways v ≡ Fixed value → lookup start v ≡ value
+
+-- the variable has this value or is unset, and what is kept for it is as in the start
+pub record HasValue (start e : Environment) (v : Text) (set : Option Text) : Type 0 where
+  pub value : lookup e v ≡ set
+  pub counters : lookup e (share_name v) ≡ lookup start (share_name v)
+  pub stack : lookup e (stack_name v) ≡ lookup start (stack_name v)
+
+-- the path has these adds over that of the start, and the variable's stack is as in the start
+pub record HasPath (start e : Environment) (v : Text) (delim : ℕ) (live : Text → ℕ) : Type 0 where
+  pub state : path_runs.Stands (path_in start v delim) live (path_in e v delim)
+  pub stack : lookup e (stack_name v) ≡ lookup start (stack_name v)
+
+-- the same pushes in any order
+pub data InAnyOrder : List (Text × Text) → List (Text × Text) → Type 0 where
+  none : InAnyOrder [] []
+  next : {p : Text × Text} {ps qs : List (Text × Text)} → InAnyOrder ps qs → InAnyOrder (p ∷ ps) (p ∷ qs)
+  swap : {p q : Text × Text} {ps : List (Text × Text)} → InAnyOrder (p ∷ q ∷ ps) (q ∷ p ∷ ps)
+  also : {ps qs rs : List (Text × Text)} → InAnyOrder ps qs → InAnyOrder qs rs → InAnyOrder ps rs
+
+-- these pushes stand on the stack of the start, in any order, and the variable's counters are as in the start
+pub record HasStack (start e : Environment) (v : Text) (live : List (Text × Text)) : Type 0 where
+  pub under : StackState
+  pub found : stack_in start v ≡ Some under
+  pub pushes : List (Text × Text)
+  pub order : InAnyOrder pushes live
+  pub state : stack_in e v ≡ Some (standing under pushes)
+  pub counters : lookup e (share_name v) ≡ lookup start (share_name v)
+
+-- one variable, by its way
+abbrev pub StandsAt : Way → Environment → Text → List Module → Environment → Type 0
+StandsAt Untouched start v live e = HasValue start e v (lookup start v)
+StandsAt (Fixed value) start v live e = HasValue start e v (unwrap_or (live_set v live) (lookup start v))
+StandsAt (Pathed delim) start v live e = HasPath start e v delim (live_adds v live)
+StandsAt Stacked start v live e = HasStack start e v (live_pushes v live)
+
+-- The environment stands over the start with these live modules: the entries are those of the start and then theirs, each
+-- variable that may be edited stands by its way, and every name that is none of the tool's is as in the start.
+pub record Stands (ways : Text → Way) (start : Environment) (live : List Module) (e : Environment) : Type 0 where
+  pub entries : (xs : List Entry) → loaded_in start ≡ Some xs → loaded_in e ≡ Some (entries_over xs live)
+  pub variables : (v : Text) → is_editable v ≡ true → StandsAt (ways v) start v live e
+  pub others : (name : Text) → place_of name ≡ Other → lookup e name ≡ lookup start name

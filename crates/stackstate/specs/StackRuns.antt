@@ -1,0 +1,50 @@
+-- Lists of pushes and pops, and what stands after them.
+use Rattle.std.specs.Prelude.{◌≡◌, true, false, not, List, [], ◌∷◌, ◌++◌, filter, map, bytes_eq, Some, ◌⊎◌}
+use Rattle.std.specs.List.{list_any}
+use Rattle.environment.specs.Texts.{Text}
+use Rattle.stackstate.specs.Stacks.{Item, StackState, holds, has_owner, visible, base, push, pop}
+
+-- a push or a pop of a module
+pub data StackEdit : Type 0 where
+  Push : (owner : Text) (value : Text) → StackEdit
+  Pop : (owner : Text) → StackEdit
+
+-- the state after the edits
+abbrev pub after : List StackEdit → StackState → StackState
+after [] s = s
+after (Push m value ∷ edits) s = after edits (push s m value)
+after (Pop m ∷ edits) s = after edits (pop s m)
+
+-- No edit is by an owner that the items hold.
+abbrev pub AreStrangers : List StackEdit → List Item → Type 0
+AreStrangers [] items = Unit {0}
+AreStrangers (Push m value ∷ edits) items = (holds m items ≡ false) × AreStrangers edits items
+AreStrangers (Pop m ∷ edits) items = (holds m items ≡ false) × AreStrangers edits items
+
+-- There is no stack, or it has an owner and the variable shows it.
+abbrev pub IsOwnedStart : StackState → Type 0
+IsOwnedStart s = (s.items ≡ []) ⊎ ((list_any (λ item. has_owner item.0) s.items ≡ true) × (s.value ≡ visible s.items))
+
+-- owners and values, but for that owner's
+abbrev pub other_pushes : Text → List (Text × Text) → List (Text × Text)
+other_pushes m pushes = filter (λ p. not (bytes_eq m p.0)) pushes
+
+-- The live pushes, newest first: an owner is live from a push to its next pop, with its last value.
+abbrev pub live_from : List (Text × Text) → List StackEdit → List (Text × Text)
+live_from live [] = live
+live_from live (Push m value ∷ edits) = live_from ((m, value) ∷ other_pushes m live) edits
+live_from live (Pop m ∷ edits) = live_from (other_pushes m live) edits
+
+-- the live pushes of the edits, from none
+abbrev pub live : List StackEdit → List (Text × Text)
+live edits = live_from [] edits
+
+-- the items of pushes
+abbrev pub items_of : List (Text × Text) → List Item
+items_of pushes = map (λ p. (Some p.0, p.1)) pushes
+
+-- What stands over a start: with no live push the start. Else an item for each above what they were pushed on,
+-- and the variable holds the newest value.
+abbrev pub standing : StackState → List (Text × Text) → StackState
+standing start [] = start
+standing start (p ∷ ps) = record { items = items_of (p ∷ ps) ++ base start.items start.value; value = Some p.1 }

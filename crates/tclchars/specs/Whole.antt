@@ -1,0 +1,53 @@
+-- What a parser answers of a whole text within the limit of length: what is read of it, or its first fault with the place.
+use Rattle.std.specs.Prelude.{◌≡◌, ◌≤◌, ◌<◌, ◌+◌, ℕ, length, nat_lt, if◌then◌else◌, Result, Ok, Err}
+use Rattle.tclchars.specs.Runs.{Text}
+use Rattle.tclchars.specs.Faults.{max_bytes}
+use Rattle.tclchars.specs.Reading.{placed}
+use Rattle.tclchars.specs.declared.fault.Fault.{Fault}
+use Rattle.tclchars.specs.declared.fault.Fault.TheVariants.{OpenBrace, OpenQuote, OpenBracket, JoinedToClose, TooDeep, BadCharacter, BadExpression}
+use Rattle.tclchars.specs.declared.fault.TextFault.{TextFault}
+use Rattle.tclchars.specs.declared.fault.TextFault.TheVariants as faults
+
+-- Is bs f says that f is the first fault of the text, with the number of bytes from its mark on.
+
+-- the first fault of a text within the limit, whose mark stands at that place from the front
+abbrev pub IsFaultAt : (Text → Fault → Type 0) → Text → ℕ → (ℕ → Fault) → Type 0
+IsFaultAt Is bs at mark = (length bs ≤ max_bytes) × (left : ℕ) × (at + left ≡ length bs) × Is bs (mark left)
+
+-- What is wrong with a text, by the limit and the first fault: one past the limit is too long, whatever else is wrong. Want of
+-- memory says nothing of the text.
+abbrev pub IsFaultOf : (Text → Fault → Type 0) → Text → TextFault → Type 0
+IsFaultOf Is bs faults.OutOfMemory = Unit {0}
+IsFaultOf Is bs (faults.OpenBrace at) = IsFaultAt Is bs at (λ left. OpenBrace left)
+IsFaultOf Is bs (faults.OpenQuote at) = IsFaultAt Is bs at (λ left. OpenQuote left)
+IsFaultOf Is bs (faults.OpenBracket at) = IsFaultAt Is bs at (λ left. OpenBracket left)
+IsFaultOf Is bs (faults.JoinedToClose at) = IsFaultAt Is bs at (λ left. JoinedToClose left)
+IsFaultOf Is bs faults.TooDeep = (length bs ≤ max_bytes) × Is bs TooDeep
+IsFaultOf Is bs (faults.BadCharacter at) = IsFaultAt Is bs at (λ left. BadCharacter left)
+IsFaultOf Is bs (faults.BadExpression at) = IsFaultAt Is bs at (λ left. BadExpression left)
+IsFaultOf Is bs faults.TooLong = max_bytes < length bs
+
+-- what was read of a text, with the place of the fault
+abbrev pub at_place : {A : Type 0} → Text → Result A Fault → Result A TextFault
+at_place bs (Ok x) = Ok x
+at_place bs (Err fault) = Err (placed (length bs) fault)
+
+-- what is read of a text within the limit
+abbrev pub whole_of : {A : Type 0} → (Text → Result A Fault) → Text → Result A TextFault
+whole_of read bs = if nat_lt max_bytes (length bs) then Err faults.TooLong else at_place bs (read bs)
+
+-- what a function returned, seen by view, is the result, unless memory ran out
+abbrev pub FailsWith : {Y : Type 0} → TextFault → Result Y TextFault → Type 0
+FailsWith faults.OutOfMemory read = Unit {0}
+FailsWith (faults.OpenBrace at) read = read ≡ Err (faults.OpenBrace at)
+FailsWith (faults.OpenQuote at) read = read ≡ Err (faults.OpenQuote at)
+FailsWith (faults.OpenBracket at) read = read ≡ Err (faults.OpenBracket at)
+FailsWith (faults.JoinedToClose at) read = read ≡ Err (faults.JoinedToClose at)
+FailsWith faults.TooDeep read = read ≡ Err faults.TooDeep
+FailsWith (faults.BadCharacter at) read = read ≡ Err (faults.BadCharacter at)
+FailsWith (faults.BadExpression at) read = read ≡ Err (faults.BadExpression at)
+FailsWith faults.TooLong read = read ≡ Err faults.TooLong
+
+abbrev pub Reads : {X Y : Type 0} → (X → Y) → Result X TextFault → Result Y TextFault → Type 0
+Reads view (Ok x) read = read ≡ Ok (view x)
+Reads view (Err fault) read = FailsWith fault read

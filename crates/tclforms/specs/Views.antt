@@ -1,0 +1,59 @@
+-- The forms of the program, as the rules see them.
+use Rattle.std.specs.Prelude.{ℕ, List, [], ◌∷◌, map, string_bytes, String, Option, Some, None, Ok, Err}
+use Rattle.std.specs.Borrow.{Bor}
+use Rattle.std.specs.Option.{option_map}
+use Rattle.std.specs.declared.alloc.Global.{Global}
+use Rattle.tclchars.specs.Runs.{Text}
+use Rattle.tcloperators.specs.Faults.{Answer}
+use Rattle.tclrules.specs.Forms as forms
+use Rattle.tclforms.specs.declared.form.Form.{Form}
+use Rattle.tclforms.specs.declared.form.Form.TheVariants as form
+use Rattle.tclforms.specs.declared.form.Patterns.{Patterns}
+use Rattle.tclforms.specs.declared.form.Patterns.TheVariants as patterns
+
+abbrev pub texts_of : List (String Global) → List Text
+texts_of ws = map string_bytes ws
+
+-- texts in twos; one that is left alone isn't there
+abbrev pub in_twos : List Text → List (Text × Text)
+in_twos [] = []
+in_twos (a ∷ []) = []
+in_twos (a ∷ b ∷ ts) = (a, b) ∷ in_twos ts
+
+-- pairs of the program
+abbrev pub pair_texts : List (Bor (List ℕ) × Bor (List ℕ)) → List (Text × Text)
+pair_texts ps = map (λ p. (p.0.now, p.1.now)) ps
+
+abbrev pub pattern_texts : Patterns → List Text
+pattern_texts (patterns.Words ws) = texts_of ws.now
+pattern_texts (patterns.Elements es) = texts_of es.items
+
+abbrev pub form_view : Form → forms.Form
+form_view (form.Get v) = forms.Get v.now
+form_view (form.Set v x) = forms.Set v.now x.now
+form_view (form.Unset quiet vs) = forms.Unset quiet (texts_of vs.now)
+form_view (form.Append v xs) = forms.Append v.now (texts_of xs.now)
+form_view (form.ListAppend v xs) = forms.ListAppend v.now (texts_of xs.now)
+form_view (form.Increase v ns) = forms.Increase v.now (texts_of ns.now)
+form_view (form.Express xs) = forms.Express (texts_of xs.now)
+form_view (form.If ps other) = forms.If (pair_texts ps.items) (option_map (λ b. b.now) other)
+form_view (form.While c b) = forms.While c.now b.now
+form_view (form.For s c n b) = forms.For s.now c.now n.now b.now
+form_view (form.Foreach ps b) = forms.Foreach (pair_texts ps.items) b.now
+form_view (form.Switch by_glob t ps) = forms.Switch by_glob t.now (in_twos (pattern_texts ps))
+form_view (form.Define n ps b) = forms.Define n.now ps.now b.now
+form_view (form.Return x) = forms.Return x.now
+form_view form.Break = forms.Break
+form_view form.Continue = forms.Continue
+form_view form.Exit = forms.Exit
+form_view (form.Error m) = forms.Error m.now
+form_view (form.Catch s v) = forms.Catch s.now (option_map (λ v. v.now) v)
+form_view (form.Exists v) = forms.Exists v.now
+form_view (form.Global vs) = forms.Global (texts_of vs.now)
+form_view (form.Put ws) = forms.Put (texts_of ws.now)
+
+-- an answer that may be none
+abbrev pub turned : {A : Type 0} → Option (Answer A) → Answer (Option A)
+turned None = Ok None
+turned (Some (Ok x)) = Ok (Some x)
+turned (Some (Err f)) = Err f

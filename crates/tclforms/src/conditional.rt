@@ -1,0 +1,104 @@
+//! The words of if(n).
+ghost use Rattle.std.specs.Prelude.{◌≡◌, ◌<◌, length, map, string_bytes, IfSome};
+ghost use Rattle.std.specs.Option.{option_map};
+ghost use Rattle.tcloperators.specs.Faults.{Gives};
+ghost use Rattle.tclrules.specs.Forms.{last_body, last_words, if_form};
+ghost use Rattle.tclforms.specs.Views.{form_view, pair_texts, texts_of};
+ghost use Rattle.tclforms.specs.Branches.{behind_then, first_branch, branch_view, behind_elseif, behind_pairs, if_of};
+
+use crate::form::Form;
+use std::alloc::Global;
+use tcloperators::{ValueFault, wrong_words};
+
+/// A condition with its body, and the words behind them.
+#[derive(Clone, Copy)]
+struct Branch<'a> {
+    condition: &'a str,
+    body: &'a str,
+    rest: &'a [String],
+}
+
+fn behind_then<'a>(condition: &'a str, words: &'a [String]) -> Option<Branch<'a>>
+    ensures branch { option_map branch_view result ≡ behind_then condition.entry.now (map string_bytes words.entry.now) }
+    ensures shorter { IfSome result (λ b. length b.rest.now < length words.entry.now) }
+{
+    match words {
+        [body, rest @ ..] => Some(Branch {
+            condition,
+            body,
+            rest,
+        }),
+        [] => None,
+    }
+}
+
+fn first_branch(words: &[String]) -> Option<Branch<'_>>
+    ensures branch { option_map branch_view result ≡ first_branch (map string_bytes words.entry.now) }
+    ensures shorter { IfSome result (λ b. length b.rest.now < length words.entry.now) }
+{
+    match words {
+        [condition, then, rest @ ..] if then.as_str() == "then" => behind_then(condition, rest),
+        [condition, body, rest @ ..] => Some(Branch {
+            condition,
+            body,
+            rest,
+        }),
+        _ => None,
+    }
+}
+
+/// The form with these branches, and behind them a last body.
+fn last_body<'a>(
+    alloc: Global,
+    branches: Vec<(&'a str, &'a str)>,
+    words: &'a [String],
+) -> Result<Form<'a>, ValueFault>
+    ensures { Gives form_view result (if_of (behind_pairs (pair_texts branches.entry.items) (last_body (map string_bytes words.entry.now)))) }
+{
+    match words {
+        [body] => Ok(Form::If(branches, Some(body))),
+        _ => Err(wrong_words(alloc, "if")),
+    }
+}
+
+/// The form with these branches, and behind them else with a last body, or nothing.
+fn last_words<'a>(
+    alloc: Global,
+    branches: Vec<(&'a str, &'a str)>,
+    words: &'a [String],
+) -> Result<Form<'a>, ValueFault>
+    ensures { Gives form_view result (if_of (behind_pairs (pair_texts branches.entry.items) (last_words (map string_bytes words.entry.now)))) }
+{
+    match words {
+        [] => Ok(Form::If(branches, None)),
+        [word, rest @ ..] if word.as_str() == "else" => last_body(alloc, branches, rest),
+        _ => last_body(alloc, branches, words),
+    }
+}
+
+/// The words behind `elseif`, where it stands in front.
+fn behind_elseif(words: &[String]) -> Option<&[String]>
+    ensures rest { option_map (λ ws. texts_of ws.now) result ≡ behind_elseif (map string_bytes words.entry.now) }
+    ensures shorter { IfSome result (λ ws. length ws.now < length words.entry.now) }
+{
+    match words {
+        [word, rest @ ..] if word.as_str() == "elseif" => Some(rest),
+        _ => None,
+    }
+}
+
+/// if(n)
+pub(crate) fn if_form(alloc: Global, words: &[String]) -> Result<Form<'_>, ValueFault>
+    ensures { Gives form_view result (if_form (map string_bytes words.entry.now)) }
+{
+    let mut branches = Vec::new(alloc);
+    let mut rest = words;
+    while let Some(branch) = first_branch(rest) {
+        branches.push((branch.condition, branch.body))?;
+        match behind_elseif(branch.rest) {
+            Some(more) => rest = more,
+            None => return last_words(alloc, branches, branch.rest),
+        }
+    }
+    Err(wrong_words(alloc, "if"))
+}

@@ -1,0 +1,75 @@
+//! What a command is told to do.
+
+ghost use Rattle.std.specs.Prelude.{◌≡◌, map, string_bytes};
+
+/// The form of a core command, with its words.
+#[derive(Drop)]
+pub enum Form<'a> {
+    /// `set v`
+    Get(&'a str),
+    /// `set v x`
+    Set(&'a str, &'a str),
+    /// `unset v...`; whether an absent variable is no error.
+    Unset(bool, &'a [String]),
+    /// `append v x...`
+    Append(&'a str, &'a [String]),
+    /// `lappend v x...`
+    ListAppend(&'a str, &'a [String]),
+    /// `incr v n...`, of which the number of words isn't judged yet.
+    Increase(&'a str, &'a [String]),
+    /// `expr a...`
+    Express(&'a [String]),
+    /// `if`: conditions with their bodies, and the last body.
+    If(Vec<(&'a str, &'a str)>, Option<&'a str>),
+    /// `while c b`
+    While(&'a str, &'a str),
+    /// `for s c n b`
+    For(&'a str, &'a str, &'a str, &'a str),
+    /// `foreach`: names with their lists, and the body.
+    Foreach(Vec<(&'a str, &'a str)>, &'a str),
+    /// `switch`: whether patterns are compared by glob, the text, and the patterns with their bodies.
+    Switch(bool, &'a str, Patterns<'a>),
+    /// `proc n args b`
+    Define(&'a str, &'a str, &'a str),
+    /// `return x`
+    Return(&'a str),
+    /// `break`
+    Break,
+    /// `continue`
+    Continue,
+    /// `exit`
+    Exit,
+    /// `error m`
+    Error(&'a str),
+    /// `catch s v`
+    Catch(&'a str, Option<&'a str>),
+    /// `info exists v`
+    Exists(&'a str),
+    /// `global v...`
+    Global(&'a [String]),
+    /// `puts`, with all its words.
+    Put(&'a [String]),
+}
+
+/// The patterns of a switch, each with its body behind it.
+#[derive(Drop)]
+pub enum Patterns<'a> {
+    /// Words of the command.
+    Words(&'a [String]),
+    /// The elements of the one list.
+    Elements(Vec<String>),
+}
+
+impl Patterns<'_> {
+    ghost use Rattle.tclforms.specs.Views.{pattern_texts};
+
+    /// The patterns, each with its body behind it.
+    pub fn as_slice(&self) -> &[String]
+        ensures { map string_bytes result.now ≡ pattern_texts self.entry.now }
+    {
+        match self {
+            Patterns::Words(words) => words,
+            Patterns::Elements(elements) => elements.as_slice(),
+        }
+    }
+}

@@ -1,0 +1,154 @@
+//! The words of switch(n).
+ghost use Rattle.std.specs.Prelude.{◌≡◌, [], ◌∷◌, map, string_bytes, false};
+ghost use Rattle.std.specs.Option.{option_map};
+ghost use Rattle.tcloperators.specs.Faults.{Gives};
+ghost use Rattle.tclrules.specs.Forms.{is_option, options, glob_option, by_glob, paired, patterns_in, bodiless, with_patterns, switch_with, even_pairs, switch_form};
+ghost use Rattle.tclforms.specs.Views.{texts_of, in_twos, pattern_texts, form_view};
+
+use crate::form::{Form, Patterns};
+use crate::messages::{bad_option, left_out, no_body};
+use std::alloc::Global;
+use tcloperators::{ValueFault, elements, not_a_list, wrong_words};
+
+/// A word is an option where more than one word follows.
+fn is_option(word: &str, behind: &[String]) -> bool
+    ensures { result ≡ is_option word.now (map string_bytes behind.now) }
+{
+    word.as_bytes().first() == Some(&b'-') && behind.len() > 1
+}
+
+/// The options in front of the other words.
+#[derive(Clone, Copy)]
+struct Split<'a> {
+    options: &'a [String],
+    rest: &'a [String],
+}
+
+fn parted(words: &[String]) -> Split<'_>
+    ensures { (texts_of result.options.now, texts_of result.rest.now) ≡ options (map string_bytes words.entry.now) }
+{
+    let mut rest = words;
+    while let [word, behind @ ..] = rest {
+        if !is_option(word, behind) {
+            break;
+        }
+        if word.as_str() == "--" {
+            return Split {
+                options: &words[..words.len() - rest.len()],
+                rest: behind,
+            };
+        }
+        rest = behind;
+    }
+    Split {
+        options: &words[..words.len() - rest.len()],
+        rest,
+    }
+}
+
+/// Whether an option says that patterns are compared by glob.
+fn glob_option(alloc: Global, option: &str) -> Result<bool, ValueFault>
+    ensures { Gives (λ b. b) result (glob_option option.now) }
+{
+    match option {
+        "-exact" => Ok(false),
+        "-glob" => Ok(true),
+        "-regexp" => Err(left_out(alloc, option)),
+        _ => Err(bad_option(alloc, option)),
+    }
+}
+
+/// Whether patterns are compared by glob: the last option counts.
+fn by_glob(alloc: Global, options: &[String]) -> Result<bool, ValueFault>
+    ensures { Gives (λ b. b) result (by_glob false (map string_bytes options.now)) }
+{
+    let mut glob = false;
+    for option in options {
+        glob = glob_option(alloc, option)?;
+    }
+    Ok(glob)
+}
+
+/// The last pattern, where its body is `-`.
+fn bodiless(patterns: &[String]) -> Option<&str>
+    ensures { option_map (λ p. p.now) result ≡ bodiless (in_twos (map string_bytes patterns.entry.now)) }
+{
+    let mut rest = patterns;
+    while let [pattern, body, after @ ..] = rest {
+        if after.len() < 2 {
+            return last_pattern(pattern, body);
+        }
+        rest = after;
+    }
+    None
+}
+
+fn last_pattern<'a>(pattern: &'a str, body: &str) -> Option<&'a str>
+    ensures { option_map (λ p. p.now) result ≡ bodiless ((pattern.entry.now, body.now) ∷ []) }
+{
+    if body == "-" { Some(pattern) } else { None }
+}
+
+/// The form with these patterns, unless the last body stands for the next.
+fn with_patterns<'a>(
+    alloc: Global,
+    by_glob: bool,
+    text: &'a str,
+    patterns: Patterns<'a>,
+) -> Result<Form<'a>, ValueFault>
+    ensures { Gives form_view result (with_patterns by_glob text.entry.now (in_twos (pattern_texts patterns.entry))) }
+{
+    match bodiless(patterns.as_slice()) {
+        Some(pattern) => Err(no_body(alloc, pattern)),
+        None => Ok(Form::Switch(by_glob, text, patterns)),
+    }
+}
+
+/// The form with patterns that are words.
+#[tactic(auto, using(crate::proofs::SwitchLemmas::words_even, crate::proofs::SwitchLemmas::words_odd))]
+fn of_words<'a>(
+    alloc: Global,
+    options: &[String],
+    text: &'a str,
+    patterns: &'a [String],
+) -> Result<Form<'a>, ValueFault>
+    ensures { Gives form_view result (even_pairs text.entry.now (map string_bytes options.now) (paired (map string_bytes patterns.entry.now))) }
+{
+    if patterns.len() % 2 == 1 {
+        return Err(wrong_words(alloc, "switch"));
+    }
+    let by_glob = by_glob(alloc, options)?;
+    with_patterns(alloc, by_glob, text, Patterns::Words(patterns))
+}
+
+/// The form with patterns that are the elements of a list.
+#[tactic(auto, using(crate::proofs::SwitchLemmas::words_even, crate::proofs::SwitchLemmas::words_odd))]
+fn of_list<'a>(
+    alloc: Global,
+    options: &[String],
+    text: &'a str,
+    list: &str,
+) -> Result<Form<'a>, ValueFault>
+    ensures { Gives form_view result (switch_with text.entry.now (map string_bytes options.now) (patterns_in list.now)) }
+{
+    let by_glob = by_glob(alloc, options)?;
+    let patterns = elements(alloc, list)?;
+    if patterns.len() % 2 == 1 {
+        return Err(not_a_list(alloc));
+    }
+    with_patterns(alloc, by_glob, text, Patterns::Elements(patterns))
+}
+
+/// switch(n)
+pub(crate) fn switch_form(alloc: Global, words: &[String]) -> Result<Form<'_>, ValueFault>
+    ensures { Gives form_view result (switch_form (map string_bytes words.entry.now)) }
+{
+    let parted = parted(words);
+    match parted.rest {
+        [text, list] => of_list(alloc, parted.options, text, list),
+        [text, patterns @ ..] if patterns.len() > 1 => {
+            of_words(alloc, parted.options, text, patterns)
+        }
+        _ => Err(wrong_words(alloc, "switch")),
+    }
+}

@@ -1,0 +1,246 @@
+//! Forms whose words are taken as they stand.
+ghost use Rattle.std.specs.Prelude.{map, string_bytes};
+ghost use Rattle.tcloperators.specs.Faults.{Gives};
+ghost use Rattle.tclrules.specs.Forms.{set_form, after_dashes, unset_form, append_form, lappend_form, incr_form, increase_of, expr_form, while_form, for_form, proc_form, return_form, exit_form, error_form, catch_form, exists_form, info_form, to_stderr, without_newline, puts_form, alone};
+ghost use Rattle.tclforms.specs.Views.{form_view, texts_of};
+ghost use Rattle.std.specs.Prelude.{◌≡◌};
+
+use crate::form::Form;
+use crate::messages::{left_out, left_out_info};
+use std::alloc::Global;
+use tcloperators::{ValueFault, wrong_words};
+
+/// set(n)
+pub(crate) fn set_form(alloc: Global, words: &[String]) -> Result<Form<'_>, ValueFault>
+    ensures { Gives form_view result (set_form (map string_bytes words.entry.now)) }
+{
+    match words {
+        [name] => Ok(Form::Get(name)),
+        [name, value] => Ok(Form::Set(name, value)),
+        _ => Err(wrong_words(alloc, "set")),
+    }
+}
+
+/// The words behind `--`.
+fn after_dashes(words: &[String]) -> &[String]
+    ensures { texts_of result.now ≡ after_dashes (map string_bytes words.entry.now) }
+{
+    match words {
+        [word, rest @ ..] if word.as_str() == "--" => rest,
+        _ => words,
+    }
+}
+
+/// unset(n)
+pub(crate) fn unset_form(words: &[String]) -> Form<'_>
+    ensures { Gives form_view (Ok result) (unset_form (map string_bytes words.entry.now)) }
+{
+    match words {
+        [word, rest @ ..] if word.as_str() == "-nocomplain" => {
+            Form::Unset(true, after_dashes(rest))
+        }
+        _ => Form::Unset(false, after_dashes(words)),
+    }
+}
+
+/// append(n)
+pub(crate) fn append_form(alloc: Global, words: &[String]) -> Result<Form<'_>, ValueFault>
+    ensures { Gives form_view result (append_form (map string_bytes words.entry.now)) }
+{
+    match words {
+        [name, texts @ ..] => Ok(Form::Append(name, texts)),
+        [] => Err(wrong_words(alloc, "append")),
+    }
+}
+
+/// lappend(n)
+pub(crate) fn lappend_form(alloc: Global, words: &[String]) -> Result<Form<'_>, ValueFault>
+    ensures { Gives form_view result (lappend_form (map string_bytes words.entry.now)) }
+{
+    match words {
+        [name, elements @ ..] => Ok(Form::ListAppend(name, elements)),
+        [] => Err(wrong_words(alloc, "lappend")),
+    }
+}
+
+/// incr(n)
+pub(crate) fn incr_form(alloc: Global, words: &[String]) -> Result<Form<'_>, ValueFault>
+    ensures { Gives form_view result (incr_form (map string_bytes words.entry.now)) }
+{
+    match words {
+        [name, numbers @ ..] => Ok(Form::Increase(name, numbers)),
+        [] => Err(wrong_words(alloc, "incr")),
+    }
+}
+
+/// expr(n)
+pub(crate) fn expr_form(alloc: Global, words: &[String]) -> Result<Form<'_>, ValueFault>
+    ensures { Gives form_view result (expr_form (map string_bytes words.entry.now)) }
+{
+    match words {
+        [] => Err(wrong_words(alloc, "expr")),
+        _ => Ok(Form::Express(words)),
+    }
+}
+
+/// while(n)
+pub(crate) fn while_form(alloc: Global, words: &[String]) -> Result<Form<'_>, ValueFault>
+    ensures { Gives form_view result (while_form (map string_bytes words.entry.now)) }
+{
+    match words {
+        [condition, body] => Ok(Form::While(condition, body)),
+        _ => Err(wrong_words(alloc, "while")),
+    }
+}
+
+/// for(n)
+pub(crate) fn for_form(alloc: Global, words: &[String]) -> Result<Form<'_>, ValueFault>
+    ensures { Gives form_view result (for_form (map string_bytes words.entry.now)) }
+{
+    match words {
+        [start, condition, next, body] => Ok(Form::For(start, condition, next, body)),
+        _ => Err(wrong_words(alloc, "for")),
+    }
+}
+
+/// proc(n)
+pub(crate) fn proc_form(alloc: Global, words: &[String]) -> Result<Form<'_>, ValueFault>
+    ensures { Gives form_view result (proc_form (map string_bytes words.entry.now)) }
+{
+    match words {
+        [name, parameters, body] => Ok(Form::Define(name, parameters, body)),
+        _ => Err(wrong_words(alloc, "proc")),
+    }
+}
+
+/// return(n)
+pub(crate) fn return_form(alloc: Global, words: &[String]) -> Result<Form<'_>, ValueFault>
+    ensures { Gives form_view result (return_form (map string_bytes words.entry.now)) }
+{
+    match words {
+        [] => Ok(Form::Return("")),
+        [value] => Ok(Form::Return(value)),
+        _ => Err(left_out(alloc, "return")),
+    }
+}
+
+/// exit(n)
+pub(crate) fn exit_form(alloc: Global, words: &[String]) -> Result<Form<'_>, ValueFault>
+    ensures { Gives form_view result (exit_form (map string_bytes words.entry.now)) }
+{
+    match words {
+        [] | [_] => Ok(Form::Exit),
+        _ => Err(wrong_words(alloc, "exit")),
+    }
+}
+
+/// error(n)
+pub(crate) fn error_form(alloc: Global, words: &[String]) -> Result<Form<'_>, ValueFault>
+    ensures { Gives form_view result (error_form (map string_bytes words.entry.now)) }
+{
+    match words {
+        [message] | [message, _] | [message, _, _] => Ok(Form::Error(message)),
+        _ => Err(wrong_words(alloc, "error")),
+    }
+}
+
+/// catch(n)
+pub(crate) fn catch_form(alloc: Global, words: &[String]) -> Result<Form<'_>, ValueFault>
+    ensures { Gives form_view result (catch_form (map string_bytes words.entry.now)) }
+{
+    match words {
+        [script] => Ok(Form::Catch(script, None)),
+        [script, name] => Ok(Form::Catch(script, Some(name))),
+        _ => Err(wrong_words(alloc, "catch")),
+    }
+}
+
+/// info(n), exists
+fn exists_form(alloc: Global, words: &[String]) -> Result<Form<'_>, ValueFault>
+    ensures { Gives form_view result (exists_form (map string_bytes words.entry.now)) }
+{
+    match words {
+        [name] => Ok(Form::Exists(name)),
+        _ => Err(wrong_words(alloc, "info")),
+    }
+}
+
+/// info(n)
+pub(crate) fn info_form(alloc: Global, words: &[String]) -> Result<Form<'_>, ValueFault>
+    ensures { Gives form_view result (info_form (map string_bytes words.entry.now)) }
+{
+    match words {
+        [] => Err(wrong_words(alloc, "info")),
+        [subcommand, operands @ ..] if subcommand.as_str() == "exists" => {
+            exists_form(alloc, operands)
+        }
+        [subcommand, ..] => Err(left_out_info(alloc, subcommand)),
+    }
+}
+
+/// puts(n)
+pub(crate) fn puts_form(alloc: Global, words: &[String]) -> Result<Form<'_>, ValueFault>
+    ensures { Gives form_view result (puts_form (map string_bytes words.entry.now)) }
+{
+    match words {
+        [_] => Err(left_out(alloc, "puts")),
+        [channel, _] => to_stderr(alloc, channel, words),
+        [option, channel, _] => without_newline(alloc, option, channel, words),
+        _ => Err(wrong_words(alloc, "puts")),
+    }
+}
+
+fn without_newline<'a>(
+    alloc: Global,
+    option: &str,
+    channel: &str,
+    words: &'a [String],
+) -> Result<Form<'a>, ValueFault>
+    ensures { Gives form_view result (without_newline option.now channel.now (map string_bytes words.entry.now)) }
+{
+    if option == "-nonewline" {
+        to_stderr(alloc, channel, words)
+    } else {
+        Err(wrong_words(alloc, "puts"))
+    }
+}
+
+/// What goes to another channel than standard error is left out.
+fn to_stderr<'a>(alloc: Global, channel: &str, words: &'a [String]) -> Result<Form<'a>, ValueFault>
+    ensures { Gives form_view result (to_stderr channel.now (map string_bytes words.entry.now)) }
+{
+    if channel == "stderr" {
+        Ok(Form::Put(words))
+    } else {
+        Err(left_out(alloc, "puts"))
+    }
+}
+
+/// break(n), continue(n)
+pub(crate) fn alone<'a>(
+    alloc: Global,
+    name: &str,
+    form: Form<'a>,
+    words: &[String],
+) -> Result<Form<'a>, ValueFault>
+    ensures { Gives form_view result (alone name.now (form_view form.entry) (map string_bytes words.now)) }
+{
+    if words.is_empty() {
+        Ok(form)
+    } else {
+        Err(wrong_words(alloc, name))
+    }
+}
+
+/// What `incr` adds, by the words behind its variable.
+///
+/// Errors: `TclError` for more than one word, `OutOfMemory`.
+pub fn increase_of(alloc: Global, words: &[String]) -> Result<&str, ValueFault>
+    ensures { Gives (λ t. t.now) result (increase_of (map string_bytes words.entry.now)) }
+{
+    match words {
+        [] => Ok("1"),
+        [number] => Ok(number),
+        _ => Err(wrong_words(alloc, "incr")),
+    }
+}

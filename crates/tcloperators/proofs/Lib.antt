@@ -1,0 +1,4 @@
+pub mod Examples
+pub mod NumberLemmas
+pub mod DivisionLemmas
+pub mod BitLemmas

@@ -1,0 +1,23 @@
+-- The elements of a list (list(n)).
+use Rattle.std.specs.Prelude.{List, map, string_bytes, String, Result, Ok, Err}
+use Rattle.std.specs.declared.vec.Vec.{Vec}
+use Rattle.std.specs.declared.alloc.Global.{Global}
+use Rattle.tclchars.specs.declared.fault.TextFault.{TextFault}
+use Rattle.tclchars.specs.declared.fault.TextFault.TheVariants.{TooLong}
+use Rattle.tclchars.specs.Runs.{Text}
+use Rattle.tcllist.specs.ListReading.{list_of}
+use Rattle.tcloperators.specs.Faults.{Answer, text, error}
+use Rattle.tcloperators.specs.Messages.{not_a_list}
+
+-- a text that is too long isn't shown to be no list; any other fault makes it none
+abbrev pub listed : Result (List Text) TextFault → Answer (List Text)
+listed (Ok es) = Ok es
+listed (Err TooLong) = Err (text TooLong)
+listed (Err f) = Err (error not_a_list)
+
+abbrev pub elements_of : Text → Answer (List Text)
+elements_of t = listed (list_of t)
+
+-- the texts in a list of the program
+abbrev pub texts_in : Vec (String Global) Global → List Text
+texts_in v = map string_bytes v.items

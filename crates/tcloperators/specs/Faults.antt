@@ -1,0 +1,56 @@
+-- Why there is no value, and what a call answers. Nothing is said of memory here.
+use Rattle.std.specs.Prelude.{◌≡◌, ℕ, string_bytes, String, Option, Some, None, IfSome, Result, Ok, Err}
+use Rattle.std.specs.declared.alloc.Global.{Global}
+use Rattle.tclchars.specs.Runs.{Text}
+use Rattle.tclchars.specs.declared.fault.TextFault.{TextFault}
+use Rattle.tcloperators.specs.declared.fault.ValueFault.{ValueFault}
+use Rattle.tcloperators.specs.declared.fault.ValueFault.TheVariants as faults
+
+-- why there is no value
+pub data Reason : Type 0 where
+  text : (fault : TextFault) → Reason
+  error : (message : Text) → Reason
+  value_too_long : Reason
+  number_too_large : Reason
+  fraction : Reason
+  left_out : (name : Text) → Reason
+
+abbrev pub Answer : Type 0 → Type 0
+Answer A = Result A Reason
+
+infixl 10 ◌>>=◌
+abbrev pub ◌>>=◌ : {A B : Type 0} → Answer A → (A → Answer B) → Answer B
+(Ok x) >>= f = f x
+(Err e) >>= f = Err e
+
+-- the reason that a fault names; want of memory is none
+abbrev pub reason_of : ValueFault → Option Reason
+reason_of faults.OutOfMemory = None
+reason_of (faults.Text fault) = Some (text fault)
+reason_of (faults.TclError message) = Some (error (string_bytes message))
+reason_of faults.ValueTooLong = Some value_too_long
+reason_of faults.NumberTooLarge = Some number_too_large
+reason_of faults.FractionOperand = Some fraction
+reason_of (faults.LeftOut name) = Some (left_out (string_bytes name))
+
+-- the number of a fault
+abbrev pub number_of : ValueFault → ℕ
+number_of faults.OutOfMemory = 11
+number_of (faults.Text fault) = 12
+number_of (faults.TclError message) = 13
+number_of faults.ValueTooLong = 16
+number_of faults.NumberTooLarge = 17
+number_of faults.FractionOperand = 18
+number_of (faults.LeftOut name) = 19
+
+-- a fault has this reason, or memory ran out
+abbrev pub HasReason : Reason → ValueFault → Type 0
+HasReason reason e = IfSome (reason_of e) (λ r. r ≡ reason)
+
+-- what a call gave, seen by view, is this answer, unless memory ran out
+abbrev pub Gives : {X Y : Type 0} → (X → Y) → Result X ValueFault → Answer Y → Type 0
+Gives view (Ok x) answer = answer ≡ Ok (view x)
+Gives view (Err e) answer = IfSome (reason_of e) (λ r. answer ≡ Err r)
+
+abbrev pub GivesText : Result (String Global) ValueFault → Answer Text → Type 0
+GivesText result answer = Gives string_bytes result answer

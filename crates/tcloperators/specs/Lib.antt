@@ -1,0 +1,7 @@
+pub mod Faults
+pub mod Messages
+pub mod Elements
+pub mod Numbers
+pub mod Operators
+-- for this crate's own contracts alone
+pub mod Views

@@ -1,0 +1,97 @@
+-- Arithmetic of expr(n) over unbounded whole numbers, cut to 64 bits at the end.
+use Rattle.std.specs.Prelude.{◌≡◌, ℕ, zero, suc, ◌/◌, ◌^◌, ◌<◌, Bool, true, false, not, ◌&&◌, ◌||◌, nat_lt, if◌then◌else◌, Ok, Err}
+use Rattle.std.specs.Prelude.{ℤ, pos, negsuc, neg_ℤ, ◌-ℤ◌, ◌*ℤ◌, ◌+ℤ◌, ◌≤ℤ◌, ◌<ℤ◌}
+use Rattle.std.specs.Int.{w64, div_ceil, int_bit_and, int_bit_or, int_bit_xor}
+use Rattle.tcloperators.specs.Faults.{Answer, error, number_too_large}
+use Rattle.tcloperators.specs.Messages.{divide_by_zero, negative_shift}
+
+-- within 64 bits with a sign
+abbrev pub fits : ℤ → Bool
+fits (pos n) = nat_lt n (2 ^ 63)
+fits (negsuc n) = nat_lt n (2 ^ 63)
+
+-- a number is refused outside 64 bits
+abbrev pub within_64_bits : ℤ → Answer ℤ
+within_64_bits z = if fits z then Ok z else Err number_too_large
+
+abbrev pub signed : Bool → ℕ → ℤ
+signed false n = pos n
+signed true n = neg_ℤ (pos n)
+
+-- a quotient, rounded down; b is not 0
+abbrev pub quotient : ℤ → ℤ → ℤ
+quotient (pos a) (pos b) = signed false (a / b)
+quotient (pos a) (negsuc b) = signed true (div_ceil a (suc b))
+quotient (negsuc a) (pos b) = signed true (div_ceil (suc a) b)
+quotient (negsuc a) (negsuc b) = signed false (suc a / suc b)
+
+-- what the quotient leaves; its sign is that of b
+abbrev pub remainder : ℤ → ℤ → ℤ
+remainder a b = a -ℤ quotient a b *ℤ b
+
+-- a remainder has the divisor's sign, and is nearer to 0
+abbrev pub IsRemainder : ℤ → ℤ → Type 0
+IsRemainder (pos b) r = (pos 0 ≤ℤ r) × (r <ℤ pos b)
+IsRemainder (negsuc b) r = (negsuc b <ℤ r) × (r ≤ℤ pos 0)
+
+abbrev pub is_zero : ℤ → Bool
+is_zero (pos zero) = true
+is_zero (pos (suc n)) = false
+is_zero (negsuc n) = false
+
+-- no number is divided by 0
+abbrev pub unless_zero : ℤ → ℤ → Answer ℤ
+unless_zero b z = if is_zero b then Err (error divide_by_zero) else within_64_bits z
+
+abbrev pub sum : ℤ → ℤ → Answer ℤ
+sum a b = within_64_bits (a +ℤ b)
+
+abbrev pub difference : ℤ → ℤ → Answer ℤ
+difference a b = within_64_bits (a -ℤ b)
+
+abbrev pub product : ℤ → ℤ → Answer ℤ
+product a b = within_64_bits (a *ℤ b)
+
+abbrev pub divided : ℤ → ℤ → Answer ℤ
+divided a b = unless_zero b (quotient a b)
+
+abbrev pub remaining : ℤ → ℤ → Answer ℤ
+remaining a b = unless_zero b (remainder a b)
+
+-- a shift to the left multiplies by a power of two; one to the right divides by it, rounded down
+abbrev pub shifted_left : ℤ → ℤ → Answer ℤ
+shifted_left a (pos k) = within_64_bits (a *ℤ pos (2 ^ k))
+shifted_left a (negsuc k) = Err (error negative_shift)
+
+abbrev pub shifted_right : ℤ → ℤ → Answer ℤ
+shifted_right a (pos k) = within_64_bits (quotient a (pos (2 ^ k)))
+shifted_right a (negsuc k) = Err (error negative_shift)
+
+-- the operators of bits, on two's complement of 64 bits; what each makes of one bit is said below
+abbrev pub bits_of_both : ℤ → ℤ → ℤ
+bits_of_both a b = int_bit_and w64 a b
+
+abbrev pub bits_of_one : ℤ → ℤ → ℤ
+bits_of_one a b = int_bit_xor w64 a b
+
+abbrev pub bits_of_either : ℤ → ℤ → ℤ
+bits_of_either a b = int_bit_or w64 a b
+
+abbrev pub other_bits : ℤ → ℤ
+other_bits a = neg_ℤ a -ℤ pos 1
+
+-- the bit of a number for 2 ^ k: whether the number divided by that power of two, rounded down, is odd
+abbrev pub has_bit : ℤ → ℕ → Bool
+has_bit a k = not (is_zero (remainder (quotient a (pos (2 ^ k))) (pos 2)))
+
+abbrev pub just_one : Bool → Bool → Bool
+just_one x y = x && not y || not x && y
+
+-- of two numbers of 64 bits the operator makes one whose bits this test makes of theirs
+abbrev pub MakesEachBit : (Bool → Bool → Bool) → (ℤ → ℤ → ℤ) → Type 0
+MakesEachBit test op = (a b : ℤ) → fits a ≡ true → fits b ≡ true
+    → (fits (op a b) ≡ true) × ((k : ℕ) → k < 64 → has_bit (op a b) k ≡ test (has_bit a k) (has_bit b k))
+
+-- numbers of 64 bits with the same bits are equal
+abbrev pub IsGivenByBits : Type 0
+IsGivenByBits = (a b : ℤ) → fits a ≡ true → fits b ≡ true → ((k : ℕ) → k < 64 → has_bit a k ≡ has_bit b k) → a ≡ b

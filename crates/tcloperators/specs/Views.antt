@@ -1,0 +1,6 @@
+-- How the contracts of `src/` see its types.
+use Rattle.std.specs.Prelude.{ℤ}
+use Rattle.tcloperators.specs.declared.operands.Operands.{Operands}
+
+abbrev pub operands_view : Operands → ℤ × ℤ
+operands_view o = (o.left, o.right)

@@ -1,0 +1,22 @@
+//! What holds of the definitions that the contracts cite.
+ghost use Rattle.std.specs.Prelude.{◌≡◌, ◌&&◌, ◌||◌, ℕ, ℤ, ◌+ℤ◌, ◌*ℤ◌, false, not};
+ghost use Rattle.tcloperators.specs.Numbers.{quotient, remainder, IsRemainder, is_zero};
+ghost use Rattle.tcloperators.specs.Numbers.{bits_of_both, bits_of_either, bits_of_one, other_bits};
+ghost use Rattle.tcloperators.specs.Numbers.{has_bit, just_one, MakesEachBit, IsGivenByBits};
+
+/// A quotient and its remainder make up the dividend, and the remainder has the divisor's sign and is nearer to 0. So
+/// the quotient is rounded down.
+pub fn division()
+    ensures whole { (a b : ℤ) → quotient a b *ℤ b +ℤ remainder a b ≡ a }
+    ensures rest { (a b : ℤ) → is_zero b ≡ false → IsRemainder b (remainder a b) }
+{}
+
+/// `&`, `|` and `^` of two numbers of 64 bits make a number of 64 bits, bit by bit: a bit is set where it is in both,
+/// in either, in just one. `~` sets the bits that a number doesn't have. A number of 64 bits is given by its bits.
+pub fn bits()
+    ensures both { MakesEachBit (λ x y. x && y) bits_of_both }
+    ensures either { MakesEachBit (λ x y. x || y) bits_of_either }
+    ensures one { MakesEachBit just_one bits_of_one }
+    ensures others { (a : ℤ) (k : ℕ) → has_bit (other_bits a) k ≡ not (has_bit a k) }
+    ensures given { IsGivenByBits }
+{}

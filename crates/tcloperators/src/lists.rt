@@ -1,0 +1,39 @@
+//! The elements of lists (list(n)).
+ghost use Rattle.std.specs.Prelude.{◌≡◌, map, bytes_eq, string_bytes};
+ghost use Rattle.std.specs.List.{list_any};
+ghost use Rattle.tcloperators.specs.Faults.{Gives};
+ghost use Rattle.tcloperators.specs.Elements.{elements_of, texts_in};
+
+use crate::fault::ValueFault;
+use crate::messages::not_a_list;
+use std::alloc::Global;
+use tclchars::TextFault;
+use tcllist::parse_list;
+
+/// The elements of a list.
+///
+/// Errors: `Text` where it is too long to be read, `TclError` where it is no list, `OutOfMemory`.
+pub fn elements(alloc: Global, list: &str) -> Result<Vec<String>, ValueFault>
+    ensures { Gives texts_in result (elements_of list.now) }
+{
+    match parse_list(alloc, list) {
+        Ok(elements) => Ok(elements),
+        Err(TextFault::OutOfMemory) => Err(ValueFault::OutOfMemory),
+        Err(TextFault::TooLong) => Err(ValueFault::Text(TextFault::TooLong)),
+        Err(_) => Err(not_a_list(alloc)),
+    }
+}
+
+/// Whether a text is one of others.
+pub fn is_among(texts: &[String], sought: &str) -> bool
+    ensures { result ≡ list_any (bytes_eq sought.now) (map string_bytes texts.now) }
+{
+    let mut rest = texts;
+    while let [text, after @ ..] = rest {
+        if sought == text.as_str() {
+            return true;
+        }
+        rest = after;
+    }
+    false
+}

@@ -1,0 +1,93 @@
+//! Errors that catch(n) sees.
+ghost use Rattle.std.specs.Prelude.{◌≡◌, ◌++◌, MatchResult, codes, string_bytes};
+ghost use Rattle.tcloperators.specs.Faults.{HasReason, error, left_out};
+ghost use Rattle.tcloperators.specs.Messages.{not_numeric, no_boolean, no_whole_number, bad_index, wrong_words};
+ghost use Rattle.tcloperators.specs.Messages.{divide_by_zero, negative_shift, not_a_list};
+ghost use Rattle.tcloperators.specs.declared.fault.ValueFault.TheVariants.{OutOfMemory};
+
+use crate::fault::ValueFault;
+use std::alloc::{AllocError, Global};
+
+/// The error with this message, or want of the memory for it.
+pub fn tcl_error(message: Result<String, AllocError>) -> ValueFault
+    ensures { MatchResult message (λ m. HasReason (error (string_bytes m)) result) (λ _. result ≡ OutOfMemory) }
+{
+    match message {
+        Ok(message) => ValueFault::TclError(message),
+        Err(_) => ValueFault::OutOfMemory,
+    }
+}
+
+/// A text stands where an operator wants a number.
+#[tactic(auto, unfolding(crate::specs::Messages::not_numeric))]
+pub fn not_numeric(alloc: Global, symbol: &str) -> ValueFault
+    ensures { HasReason (error (not_numeric symbol.now)) result }
+{
+    tcl_error(format!(in alloc; "can't use non-numeric text as operand of \"{symbol}\""))
+}
+
+/// A word is no truth value.
+#[tactic(auto, unfolding(crate::specs::Messages::no_boolean))]
+pub fn no_boolean(alloc: Global, word: &str) -> ValueFault
+    ensures { HasReason (error (no_boolean word.now)) result }
+{
+    tcl_error(format!(in alloc; "expected boolean value but got \"{word}\""))
+}
+
+/// A number is divided by 0.
+#[tactic(auto, unfolding(crate::specs::Messages::divide_by_zero))]
+pub fn divide_by_zero(alloc: Global) -> ValueFault
+    ensures { HasReason (error divide_by_zero) result }
+{
+    tcl_error(String::from_str(alloc, "divide by zero"))
+}
+
+/// A number is shifted by a negative count.
+#[tactic(auto, unfolding(crate::specs::Messages::negative_shift))]
+pub fn negative_shift(alloc: Global) -> ValueFault
+    ensures { HasReason (error negative_shift) result }
+{
+    tcl_error(String::from_str(alloc, "negative shift argument"))
+}
+
+/// A word is no index.
+#[tactic(auto, unfolding(crate::specs::Messages::bad_index))]
+pub fn bad_index(alloc: Global, word: &str) -> ValueFault
+    ensures { HasReason (error (bad_index word.now)) result }
+{
+    tcl_error(format!(in alloc; "bad index \"{word}\""))
+}
+
+/// A word is no whole number.
+#[tactic(auto, unfolding(crate::specs::Messages::no_whole_number))]
+pub fn no_whole_number(alloc: Global, word: &str) -> ValueFault
+    ensures { HasReason (error (no_whole_number word.now)) result }
+{
+    tcl_error(format!(in alloc; "expected whole number but got \"{word}\""))
+}
+
+/// A command has too few or too many words.
+#[tactic(auto, unfolding(crate::specs::Messages::wrong_words))]
+pub fn wrong_words(alloc: Global, name: &str) -> ValueFault
+    ensures { HasReason (error (wrong_words name.now)) result }
+{
+    tcl_error(format!(in alloc; "wrong # args for \"{name}\""))
+}
+
+/// A text is no list, or a list of the wrong length.
+#[tactic(auto, unfolding(crate::specs::Messages::not_a_list))]
+pub fn not_a_list(alloc: Global) -> ValueFault
+    ensures { HasReason (error not_a_list) result }
+{
+    tcl_error(String::from_str(alloc, "not a list"))
+}
+
+/// A subcommand or an option of `string` isn't computed.
+pub fn left_out(alloc: Global, word: &str) -> ValueFault
+    ensures { HasReason (left_out (codes "string " ++ word.now)) result }
+{
+    match format!(in alloc; "string {word}") {
+        Ok(name) => ValueFault::LeftOut(name),
+        Err(_) => ValueFault::OutOfMemory,
+    }
+}

@@ -1,0 +1,143 @@
+//! Arithmetic of two whole numbers (expr(n), OPERATORS).
+ghost use Rattle.std.specs.Prelude.{◌≡◌, ◌^◌, ◌*ℤ◌, pos};
+ghost use Rattle.tcloperators.specs.Faults.{Gives};
+ghost use Rattle.tcloperators.specs.Numbers as numbers;
+
+use crate::fault::ValueFault;
+use crate::messages::{divide_by_zero, negative_shift};
+use std::alloc::Global;
+
+/// Two whole numbers that an operator computes with.
+#[derive(Clone, Copy)]
+pub(crate) struct Operands {
+    pub(crate) left: i64,
+    pub(crate) right: i64,
+}
+
+impl Operands {
+    pub(crate) fn sum(self) -> Result<i64, ValueFault>
+        ensures { Gives (λ z. z) result (numbers.sum self.left self.right) }
+    {
+        self.left
+            .checked_add(self.right)
+            .ok_or(ValueFault::NumberTooLarge)
+    }
+
+    pub(crate) fn difference(self) -> Result<i64, ValueFault>
+        ensures { Gives (λ z. z) result (numbers.difference self.left self.right) }
+    {
+        self.left
+            .checked_sub(self.right)
+            .ok_or(ValueFault::NumberTooLarge)
+    }
+
+    pub(crate) fn product(self) -> Result<i64, ValueFault>
+        ensures { Gives (λ z. z) result (numbers.product self.left self.right) }
+    {
+        self.left
+            .checked_mul(self.right)
+            .ok_or(ValueFault::NumberTooLarge)
+    }
+
+    /// The quotient, rounded down.
+    pub(crate) fn quotient(self, alloc: Global) -> Result<i64, ValueFault>
+        ensures { Gives (λ z. z) result (numbers.divided self.left self.right) }
+    {
+        if self.right == 0 {
+            return Err(divide_by_zero(alloc));
+        }
+        let dividend = self.left.unsigned_abs();
+        let divisor = self.right.unsigned_abs();
+        if (self.left < 0) == (self.right < 0) {
+            signed(false, dividend / divisor)
+        } else {
+            signed(true, dividend.div_ceil(divisor))
+        }
+    }
+
+    /// What the quotient leaves, with the divisor's sign.
+    pub(crate) fn remainder(self, alloc: Global) -> Result<i64, ValueFault>
+        ensures { Gives (λ z. z) result (numbers.remaining self.left self.right) }
+    {
+        if self.right == 0 {
+            return Err(divide_by_zero(alloc));
+        }
+        let rest = self.left.wrapping_rem(self.right);
+        if rest == 0 {
+            return Ok(0);
+        }
+        if (rest < 0) == (self.right < 0) {
+            Ok(rest)
+        } else {
+            Ok(rest + self.right)
+        }
+    }
+
+    /// The left number times a power of two.
+    pub(crate) fn shifted_left(self, alloc: Global) -> Result<i64, ValueFault>
+        ensures { Gives (λ z. z) result (numbers.shifted_left self.left self.right) }
+    {
+        match u64::try_from(self.right) {
+            Ok(count) => doubled(self.left, count),
+            Err(_) => Err(negative_shift(alloc)),
+        }
+    }
+
+    /// The left number divided by a power of two, rounded down.
+    pub(crate) fn shifted_right(self, alloc: Global) -> Result<i64, ValueFault>
+        ensures { Gives (λ z. z) result (numbers.shifted_right self.left self.right) }
+    {
+        match u64::try_from(self.right) {
+            Ok(count) => Ok(halved(self.left, count)),
+            Err(_) => Err(negative_shift(alloc)),
+        }
+    }
+}
+
+/// The sum of two whole numbers.
+///
+/// Errors: `NumberTooLarge` where it lies outside 64 bits.
+pub fn sum(left: i64, right: i64) -> Result<i64, ValueFault>
+    ensures { Gives (λ z. z) result (numbers.sum left right) }
+{
+    Operands { left, right }.sum()
+}
+
+/// A number doubled so often.
+fn doubled(number: i64, times: u64) -> Result<i64, ValueFault>
+    ensures { Gives (λ z. z) result (numbers.within_64_bits (number *ℤ pos (2 ^ times))) }
+{
+    if number == 0 {
+        return Ok(0);
+    }
+    if times < 63 {
+        return number
+            .checked_mul(1 << times)
+            .ok_or(ValueFault::NumberTooLarge);
+    }
+    if number == -1 && times == 63 {
+        return Ok(i64::MIN);
+    }
+    Err(ValueFault::NumberTooLarge)
+}
+
+/// A number halved so often, rounded down.
+fn halved(number: i64, times: u64) -> i64
+    ensures { result ≡ numbers.quotient number (pos (2 ^ times)) }
+{
+    number >> times.min(63)
+}
+
+/// A whole number with this sign and size.
+fn signed(is_negative: bool, size: u64) -> Result<i64, ValueFault>
+    ensures { Gives (λ z. z) result (numbers.within_64_bits (numbers.signed is_negative size)) }
+{
+    if size <= i64::MAX as u64 {
+        let number = size as i64;
+        Ok(if is_negative { -number } else { number })
+    } else if is_negative && size == i64::MIN.unsigned_abs() {
+        Ok(i64::MIN)
+    } else {
+        Err(ValueFault::NumberTooLarge)
+    }
+}

@@ -1,0 +1,200 @@
+//! The operators of expressions on values (expr(n), OPERATORS).
+ghost use Rattle.std.specs.Prelude.{◌≡◌, neg_ℤ, Ok};
+ghost use Rattle.tclexpr.specs.Symbols.{binary_symbol};
+ghost use Rattle.tcloperators.specs.Faults.{Gives, GivesText};
+ghost use Rattle.tcloperators.specs.Numbers.{within_64_bits, other_bits};
+ghost use Rattle.tcloperators.specs.Operators.{unary_value, binary_value, truth_text, text_order, order_of, decimal_text};
+ghost use Rattle.tcloperators.specs.Operators.{whole_operand, whole_operands, number_operand, found_in};
+ghost use Rattle.tcloperators.specs.Views.{operands_view};
+
+use crate::fault::ValueFault;
+use crate::lists::{elements, is_among};
+use crate::messages::not_numeric;
+use crate::operands::Operands;
+use crate::truth_values::truth;
+use std::alloc::Global;
+use std::cmp::Ordering;
+use tcltext::{BinaryOperator, Numeral, UnaryOperator, read_number};
+
+/// The value of an operator before its operand: `-`, `+` and `~` want a whole number, `!` a truth value.
+///
+/// Errors: `NumberTooLarge` for an operand or a result outside 64 bits, `FractionOperand`, `TclError` for another text,
+/// `OutOfMemory`.
+pub fn unary(alloc: Global, op: UnaryOperator, operand: &str) -> Result<String, ValueFault>
+    ensures { GivesText result (unary_value op operand.now) }
+{
+    match op {
+        UnaryOperator::Minus => {
+            let number = whole_operand(alloc, op.symbol(), operand)?;
+            decimal_text(alloc, negated(number)?)
+        }
+        UnaryOperator::Plus => decimal_text(alloc, whole_operand(alloc, op.symbol(), operand)?),
+        UnaryOperator::Complement => {
+            let number = whole_operand(alloc, op.symbol(), operand)?;
+            decimal_text(alloc, other_bits(number))
+        }
+        UnaryOperator::Not => truth_text(alloc, !truth(alloc, operand)?),
+    }
+}
+
+/// The value of an operator between its operands. `eq` and `ne` compare texts, `in` and `ni` look for a text in a list.
+/// `==`, `!=` and the four orders compare as numbers where both sides are whole numbers, else as texts by their
+/// characters. All others want two whole numbers: a quotient is rounded down, a remainder has the divisor's sign, and
+/// the operators of bits take two's complement of 64 bits.
+///
+/// The operands are judged from the left: `NumberTooLarge` and `FractionOperand` for a number outside 64 bits and one
+/// with a fraction, `TclError` for a text where a number is wanted, and for a right side of `in` and `ni` that is no
+/// list (`Text` where it is too long). Then `TclError` is the error for a divisor 0 and a negative shift, and
+/// `NumberTooLarge` for a result outside 64 bits. `OutOfMemory` comes where memory runs out.
+pub fn binary(
+    alloc: Global,
+    op: BinaryOperator,
+    left: &str,
+    right: &str,
+) -> Result<String, ValueFault>
+    ensures { GivesText result (binary_value op left.now right.now) }
+{
+    match op {
+        BinaryOperator::TextEqual => truth_text(alloc, left == right),
+        BinaryOperator::TextNotEqual => truth_text(alloc, left != right),
+        BinaryOperator::In => truth_text(alloc, is_in(alloc, left, right)?),
+        BinaryOperator::NotIn => truth_text(alloc, !is_in(alloc, left, right)?),
+        BinaryOperator::Less => truth_text(alloc, order(left, right)?.is_lt()),
+        BinaryOperator::Greater => truth_text(alloc, order(left, right)?.is_gt()),
+        BinaryOperator::LessEqual => truth_text(alloc, order(left, right)?.is_le()),
+        BinaryOperator::GreaterEqual => truth_text(alloc, order(left, right)?.is_ge()),
+        BinaryOperator::Equal => truth_text(alloc, order(left, right)?.is_eq()),
+        BinaryOperator::NotEqual => truth_text(alloc, order(left, right)?.is_ne()),
+        BinaryOperator::Multiply => {
+            decimal_text(alloc, whole_operands(alloc, op, left, right)?.product()?)
+        }
+        BinaryOperator::Divide => {
+            decimal_text(
+                alloc,
+                whole_operands(alloc, op, left, right)?.quotient(alloc)?,
+            )
+        }
+        BinaryOperator::Remainder => {
+            decimal_text(
+                alloc,
+                whole_operands(alloc, op, left, right)?.remainder(alloc)?,
+            )
+        }
+        BinaryOperator::Add => decimal_text(alloc, whole_operands(alloc, op, left, right)?.sum()?),
+        BinaryOperator::Subtract => {
+            decimal_text(alloc, whole_operands(alloc, op, left, right)?.difference()?)
+        }
+        BinaryOperator::ShiftLeft => {
+            decimal_text(
+                alloc,
+                whole_operands(alloc, op, left, right)?.shifted_left(alloc)?,
+            )
+        }
+        BinaryOperator::ShiftRight => {
+            decimal_text(
+                alloc,
+                whole_operands(alloc, op, left, right)?.shifted_right(alloc)?,
+            )
+        }
+        BinaryOperator::BitAnd => {
+            let operands = whole_operands(alloc, op, left, right)?;
+            decimal_text(alloc, operands.left & operands.right)
+        }
+        BinaryOperator::BitXor => {
+            let operands = whole_operands(alloc, op, left, right)?;
+            decimal_text(alloc, operands.left ^ operands.right)
+        }
+        BinaryOperator::BitOr => {
+            let operands = whole_operands(alloc, op, left, right)?;
+            decimal_text(alloc, operands.left | operands.right)
+        }
+    }
+}
+
+/// Whether a text is an element of a list.
+fn is_in(alloc: Global, sought: &str, list: &str) -> Result<bool, ValueFault>
+    ensures { Gives (λ b. b) result (found_in sought.now list.now) }
+{
+    Ok(is_among(&elements(alloc, list)?, sought))
+}
+
+/// The whole number that an operand spells, for an operator with this symbol.
+fn whole_operand(alloc: Global, symbol: &str, text: &str) -> Result<i64, ValueFault>
+    ensures { Gives (λ z. z) result (whole_operand symbol.now text.now) }
+{
+    match read_number(text) {
+        Numeral::Whole(number) => Ok(number),
+        Numeral::TooLarge => Err(ValueFault::NumberTooLarge),
+        Numeral::Fraction => Err(ValueFault::FractionOperand),
+        Numeral::Text => Err(not_numeric(alloc, symbol)),
+    }
+}
+
+fn whole_operands(
+    alloc: Global,
+    op: BinaryOperator,
+    left: &str,
+    right: &str,
+) -> Result<Operands, ValueFault>
+    ensures { Gives operands_view result (whole_operands (binary_symbol op) left.now right.now) }
+{
+    let left = whole_operand(alloc, op.symbol(), left)?;
+    let right = whole_operand(alloc, op.symbol(), right)?;
+    Ok(Operands { left, right })
+}
+
+fn negated(number: i64) -> Result<i64, ValueFault>
+    ensures { Gives (λ z. z) result (within_64_bits (neg_ℤ number)) }
+{
+    number.checked_neg().ok_or(ValueFault::NumberTooLarge)
+}
+
+fn other_bits(number: i64) -> i64
+    ensures { result ≡ other_bits number }
+{
+    !number
+}
+
+/// The whole number that an operand spells, if it spells one.
+fn number_operand(text: &str) -> Result<Option<i64>, ValueFault>
+    ensures { Gives (λ n. n) result (number_operand text.now) }
+{
+    match read_number(text) {
+        Numeral::Whole(number) => Ok(Some(number)),
+        Numeral::TooLarge => Err(ValueFault::NumberTooLarge),
+        Numeral::Fraction => Err(ValueFault::FractionOperand),
+        Numeral::Text => Ok(None),
+    }
+}
+
+/// The order of two operands: as numbers where both are whole numbers, else as texts.
+fn order(left: &str, right: &str) -> Result<Ordering, ValueFault>
+    ensures { Gives (λ o. o) result (order_of left.now right.now) }
+{
+    let left_number = number_operand(left)?;
+    let right_number = number_operand(right)?;
+    match (left_number, right_number) {
+        (Some(a), Some(b)) => Ok(a.cmp(&b)),
+        _ => Ok(text_order(left, right)),
+    }
+}
+
+/// The order of two texts by their characters.
+pub fn text_order(left: &str, right: &str) -> Ordering
+    ensures { result ≡ text_order left.now right.now }
+{
+    left.chars().cmp(right.chars())
+}
+
+fn decimal_text(alloc: Global, number: i64) -> Result<String, ValueFault>
+    ensures { GivesText result (decimal_text number) }
+{
+    Ok(number.to_string(alloc)?)
+}
+
+/// A truth value as a text: 1 or 0.
+pub fn truth_text(alloc: Global, truth: bool) -> Result<String, ValueFault>
+    ensures { GivesText result (Ok (truth_text truth)) }
+{
+    Ok(String::from_str(alloc, if truth { "1" } else { "0" })?)
+}

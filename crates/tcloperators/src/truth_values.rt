@@ -1,0 +1,60 @@
+//! Truth values (expr(n), OPERANDS).
+ghost use Rattle.std.specs.Prelude.{◌≡◌};
+ghost use Rattle.tcloperators.specs.Faults.{Gives};
+ghost use Rattle.tcloperators.specs.Operators.{is_front, is_true_word, is_false_word, word_truth, truth};
+
+use crate::fault::ValueFault;
+use crate::messages::no_boolean;
+use std::alloc::Global;
+use tcltext::{Numeral, read_number};
+
+/// Whether a value is true: a whole number is unless it is 0. In any case of their letters the fronts of `true` and
+/// `yes`, and `on`, are true, and the fronts of `false` and `no`, and `of` and `off`, are false.
+///
+/// Errors: `NumberTooLarge` and `FractionOperand` for other numbers, `TclError` for any other text, `OutOfMemory` where
+/// memory for its message runs out.
+pub fn truth(alloc: Global, text: &str) -> Result<bool, ValueFault>
+    ensures { Gives (λ b. b) result (truth text.now) }
+{
+    match read_number(text) {
+        Numeral::Whole(number) => Ok(number != 0),
+        Numeral::TooLarge => Err(ValueFault::NumberTooLarge),
+        Numeral::Fraction => Err(ValueFault::FractionOperand),
+        Numeral::Text => word_truth(alloc, text),
+    }
+}
+
+fn word_truth(alloc: Global, word: &str) -> Result<bool, ValueFault>
+    ensures { Gives (λ b. b) result (word_truth word.now) }
+{
+    if is_true_word(word) {
+        Ok(true)
+    } else if is_false_word(word) {
+        Ok(false)
+    } else {
+        Err(no_boolean(alloc, word))
+    }
+}
+
+fn is_true_word(text: &str) -> bool
+    ensures { result ≡ is_true_word text.now }
+{
+    is_front("true", text) || is_front("yes", text) || text.eq_ignore_ascii_case("on")
+}
+
+fn is_false_word(text: &str) -> bool
+    ensures { result ≡ is_false_word text.now }
+{
+    is_front("false", text)
+        || is_front("no", text)
+        || text.eq_ignore_ascii_case("of")
+        || text.eq_ignore_ascii_case("off")
+}
+
+/// Whether a word begins with the text, which isn't empty, in any case of its letters.
+fn is_front(word: &str, text: &str) -> bool
+    ensures { result ≡ is_front word.now text.now }
+{
+    let length = text.len().min(word.len());
+    !text.is_empty() && word.as_bytes()[..length].eq_ignore_ascii_case(text.as_bytes())
+}

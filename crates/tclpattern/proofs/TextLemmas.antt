@@ -1,0 +1,60 @@
+-- Ends of lists, and the characters of texts.
+use Rattle.std.proofs.Common.{◌≡◌, ◌↔◌, ◌≤◌, ℕ, List, [], ◌∷◌, ◌++◌, length, Bool, true, false, IsTrue, refl, sym, ap, subst, ◌∙◌, arith, ◌⊎◌, inl, inr, length-append, append-nil, take, drop, take_at, drop_at}
+use Rattle.std.specs.Prelude.{encode_utf8, encode_utf8_all}
+use Rattle.std.specs.Str.{chars, IsUtf8}
+use Rattle.std.proofs.lemmas.Str.{chars-nil, chars-append, chars_past_char, encodes-chars, length-le-encodes, IsUtf8-drop, IsCharBoundary-from_take}
+use Rattle.tclpattern.specs.Search.Tails.{IsTail}
+
+pub text_same : (a b : List ℕ) → IsUtf8 a → IsUtf8 b → chars a ≡ chars b → a ≡ b
+text_same a b u v e = sym (encodes-chars a u) ∙ ap encode_utf8_all e ∙ encodes-chars b v
+
+pub chars_length : (bs : List ℕ) → IsUtf8 bs → length (chars bs) ≤ length bs
+chars_length bs u = omega (arith, length-le-encodes (chars bs), ap length (encodes-chars bs u))
+
+pub no_way : {P : Type 0} (t : Bool) → t ≡ false → IsTrue t ↔ P → P → ⊥
+no_way t e same p = never (sym e ∙ same.1 p) where
+  never : false ≡ true → ⊥
+  never h = cc
+
+-- Looking through the ends of a list
+pub tail_nil : (ts : List ℕ) → IsTail [] ts → ts ≡ []
+tail_nil ts h = nothing h.0 h.1 where
+  nothing : (front : List ℕ) → [] ≡ front ++ ts → ts ≡ []
+  nothing [] e = sym e
+  nothing (x ∷ front) e = cc
+
+pub tail_or_itself : (c : ℕ) (rest ts : List ℕ) → IsTail (c ∷ rest) ts → (ts ≡ c ∷ rest) ⊎ IsTail rest ts
+tail_or_itself c rest ts h = split h.0 h.1 where
+  split : (front : List ℕ) → c ∷ rest ≡ front ++ ts → (ts ≡ c ∷ rest) ⊎ IsTail rest ts
+  split [] e = inl (sym e)
+  split (x ∷ front) e = inr (front, same x front e) where
+    same : (x : ℕ) (front : List ℕ) → c ∷ rest ≡ x ∷ (front ++ ts) → rest ≡ front ++ ts
+    same x front e = cc
+
+-- an end for which P holds is an end of what is left
+abbrev pub AreLeft : (List ℕ → Type 0) → List ℕ → List ℕ → Type 0
+AreLeft P whole left = (ts : List ℕ) → IsTail whole ts → P ts → IsTail left ts
+
+pub left-more : (P : List ℕ → Type 0) (whole left : List ℕ) (c : ℕ) (rest : List ℕ) → left ≡ c ∷ rest → (P left → ⊥) → AreLeft P whole left → AreLeft P whole rest
+left-more P whole left c rest e none all = λ ts h p. cases ts p (tail_or_itself c rest ts (subst (λ xs. IsTail xs ts) e (all ts h p))) where
+  cases : (ts : List ℕ) → P ts → (ts ≡ c ∷ rest) ⊎ IsTail rest ts → IsTail rest ts
+  cases ts p (inl same) = absurd (none (subst P (same ∙ sym e) p))
+  cases ts p (inr tail) = tail
+
+pub left-end : (P : List ℕ → Type 0) (whole left : List ℕ) → left ≡ [] → (P left → ⊥) → AreLeft P whole left → (ts : List ℕ) → IsTail whole ts → P ts → ⊥
+left-end P whole left e none all ts h p = none (subst P (tail_nil ts (subst (λ xs. IsTail xs ts) e (all ts h p)) ∙ sym e) p)
+
+-- The last character of a text
+is_text_behind : (bs front back : List ℕ) → IsUtf8 bs → IsUtf8 front → bs ≡ front ++ back → IsUtf8 back
+is_text_behind bs front back u v e =
+    let n = length front in
+    let le : n ≤ length bs = omega (arith, length-append front back, ap length e) in
+    let cut = IsCharBoundary-from_take bs n u le (subst IsUtf8 (sym (ap (take n) e ∙ take_at front back n refl)) v) in
+    subst IsUtf8 (ap (drop n) e ∙ drop_at front back n refl) (IsUtf8-drop bs n u cut)
+
+chars_one : (c : ℕ) → IsUtf8 (encode_utf8 c) → chars (encode_utf8 c) ≡ c ∷ []
+chars_one c u = chars_past_char (encode_utf8 c) [] c u (sym (append-nil (encode_utf8 c))) ∙ ap (λ t. c ∷ t) chars-nil
+
+pub chars_before_char : (bs front : List ℕ) (c : ℕ) → IsUtf8 bs → IsUtf8 front → bs ≡ front ++ encode_utf8 c → chars bs ≡ chars front ++ c ∷ []
+chars_before_char bs front c u v e =
+    ap chars e ∙ chars-append front (encode_utf8 c) v ∙ ap (λ t. chars front ++ t) (chars_one c (is_text_behind bs front (encode_utf8 c) u v e))

@@ -1,0 +1,32 @@
+//! A bit for each tail of a pattern, by the number of its characters.
+ghost use Rattle.std.specs.Prelude.{◌≡◌, ◌≢◌, ℕ, ◌*◌, ◌<◌, ◌↔◌, length, IsTrue};
+ghost use Rattle.std.specs.Int.{bit_at};
+ghost use Rattle.tclpattern.specs.Search.Rows.{Has};
+
+/// Whether the bit is set.
+pub(crate) fn has(row: &[u64], at: usize) -> bool
+    requires { at < 64 * length row.now }
+    ensures { IsTrue result ↔ Has row.now at }
+{
+    (row[at / 64] >> (at % 64)) & 1 == 1
+}
+
+// The word with the bit set or cleared.
+fn with_bit(word: u64, at: usize, value: bool) -> u64
+    requires { at < 64 }
+    ensures here { (bit_at result at ≡ 1) ↔ IsTrue value }
+    ensures elsewhere { (k : ℕ) → k < 64 → k ≢ at → bit_at result k ≡ bit_at word k }
+{
+    let bit = 1u64 << at;
+    if value { word | bit } else { word & !bit }
+}
+
+/// Sets the bit or clears it.
+pub(crate) fn put(row: &mut [u64], at: usize, value: bool)
+    requires { at < 64 * length row.old }
+    ensures len { length row.new ≡ length row.old }
+    ensures here { Has row.new at ↔ IsTrue value }
+    ensures elsewhere { (k : ℕ) → k ≢ at → Has row.new k ↔ Has row.old k }
+{
+    row[at / 64] = with_bit(row[at / 64], at % 64, value);
+}

@@ -1,0 +1,88 @@
+//! The search for a match by a row of bits, one for each tail of the pattern: whether it matches what is left of the
+//! text. Each character of the text, from the last to the first, makes a new row in the place of the old one.
+ghost use Rattle.std.specs.Prelude.{◌≡◌, ◌↔◌, ℕ, List, [], ◌∷◌, ◌*◌, ◌^◌, ◌<◌, length, IsTrue};
+ghost use Rattle.std.specs.Str.{chars};
+ghost use Rattle.tclpattern.specs.Patterns.{star, IsMatch};
+ghost use Rattle.tclpattern.specs.Search.Rows.{RowOf};
+
+use crate::reading::split_last;
+use crate::row::{has, put};
+use crate::tail::Window;
+
+// Whether nothing but stars stands in a tail, with the character in front of it.
+fn are_stars(p: char, stars: bool) -> bool
+    ensures { IsTrue result ↔ ((p ≡ star) × IsTrue stars) }
+{
+    p == '*' && stars
+}
+
+// Fills the row for the end of the text; whether the whole pattern matches there.
+fn fill(pattern: &str, row: &mut [u64]) -> bool
+    requires { length pattern.now < 64 * length row.old }
+    ensures len { length row.new ≡ length row.old }
+    ensures row { RowOf (chars pattern.now) [] row.new }
+    ensures whole { IsTrue result ↔ IsMatch (chars pattern.now) [] }
+{
+    let mut front = pattern;
+    let mut at = 0;
+    let mut stars = true;
+    put(row, 0, true);
+    while let Some((rest, p)) = split_last(front) {
+        at += 1;
+        stars = are_stars(p, stars);
+        put(row, at, stars);
+        front = rest;
+    }
+    stars
+}
+
+// Makes the row for the text with one more character in front; whether the whole pattern matches that.
+fn sweep(pattern: &str, c: char, row: &mut [u64]) -> bool
+    requires { length pattern.now < 64 * length row.old }
+    ensures len { length row.new ≡ length row.old }
+    ensures row { (cs : List ℕ) → RowOf (chars pattern.now) cs row.old
+        → RowOf (chars pattern.now) (c ∷ cs) row.new }
+    ensures whole { (cs : List ℕ) → RowOf (chars pattern.now) cs row.old
+        → IsTrue result ↔ IsMatch (chars pattern.now) (c ∷ cs) }
+{
+    let mut front = pattern;
+    let mut at = 0;
+    let mut window = Window::at_end(has(row, 0));
+    put(row, 0, false);
+    while let Some((rest, p)) = split_last(front) {
+        at += 1;
+        window = window.before(p, c, has(row, at));
+        put(row, at, window.takes);
+        front = rest;
+    }
+    window.takes
+}
+
+// Whether the pattern behind a star matches, by a row that has a bit for each of its tails.
+fn search(pattern: &str, text: &str, row: &mut [u64]) -> bool
+    requires { length pattern.now < 64 * length row.old }
+    ensures { IsTrue result ↔ IsMatch (star ∷ chars pattern.now) (chars text.now) }
+{
+    if fill(pattern, row) {
+        return true;
+    }
+    let mut rest = text;
+    while let Some((front, c)) = split_last(rest) {
+        if sweep(pattern, c, row) {
+            return true;
+        }
+        rest = front;
+    }
+    false
+}
+
+/// Whether the pattern behind a star matches, by a row of so many words.
+#[inline(never)]
+pub(crate) fn matches_by_row<const WORDS: usize>(pattern: &str, text: &str) -> bool
+    requires len { length pattern.now < 64 * WORDS }
+    requires small { WORDS < 2 ^ 32 }
+    ensures { IsTrue result ↔ IsMatch (star ∷ chars pattern.now) (chars text.now) }
+{
+    let mut row = [0u64; WORDS];
+    search(pattern, text, &mut row)
+}

@@ -1,0 +1,11 @@
+pub mod Outcomes
+pub mod Consultations
+pub mod Plays
+pub mod Computed
+pub mod Seen
+pub mod Totals
+pub mod Shrinking
+pub mod FileEnds
+pub mod Recorded
+pub mod Leading
+pub mod Plenty

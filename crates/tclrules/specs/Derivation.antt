@@ -1,0 +1,127 @@
+-- Derivations: what a plan comes to, for every table of rules. A plan says what is counted, asked and run, and in which order; a table
+-- gives a plan for each job. The oracle and the limit on commands stand here alone.
+use Rattle.std.specs.Prelude.{◌≡◌, ℕ, ◌+◌, ◌<◌, ◌≤◌, ◌⊎◌, ◌||◌, Bool, true, false, List, Option}
+use Rattle.tclchars.specs.Runs.{Text}
+use Rattle.tclchars.specs.declared.fault.TextFault.{TextFault}
+use Rattle.tclrules.specs.Oracle as host
+use Rattle.tclrules.specs.Oracle.{Record, Told, Answer, Done, Unknown, Refused, Oracle, tell, is_question, is_refusal, records_with, addition}
+
+-- what nothing catches
+pub data Halt : Type 0 where
+  OutOfMemory : Halt
+  BadText : TextFault → Halt
+  TooManyCommands : Halt
+  TooDeep : Halt
+  ValueTooLong : Halt
+  NumberTooLarge : Halt
+  FractionOperand : Halt
+  LeftOut : Text → Halt
+  Stopped : Halt
+  ByHost : ℕ → Halt
+
+pub data Outcome (R : Type 0) : Type 0 where
+  Ended : R → Outcome R
+  Halted : Halt → Outcome R
+
+-- what a host says to a command that it neither leaves out nor refuses
+pub data Reply : Type 0 where
+  Says : Text → Reply
+  NotKnown : Reply
+
+pub data Plan (J R : Type 0) : Type 0 where
+  -- the outcome is known
+  Ends : Outcome R → Plan J R
+  -- a command or a turn is counted first
+  Counts : Plan J R → Plan J R
+  -- the words of a command go to the host, whose reply decides
+  Consults : List Text → (Reply → Plan J R) → Plan J R
+  -- an environment variable is read, whose value decides
+  Reads : Text → (Option Text → Plan J R) → Plan J R
+  -- a job runs, whose result decides
+  Runs : J → (R → Plan J R) → Plan J R
+
+-- how many commands and turns were counted, and what the host was told
+pub record World : Type 0 where
+  pub used : ℕ
+  pub told : Told
+
+abbrev pub count : World → World
+count w = record { used = w.used + 1; told = w.told }
+
+abbrev pub hear : World → Answer → World
+hear w a = record { used = w.used; told = tell w.told a }
+
+-- reading the environment is a question
+abbrev pub ask_told : Told → Told
+ask_told t = record { records = t.records; messages = t.messages; asked = true }
+
+-- what is told where something was perhaps asked, and no more
+abbrev pub perhaps_asked : Bool → Told → Told
+perhaps_asked asked t = record { records = t.records; messages = t.messages; asked = asked || t.asked }
+
+abbrev pub ask : World → World
+ask w = record { used = w.used; told = ask_told w.told }
+
+abbrev pub perhaps_ask : Bool → World → World
+perhaps_ask asked w = record { used = w.used; told = perhaps_asked asked w.told }
+
+-- what is left to do after an answer
+abbrev pub replied : {J R : Type 0} → (Reply → Plan J R) → Answer → Plan J R
+replied k (Done text adds asks) = k (Says text)
+replied k (Unknown asks) = k NotKnown
+replied k (host.LeftOut name asks) = Ends (Halted (LeftOut name))
+replied k (Refused n asks) = Ends (Halted (ByHost n))
+
+-- derivations: a plan comes from one world to an outcome and another world. Where it may starve, want of memory can end it anywhere;
+-- a host that wants memory may have set the mark before
+pub data Eval {J R : Type 0} (starving : Bool) (oracle : Oracle) (most : ℕ) (rule : J → Plan J R) : Plan J R → World → Outcome R → World → Type 0 where
+  ends : {o : Outcome R} {w : World} → Eval starving oracle most rule (Ends o) w o w
+  counts : {p : Plan J R} {w w' : World} {o : Outcome R} → w.used < most → Eval starving oracle most rule p (count w) o w' → Eval starving oracle most rule (Counts p) w o w'
+  over : {p : Plan J R} {w : World} → most ≤ w.used → Eval starving oracle most rule (Counts p) w (Halted TooManyCommands) w
+  consults : {words : List Text} {k : Reply → Plan J R} {w w' : World} {o : Outcome R} → Eval starving oracle most rule (replied k (oracle.command w.told.records words)) (hear w (oracle.command w.told.records words)) o w' → Eval starving oracle most rule (Consults words k) w o w'
+  reads : {name : Text} {k : Option Text → Plan J R} {w w' : World} {o : Outcome R} → Eval starving oracle most rule (k (oracle.variable w.told.records name)) (ask w) o w' → Eval starving oracle most rule (Reads name k) w o w'
+  runs : {j : J} {k : R → Plan J R} {w w' w'' : World} {r : R} {o : Outcome R} → Eval starving oracle most rule (rule j) w (Ended r) w' → Eval starving oracle most rule (k r) w' o w'' → Eval starving oracle most rule (Runs j k) w o w''
+  halts : {j : J} {k : R → Plan J R} {w w' : World} {f : Halt} → Eval starving oracle most rule (rule j) w (Halted f) w' → Eval starving oracle most rule (Runs j k) w (Halted f) w'
+  starves : {p : Plan J R} {w : World} (asked : Bool) → starving ≡ true → Eval starving oracle most rule p w (Halted OutOfMemory) (perhaps_ask asked w)
+
+-- what a host is consulted for
+pub data Query : Type 0 where
+  Command : List Text → Query
+  Variable : Text → Query
+
+-- this holds of each consultation of a derivation, with the records so far
+abbrev pub Throughout : {J R : Type 0} {starving : Bool} {oracle : Oracle} {most : ℕ} {rule : J → Plan J R} {p : Plan J R} {w : World} {o : Outcome R} {w' : World} → (List Record → Query → Type 0) → Eval starving oracle most rule p w o w' → Type 0
+Throughout Holds ends = Unit {0}
+Throughout Holds (counts h d) = Throughout Holds d
+Throughout Holds (over h) = Unit {0}
+Throughout Holds (consults {words = words} {w = w} d) = Holds w.told.records (Command words) × Throughout Holds d
+Throughout Holds (reads {name = name} {w = w} d) = Holds w.told.records (Variable name) × Throughout Holds d
+Throughout Holds (runs d c) = Throughout Holds d × Throughout Holds c
+Throughout Holds (halts d) = Throughout Holds d
+Throughout Holds (starves asked h) = Unit {0}
+
+-- the second oracle answers as the first does, or refuses
+abbrev pub AnswersOrRefuses : Oracle → Oracle → List Record → Query → Type 0
+AnswersOrRefuses first second records (Command words) = (second.command records words ≡ first.command records words) ⊎ ((n : ℕ) × (asks : Bool) × (second.command records words ≡ Refused n asks))
+AnswersOrRefuses first second records (Variable name) = second.variable records name ≡ first.variable records name
+
+-- a consultation that isn't refused
+abbrev pub IsUnrefused : Oracle → List Record → Query → Type 0
+IsUnrefused oracle records (Command words) = is_refusal (oracle.command records words) ≡ false
+IsUnrefused oracle records (Variable name) = Unit {0}
+
+-- whether a consultation is a question
+abbrev pub asks : Oracle → List Record → Query → Bool
+asks oracle records (Command words) = is_question (oracle.command records words)
+asks oracle records (Variable name) = true
+
+-- where the first oracle is asked no question and doesn't refuse, the second answers as it does, or refuses
+abbrev pub AgreesUnasked : Oracle → Oracle → Type 0
+AgreesUnasked first second =
+    (records : List Record) (words : List Text) → is_question (first.command records words) ≡ false → is_refusal (first.command records words) ≡ false
+    → AnswersOrRefuses first second records (Command words)
+
+-- records that the oracle's answers to commands make of others
+pub data Grows (oracle : Oracle) : List Record → List Record → Type 0 where
+  none : {rs : List Record} → Grows oracle rs rs
+  more : {rs qs : List Record} (words : List Text) → Grows oracle (records_with rs (addition (oracle.command rs words))) qs → Grows oracle rs qs

@@ -1,0 +1,94 @@
+-- Expressions (expr(n)): what is evaluated of them, and in which order.
+use Rattle.std.specs.Prelude.{[], ◌∷◌, Bool, true, false, not, ◌||◌, ◌&&◌, nat_le, if◌then◌else◌, Option, Some, None, Result, Ok, Err, codes, drop, bytes_eq}
+use Rattle.std.specs.Fmt.{signed_decimal}
+use Rattle.tclchars.specs.Runs.{Text, front, back, begins}
+use Rattle.tclchars.specs.Classes.{is_name}
+use Rattle.tclchars.specs.BracedText.{braced_text}
+use Rattle.tclchars.specs.declared.fault.TextFault.{TextFault}
+use Rattle.tclchars.specs.declared.fault.TextFault.TheVariants.{BadExpression}
+use Rattle.tcltext.specs.Numerals.{numeral}
+use Rattle.tcltext.specs.declared.number.Numeral.{Numeral}
+use Rattle.tcltext.specs.declared.number.Numeral.TheVariants as numerals
+use Rattle.tclexpr.specs.Tree.{Expr, operand, unary, binary, conjunction, disjunction, choice}
+use Rattle.tclexpr.specs.Operands as operands
+use Rattle.tclexpr.specs.Operands.{Operand}
+use Rattle.tclexpr.specs.Text.{expr_of}
+use Rattle.tclvalue.specs.Faults as value
+use Rattle.tclvalue.specs.Faults.{Answer, number_too_large, fraction, left_out}
+use Rattle.tclvalue.specs.Indexes.{after_front}
+use Rattle.tclvalue.specs.Operators.{truth, truth_text, unary_value, binary_value}
+use Rattle.tclrules.specs.Derivation.{Runs}
+use Rattle.tclrules.specs.Variables.{State}
+use Rattle.tclrules.specs.Plans.{Bounds, Step, Next, Bracket, on_normal, given, sized}
+use Rattle.tclrules.specs.Words.{parts, read, read_element}
+
+-- Texts
+
+-- a word that is no operator, directly before a parenthesis, is the name of a function; ** and functions are left out
+abbrev pub begins_letter : Text → Bool
+begins_letter [] = false
+begins_letter (b ∷ bs) = is_name b && not (nat_le 48 b && nat_le b 57)
+
+abbrev pub is_operator : Text → Bool
+is_operator t = bytes_eq t (codes "eq") || bytes_eq t (codes "ne") || bytes_eq t (codes "in") || bytes_eq t (codes "ni")
+
+abbrev pub function_named : Text → Option Text
+function_named t =
+    if begins_letter t && begins 40 (back is_name t) && not (is_operator (front is_name t)) then Some (front is_name t) else None
+
+abbrev pub or_function : Text → Option Text → Option Text
+or_function t (Some rest) = Some (codes "**")
+or_function t None = function_named t
+
+abbrev pub omitted_at : Text → Option Text
+omitted_at t = or_function t (after_front (codes "**") t)
+
+abbrev pub or_omitted : TextFault → Option Text → value.Reason
+or_omitted f (Some name) = left_out name
+or_omitted f None = value.text f
+
+abbrev pub fault_of : Text → TextFault → value.Reason
+fault_of t (BadExpression at) = or_omitted (BadExpression at) (omitted_at (drop at t))
+fault_of t f = value.text f
+
+abbrev pub parsed : Text → Result (Expr Operand) TextFault → Answer (Expr Operand)
+parsed t (Ok e) = Ok e
+parsed t (Err f) = Err (fault_of t f)
+
+-- Values
+
+abbrev pub operand_value : Bounds → Operand → State → Next → Step
+operand_value b (operands.number t) s k = k t s
+operand_value b (operands.word t) s k = k t s
+operand_value b (operands.variable name) s k = read name s k
+operand_value b (operands.indexed name ps) s k = parts b ps [] s (λ index s'. read_element name index s' k)
+operand_value b (operands.bracket cs) s k = Runs (Bracket b.left cs s) (on_normal k)
+operand_value b (operands.quoted ps) s k = parts b ps [] s k
+operand_value b (operands.braced t) s k = k (braced_text t) s
+
+-- an operator's operands from left to right; && and the double bar go on to the second operand, and ? to one of the others, by the truth of the first
+abbrev pub expr : Bounds → Expr Operand → State → Next → Step
+expr b (operand o) s k = operand_value b o s (λ t s'. sized b.bytes t (k t s'))
+expr b (unary u e) s k = expr b e s (λ t s'. given (unary_value u t) s' (λ v. k v s'))
+expr b (binary o l r) s k = expr b l s (λ t s1. expr b r s1 (λ u s2. given (binary_value o t u) s2 (λ v. k v s2)))
+expr b (conjunction l r) s k =
+    expr b l s (λ t s1. given (truth t) s1 (elim [ true ↦ expr b r s1 (λ u s2. given (truth u) s2 (λ v. k (truth_text v) s2)) | false ↦ k (codes "0") s1 ]))
+expr b (disjunction l r) s k =
+    expr b l s (λ t s1. given (truth t) s1 (elim [ true ↦ k (codes "1") s1 | false ↦ expr b r s1 (λ u s2. given (truth u) s2 (λ v. k (truth_text v) s2)) ]))
+expr b (choice c y n) s k =
+    expr b c s (λ t s1. given (truth t) s1 (elim [ true ↦ expr b y s1 k | false ↦ expr b n s1 k ]))
+
+-- the value of a whole expression: a whole number in decimal, any other text as it is
+abbrev pub normal : Text → Numeral → Answer Text
+normal t (numerals.Whole z) = Ok (signed_decimal z)
+normal t numerals.TooLarge = Err number_too_large
+normal t numerals.Fraction = Err fraction
+normal t numerals.Text = Ok t
+
+-- a text evaluated as an expression
+abbrev pub express : Bounds → Text → State → Next → Step
+express b t s k = given (parsed t (expr_of t)) s (λ e. expr b e s (λ v s'. given (normal v (numeral v)) s' (λ u. sized b.bytes u (k u s'))))
+
+-- and as a condition
+abbrev pub decide : Bounds → Text → State → (Bool → State → Step) → Step
+decide b t s k = express b t s (λ v s'. given (truth v) s' (λ holds. k holds s'))

@@ -1,0 +1,62 @@
+-- What an evaluation of a script comes to.
+use Rattle.std.specs.Prelude.{◌≡◌, ℕ, ◌+◌, ◌==◌, ◌<◌, ◌⊎◌, Bool, true, false, List, min, count_by, take}
+use Rattle.tclchars.specs.Runs.{Text}
+use Rattle.tclrules.specs.Oracle.{Record, Oracle, Told, records_with, addition}
+use Rattle.tclrules.specs.Derivation.{ByHost, Outcome, Halted, World, Eval}
+use Rattle.tclrules.specs.Playing.{Played, play}
+use Rattle.tclrules.specs.Variables.{Variables, start}
+use Rattle.tclrules.specs.Plans.{Ending, Step}
+use Rattle.tclrules.specs.Rules.{rule, file}
+use Rattle.tclrules.specs.declared.limits.Limits.{Limits}
+
+-- a depth above 200 counts as 200
+abbrev pub plan_of : Limits → Text → Variables → Step
+plan_of l script globals = file (min l.depth 200) script (start globals)
+
+-- nothing counted yet
+abbrev pub first : Told → World
+first told = record { used = 0; told = told }
+
+-- the outcome of a script with these global variables, and the world then, from what was told before. Want of memory may end it early
+-- only where it may starve
+abbrev pub Comes : Bool → Limits → Text → Variables → Oracle → Told → Outcome Ending → World → Type 0
+Comes starving l script globals oracle told o w = Eval starving oracle l.commands (rule l.value_bytes) (plan_of l script globals) (first told) o w
+
+-- the line, from 1, of a place in a script, which is a count of bytes before it
+abbrev pub line_at : Text → ℕ → ℕ
+line_at script place = 1 + count_by (λ b. b == 10) (take place script)
+
+-- For laws
+
+-- a script, and all that its outcome hangs on
+pub record Setting : Type 0 where
+  pub limits : Limits
+  pub script : Text
+  pub globals : Variables
+  pub oracle : Oracle
+  pub told : Told
+
+abbrev pub ComesTo : Setting → Outcome Ending → World → Type 0
+ComesTo s o w = Comes false s.limits s.script s.globals s.oracle s.told o w
+
+abbrev pub limited_to : ℕ → Setting → Setting
+limited_to n s = record s { limits = record s.limits { commands = n } }
+
+abbrev pub with_oracle : Oracle → Setting → Setting
+with_oracle oracle s = record s { oracle = oracle }
+
+-- however many commands and turns are counted, under some limit more are
+abbrev pub HasNoEnd : Setting → Type 0
+HasNoEnd s = (n : ℕ) → (m : ℕ) × (o : Outcome Ending) × (w : World) × ComesTo (limited_to m s) o w × (n < w.used)
+
+-- the second outcome is the first, or a refusal by the host
+abbrev pub IsSameOrRefused : Outcome Ending → World → Outcome Ending → World → Type 0
+IsSameOrRefused o w o2 w2 = ((o2 ≡ o) × (w2 ≡ w)) ⊎ ((n : ℕ) × (o2 ≡ Halted (ByHost n)))
+
+-- what holds of records holds with what an answer adds
+abbrev pub Keeps : Oracle → (List Record → Bool) → Type 0
+Keeps oracle holds = (rs : List Record) (words : List Text) → holds rs ≡ true → holds (records_with rs (addition (oracle.command rs words))) ≡ true
+
+-- a script played, in so many steps of the longest way
+abbrev pub play_file : Setting → ℕ → Played Ending
+play_file s steps = play s.oracle s.limits.commands (rule s.limits.value_bytes) steps (plan_of s.limits s.script s.globals) (first s.told)

@@ -1,0 +1,40 @@
+-- The oracle of the example host.
+use Rattle.std.specs.Prelude.{false, true, List, [], ◌∷◌, ◌++◌, if◌then◌else◌, Option, Some, None, map, string_bytes, codes, bytes_eq, String}
+use Rattle.std.specs.declared.vec.Vec.{Vec}
+use Rattle.std.specs.declared.alloc.Global.{Global}
+use Rattle.tclchars.specs.Runs.{Text}
+use Rattle.tclrules.specs.Oracle.{Record, Nothing, Kept, Message, Answer, Done, Unknown, Refused}
+use Rattle.tclrules.specs.Variables.{Variables, lookup}
+
+abbrev pub record_texts : Vec (String Global) Global → Record
+record_texts r = map string_bytes r.items
+
+abbrev pub pair_texts : List (String Global × String Global) → Variables
+pair_texts vs = map (λ v. (string_bytes v.0, string_bytes v.1)) vs
+
+-- puts ?-nonewline? stderr t: the message is t, with a newline behind it unless there is an option
+abbrev pub message_in : Record → Option Text
+message_in (name ∷ channel ∷ t ∷ []) = Some (t ++ codes "\n")
+message_in (name ∷ option ∷ channel ∷ t ∷ []) = Some t
+message_in words = None
+
+abbrev pub said : Option Text → Answer
+said (Some t) = Done [] (Message t) false
+said None = Unknown false
+
+-- setenv is kept, puts is said, the mode is a question, conflict is refused, and nothing else is known
+abbrev pub named_answer : Text → Text → Record → Answer
+named_answer mode name words =
+    if bytes_eq name (codes "setenv") then Done [] (Kept words) false
+    else if bytes_eq name (codes "puts") then said (message_in words)
+    else if bytes_eq name (codes "mode") then Done mode Nothing true
+    else if bytes_eq name (codes "conflict") then Refused 51 false
+    else Unknown false
+
+abbrev pub answer_of : Text → List Record → List Text → Answer
+answer_of mode records [] = Unknown false
+answer_of mode records (name ∷ words) = named_answer mode name (name ∷ words)
+
+-- the environment stays as it is
+abbrev pub value_in : Variables → List Record → Text → Option Text
+value_in environment records name = lookup environment name

@@ -1,0 +1,328 @@
+-- The table of rules: what each form of command does (the page of each command), one clause a form, and what each job is.
+use Rattle.std.specs.Prelude.{ℕ, List, [], ◌∷◌, ◌++◌, Bool, true, false, ◌&&◌, if◌then◌else◌, length, Option, Some, None, Result, Ok, Err, codes, bytes_eq, drop}
+use Rattle.std.specs.Fmt.{signed_decimal}
+use Rattle.std.specs.Option.{unwrap_or}
+use Rattle.std.specs.List.{list_all}
+use Rattle.tclchars.specs.Runs.{Text}
+use Rattle.tclchars.specs.declared.fault.TextFault.{TextFault}
+use Rattle.tclscript.specs.Tree.{Commands, no_commands, command}
+use Rattle.tclscript.specs.Text.{script_of}
+use Rattle.tcllist.specs.Lists.{list_text}
+use Rattle.tclvalue.specs.Faults.{Answer, ◌>>=◌, error}
+use Rattle.tclvalue.specs.Messages.{wrong_words, not_a_list}
+use Rattle.tclvalue.specs.Elements.{elements_of}
+use Rattle.tclvalue.specs.Indexes.{count_of}
+use Rattle.tclvalue.specs.Numbers.{sum}
+use Rattle.tclvalue.specs.Characters.{joined, concatenated}
+use Rattle.tclvalue.specs.Globs.{glob}
+use Rattle.tclvalue.specs.Commands.{command_value}
+use Rattle.tclrules.specs.Derivation.{BadText, LeftOut, Stopped, Counts, Consults, Reads, Runs, Reply, Says, NotKnown}
+use Rattle.tclrules.specs.Messages.{no_command, not_to_unset, outside_loop, no_loop_variable, is_taken}
+use Rattle.tclrules.specs.Names.{is_among, left_out_commands, is_kept}
+use Rattle.tclrules.specs.Variables.{Place, Plain, Element, Parameter, Procedure, Frame, State, in_frame, lookup, store, env, place_named, writable, value_at, with_value, without_value, sharable, shared_in}
+use Rattle.tclrules.specs.Forms.{Form, Get, Set, Unset, Append, ListAppend, Increase, Express, If, While, For, Foreach, Switch, Define, Return, Break, Continue, Exit, Error, Catch, Exists, Global, Put, increase_of, core_form}
+use Rattle.tclrules.specs.Plans as job
+use Rattle.tclrules.specs.Plans.{Ending, Normal, Raised, Returned, Broken, Continued, Items, Job, File, Script, Bracket, Step, Next, Bounds, ended, halt, raise, on_normal, given, sized, begin, inside}
+use Rattle.tclrules.specs.Words.{words, read}
+use Rattle.tclrules.specs.Expressions.{express, decide}
+
+abbrev pub is_empty : {A : Type 0} → List A → Bool
+is_empty [] = true
+is_empty (x ∷ xs) = false
+
+-- Variables
+
+-- writes a variable at its place, and goes on with its value
+abbrev pub write_at : Bounds → Bool × Text → Text → State → Next → Step
+write_at b p value s k = sized b.bytes value (k value (with_value s p value))
+
+abbrev pub write : Bounds → Text → Text → State → Next → Step
+write b name value s k = given (writable s name) s (λ p. write_at b p value s k)
+
+-- the value, or this one where there is none
+abbrev pub value_or : Text → State → Bool × Text → Text
+value_or default s p = unwrap_or (value_at s p) default
+
+-- unset: an absent variable is an error without -nocomplain; those before it stay unset
+abbrev pub unset_at : Bool → Text → State → Bool × Text → (State → Step) → Option Text → Step
+unset_at quiet name s p k (Some value) = k (without_value s p)
+unset_at true name s p k None = k s
+unset_at false name s p k None = raise (not_to_unset name) s
+
+abbrev pub unset : Bool → List Text → State → (State → Step) → Step
+unset quiet [] s k = k s
+unset quiet (v ∷ vs) s k = given (writable s v) s (λ p. unset_at quiet v s p (λ s'. unset quiet vs s' k) (value_at s p))
+
+-- global: outside a procedure without effect, and nothing is judged
+abbrev pub share : List Text → State → (State → Step) → Step
+share [] s k = k s
+share (v ∷ vs) s k = given (place_named s v >>= sharable) s (λ name. share vs (in_frame s (shared_in s.frame name)) k)
+
+abbrev pub share_from : Option Frame → List Text → State → (State → Step) → Step
+share_from None vs s k = k s
+share_from (Some f) vs s k = share vs s k
+
+-- lappend: the list writing of the old elements and the new
+abbrev pub lengthened : Text → List Text → Answer Text
+lengthened old xs = elements_of old >>= (λ es. Ok (list_text (es ++ xs)))
+
+-- incr: the old value is judged before what is added
+abbrev pub increased : Text → Text → Answer Text
+increased old n = count_of old >>= (λ a. count_of n >>= (λ b. sum a b >>= (λ z. Ok (signed_decimal z))))
+
+-- info exists: the environment is asked for an element of env, where env is seen
+abbrev pub is_there : State → Next → Option Text → Step
+is_there s k None = k (codes "0") s
+is_there s k (Some value) = k (codes "1") s
+
+abbrev pub exists_at : State → Next → Place → Step
+exists_at s k (Plain true name) = if bytes_eq name env then k (codes "1") s else is_there s k (value_at s (true, name))
+exists_at s k (Plain false name) = is_there s k (value_at s (false, name))
+exists_at s k (Element true x) = Reads x (is_there s k)
+exists_at s k (Element false x) = k (codes "0") s
+
+-- Bodies
+
+-- a text evaluated as a script, with what goes on after each ending
+abbrev pub body : Bounds → Text → State → (Ending → Step) → Step
+body b t s k = Runs (Script b.left t s) k
+
+-- if: the first body whose condition holds, or the last; without one the result is empty
+abbrev pub otherwise : Bounds → Option Text → State → Next → Step
+otherwise b None s k = k [] s
+otherwise b (Some t) s k = body b t s (on_normal k)
+
+abbrev pub branches : Bounds → List (Text × Text) → Option Text → State → Next → Step
+branches b [] other s k = otherwise b other s k
+branches b (p ∷ ps) other s k = decide b p.0 s (elim [ true ↦ (λ s'. body b p.1 s' (on_normal k)) | false ↦ (λ s'. branches b ps other s' k) ])
+
+-- what a turn of a loop goes on with: break ends the loop, continue the turn
+abbrev pub after_turn : (State → Step) → Ending → Step
+after_turn again (Normal t s) = again s
+after_turn again (Continued s) = again s
+after_turn again (Broken s) = ended (Normal [] s)
+after_turn again (Raised m s) = ended (Raised m s)
+after_turn again (Returned t s) = ended (Returned t s)
+
+-- and the script between the turns of for: break ends the loop, continue is for a loop outside
+abbrev pub after_next : (State → Step) → Ending → Step
+after_next again (Normal t s) = again s
+after_next again (Broken s) = ended (Normal [] s)
+after_next again (Continued s) = ended (Continued s)
+after_next again (Raised m s) = ended (Raised m s)
+after_next again (Returned t s) = ended (Returned t s)
+
+-- a turn is counted as its body begins
+abbrev pub turn : Bounds → Text → State → (State → Step) → Step
+turn b t s again = Counts (body b t s (after_turn again))
+
+-- the turns of a loop that are left
+abbrev pub while_turns : Bounds → Text → Text → State → Step
+while_turns b c t s = decide b c s (elim [ true ↦ (λ s'. turn b t s' (λ s''. Runs (job.While b.left c t s'') ended)) | false ↦ (λ s'. ended (Normal [] s')) ])
+
+abbrev pub for_turns : Bounds → Text → Text → Text → State → Step
+for_turns b c n t s =
+    decide b c s
+    (elim [ true ↦ (λ s1. turn b t s1 (λ s2. body b n s2 (after_next (λ s3. Runs (job.For b.left c n t s3) ended)))) | false ↦ (λ s1. ended (Normal [] s1)) ])
+
+-- foreach: the names of each list, one at least, and its items are judged before the first turn
+abbrev pub named : List Text → Answer (List Text)
+named [] = Err (error no_loop_variable)
+named (v ∷ vs) = Ok (v ∷ vs)
+
+abbrev pub loops : List (Text × Text) → Answer (List Items)
+loops [] = Ok []
+loops (p ∷ ps) = elements_of p.0 >>= named >>= (λ vs. elements_of p.1 >>= (λ es. loops ps >>= (λ ls. Ok ((vs, es) ∷ ls))))
+
+-- the variables of a turn with their items; missing ones are empty
+abbrev pub pairs : List Text → List Text → List (Text × Text)
+pairs [] es = []
+pairs (v ∷ vs) [] = (v, []) ∷ pairs vs []
+pairs (v ∷ vs) (e ∷ es) = (v, e) ∷ pairs vs es
+
+abbrev pub turn_pairs : List Items → List (Text × Text)
+turn_pairs [] = []
+turn_pairs (l ∷ ls) = pairs l.0 l.1 ++ turn_pairs ls
+
+-- what is left after a turn
+abbrev pub shortened : List Items → List Items
+shortened [] = []
+shortened (l ∷ ls) = (l.0, drop (length l.0) l.1) ∷ shortened ls
+
+abbrev pub are_done : List Items → Bool
+are_done ls = list_all (λ l. is_empty l.1) ls
+
+abbrev pub assign : Bounds → List (Text × Text) → State → (State → Step) → Step
+assign b [] s k = k s
+assign b (p ∷ ps) s k = write b p.0 p.1 s (λ t s'. assign b ps s' k)
+
+abbrev pub foreach_turns : Bounds → List Items → Text → State → Step
+foreach_turns b ls t s =
+    if are_done ls then ended (Normal [] s)
+    else assign b (turn_pairs ls) s (λ s1. turn b t s1 (λ s2. Runs (job.Foreach b.left (shortened ls) t s2) ended))
+
+-- switch: the first pattern that fits, default where it is the last; - stands for the next body
+abbrev pub is_default : Text → List (Text × Text) → Bool
+is_default p ps = bytes_eq p (codes "default") && is_empty ps
+
+abbrev pub fits : Bool → Text → Text → Bool
+fits true t p = glob p t
+fits false t p = bytes_eq p t
+
+abbrev pub falls : Text → List (Text × Text) → Text
+falls t [] = t
+falls t (p ∷ ps) = if bytes_eq t (codes "-") then falls p.1 ps else t
+
+abbrev pub chosen : Bool → Text → List (Text × Text) → Option Text
+chosen by_glob t [] = None
+chosen by_glob t (p ∷ ps) = if is_default p.0 ps then Some p.1 else if fits by_glob t p.0 then Some (falls p.1 ps) else chosen by_glob t ps
+
+-- catch: a code, and the result or the message in the variable
+abbrev pub catch_into : Bounds → Option Text → Text → Text → State → Next → Step
+catch_into b None code value s k = k code s
+catch_into b (Some v) code value s k = write b v value s (λ t s'. k code s')
+
+abbrev pub caught : Bounds → Option Text → Next → Ending → Step
+caught b v k (Normal t s) = catch_into b v (codes "0") t s k
+caught b v k (Raised m s) = catch_into b v (codes "1") m s k
+caught b v k (Returned t s) = catch_into b v (codes "2") t s k
+caught b v k (Broken s) = catch_into b v (codes "3") [] s k
+caught b v k (Continued s) = catch_into b v (codes "4") [] s k
+
+-- Procedures
+
+-- proc: a parameter, with a default or without one
+abbrev pub parameter : List Text → Answer Parameter
+parameter (p ∷ []) = Ok (p, None)
+parameter (p ∷ default ∷ []) = Ok (p, Some default)
+parameter es = Err (error not_a_list)
+
+abbrev pub parameters : List Text → Answer (List Parameter)
+parameters [] = Ok []
+parameters (p ∷ ps) = elements_of p >>= parameter >>= (λ q. parameters ps >>= (λ qs. Ok (q ∷ qs)))
+
+abbrev pub unless_kept : Text → Answer (List Parameter) → Answer (List Parameter)
+unless_kept name ps = if is_kept name then Err (error (is_taken name)) else ps
+
+abbrev pub with_procedure : State → Text → Procedure → State
+with_procedure s name p = record s { procedures = store s.procedures name p }
+
+-- the value of a parameter, and the words that are left: args, where it is the last, takes all of them
+abbrev pub argument : Text → Parameter → List Text → Answer (Text × List Text)
+argument name p (w ∷ ws) = Ok (w, ws)
+argument name (p, Some default) [] = Ok (default, [])
+argument name (p, None) [] = Err (error (wrong_words name))
+
+abbrev pub taken : Text → Parameter → List Parameter → List Text → Answer (Text × List Text)
+taken name p ps ws = if bytes_eq p.0 (codes "args") && is_empty ps then Ok (list_text ws, []) else argument name p ws
+
+-- the parameters with their values. A wrong number of words is judged before any of them is bound
+abbrev pub allotted : Text → List Parameter → List Text → Answer (List (Text × Text))
+allotted name [] [] = Ok []
+allotted name [] (w ∷ ws) = Err (error (wrong_words name))
+allotted name (p ∷ ps) ws = taken name p ps ws >>= (λ a. allotted name ps a.1 >>= (λ vs. Ok ((p.0, a.0) ∷ vs)))
+
+-- a procedure gives back the caller's variables; break and continue don't leave it
+abbrev pub after_call : Option Frame → Next → Ending → Step
+after_call caller k (Normal t s) = k t (in_frame s caller)
+after_call caller k (Returned t s) = k t (in_frame s caller)
+after_call caller k (Raised m s) = raise m (in_frame s caller)
+after_call caller k (Broken s) = raise (outside_loop (codes "break")) (in_frame s caller)
+after_call caller k (Continued s) = raise (outside_loop (codes "continue")) (in_frame s caller)
+
+-- a procedure has variables of its own, of which the parameters are the first
+abbrev pub new_frame : Option Frame
+new_frame = Some (record { own = []; shared = [] })
+
+abbrev pub call : Bounds → Text → Procedure → List Text → State → Next → Step
+call b name p ws s k =
+    given (allotted name p.parameters ws) s (λ vs. assign b vs (in_frame s new_frame) (λ s'. body b p.body s' (after_call s.frame k)))
+
+-- Commands
+
+-- the host's reply to a command
+abbrev pub replied : Text → State → Next → Reply → Step
+replied name s k (Says t) = k t s
+replied name s k NotKnown = raise (no_command name) s
+
+-- what each form does
+abbrev pub form : Bounds → Form → State → Next → Step
+form b (Get v) s k = read v s k
+form b (Set v x) s k = write b v x s k
+form b (Unset quiet vs) s k = unset quiet vs s (k [])
+form b (Append v xs) s k = given (writable s v) s (λ p. write_at b p (value_or [] s p ++ joined [] xs) s k)
+form b (ListAppend v xs) s k = given (writable s v) s (λ p. given (lengthened (value_or [] s p) xs) s (λ t. write_at b p t s k))
+form b (Increase v ns) s k =
+    given (writable s v) s (λ p. given (increase_of ns >>= increased (value_or (codes "0") s p)) s (λ t. write_at b p t s k))
+form b (Express xs) s k = sized b.bytes (concatenated xs) (express b (concatenated xs) s k)
+form b (If ps other) s k = branches b ps other s k
+form b (While c t) s k = Runs (job.While b.left c t s) (on_normal k)
+form b (For t c n u) s k = body b t s (on_normal (λ v s'. Runs (job.For b.left c n u s') (on_normal k)))
+form b (Foreach ps t) s k = given (loops ps) s (λ ls. Runs (job.Foreach b.left ls t s) (on_normal k))
+form b (Switch by_glob t ps) s k = otherwise b (chosen by_glob t ps) s k
+form b (Define name args t) s k = given (unless_kept name (elements_of args >>= parameters)) s (λ ps. k [] (with_procedure s name (record { parameters = ps; body = t })))
+form b (Return t) s k = ended (Returned t s)
+form b Break s k = ended (Broken s)
+form b Continue s k = ended (Continued s)
+form b Exit s k = halt Stopped
+form b (Error m) s k = raise m s
+form b (Catch t v) s k = body b t s (caught b v k)
+form b (Exists v) s k = given (place_named s v) s (exists_at s k)
+form b (Global vs) s k = share_from s.frame vs s (k [])
+form b (Put ws) s k = Consults (codes "puts" ∷ ws) (replied (codes "puts") s k)
+
+-- a command of another name: left out, a procedure, or one for the host
+abbrev pub other_command : Bounds → Text → List Text → State → Next → Option Procedure → Step
+other_command b name ws s k (Some p) = call b name p ws s k
+other_command b name ws s k None =
+    if is_among left_out_commands name then halt (LeftOut name) else Consults (name ∷ ws) (replied name s k)
+
+abbrev pub core_command : Bounds → Text → List Text → State → Next → Option (Answer Form) → Step
+core_command b name ws s k (Some f) = given f s (λ f. form b f s k)
+core_command b name ws s k None = other_command b name ws s k (lookup s.procedures name)
+
+abbrev pub value_command : Bounds → Text → List Text → State → Next → Option Text → Step
+value_command b name ws s k (Some t) = k t s
+value_command b name ws s k None = core_command b name ws s k (core_form name ws)
+
+-- a command by its words; no word makes an empty result
+abbrev pub called : Bounds → List Text → State → Next → Step
+called b [] s k = k [] s
+called b (name ∷ ws) s k = given (command_value (name ∷ ws) b.bytes) s (value_command b name ws s k)
+
+-- Scripts
+
+-- the rest of a script, after a command with this result. A command is counted before its words are looked at
+abbrev pub commands : Bounds → Commands → Text → State → Step
+commands b no_commands t s = ended (Normal t s)
+commands b (command place source ws cs) t s = Counts (words b ws [] s (λ texts s1. called b texts s1 (λ u s2. sized b.bytes u (commands b cs u s2))))
+
+-- the same of a file, of which the state keeps where the command at hand stands
+abbrev pub file_commands : Bounds → Commands → Text → State → Step
+file_commands b no_commands t s = ended (Normal t s)
+file_commands b (command place source ws cs) t s =
+    Counts (words b ws [] (record s { place = place }) (λ texts s1. called b texts s1 (λ u s2. sized b.bytes u (file_commands b cs u s2))))
+
+abbrev pub parsed : Result Commands TextFault → (Commands → Step) → Step
+parsed (Ok cs) k = k cs
+parsed (Err f) k = halt (BadText f)
+
+-- The plan of each job: the depth is judged before the text is parsed
+abbrev pub rule : ℕ → Job → Step
+rule bytes (File left t s) = begin left (parsed (script_of t) (λ cs. file_commands (inside bytes left) cs [] s))
+rule bytes (Script left t s) = begin left (parsed (script_of t) (λ cs. commands (inside bytes left) cs [] s))
+rule bytes (Bracket left cs s) = begin left (commands (inside bytes left) cs [] s)
+rule bytes (job.While left c t s) = while_turns (record { bytes = bytes; left = left }) c t s
+rule bytes (job.For left c n t s) = for_turns (record { bytes = bytes; left = left }) c n t s
+rule bytes (job.Foreach left ls t s) = foreach_turns (record { bytes = bytes; left = left }) ls t s
+
+-- how a file ends: return and continue end it, break stops it
+abbrev pub file_ended : Ending → Step
+file_ended (Normal t s) = ended (Normal t s)
+file_ended (Raised m s) = ended (Raised m s)
+file_ended (Returned t s) = ended (Normal t s)
+file_ended (Continued s) = ended (Normal [] s)
+file_ended (Broken s) = halt Stopped
+
+abbrev pub file : ℕ → Text → State → Step
+file left t s = Runs (File left t s) file_ended

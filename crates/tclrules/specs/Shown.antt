@@ -1,0 +1,108 @@
+-- What shows of small scripts, for rows.
+use Rattle.std.specs.Prelude.{◌≡◌, ℕ, Bool, false, List, [], ◌∷◌, Option, Some, None, codes}
+use Rattle.tclchars.specs.Runs.{Text}
+use Rattle.tclrules.specs.Oracle.{Record, Oracle, Told, Unknown}
+use Rattle.tclrules.specs.Derivation.{Halt, Outcome, Ended, Halted, World}
+use Rattle.tclrules.specs.Recording.{answer_of, value_in}
+use Rattle.tclrules.specs.Variables.{Variables}
+use Rattle.tclrules.specs.Plans.{Ending, Normal, Raised, Returned, Broken, Continued}
+use Rattle.tclrules.specs.Meaning.{Setting, ComesTo, line_at}
+use Rattle.tclrules.specs.declared.limits.Limits.{Limits}
+
+abbrev pub standard : Limits
+standard = record { commands = 100000; depth = 200; value_bytes = 1048576 }
+
+abbrev pub with_commands : ℕ → Limits
+with_commands n = record standard { commands = n }
+
+abbrev pub with_depth : ℕ → Limits
+with_depth n = record standard { depth = n }
+
+abbrev pub with_bytes : ℕ → Limits
+with_bytes n = record standard { value_bytes = n }
+
+abbrev pub untold : Told
+untold = record { records = []; messages = []; asked = false }
+
+-- a host that knows no command and has no environment
+abbrev pub nobody : Oracle
+nobody = record { command = λ records words. Unknown false; variable = λ records name. None }
+
+-- the example host in mode unload, with one variable in its environment
+abbrev pub recording : Oracle
+recording = record { command = answer_of (codes "unload"); variable = value_in ((codes "HOME", codes "/home/me") ∷ []) }
+
+-- a script without variables, within these limits
+abbrev pub within : Limits → Text → Setting
+within l script = record { limits = l; script = script; globals = []; oracle = nobody; told = untold }
+
+abbrev pub recorded : Limits → Text → Setting
+recorded l script = record (within l script) { oracle = recording }
+
+abbrev pub from_globals : Variables → Text → Setting
+from_globals globals script = record (within standard script) { globals = globals }
+
+-- how a script ended: with a result and so many commands and turns counted, with an error's message and line, or halted
+pub data Shown : Type 0 where
+  Result : Text → ℕ → Shown
+  Fails : Text → ℕ → Shown
+  Halts : Halt → Shown
+  Else : Shown
+
+abbrev pub seen : Text → Outcome Ending → World → Shown
+seen script (Ended (Normal t s)) w = Result t w.used
+seen script (Ended (Raised m s)) w = Fails m (line_at script s.place)
+seen script (Ended (Returned t s)) w = Else
+seen script (Ended (Broken s)) w = Else
+seen script (Ended (Continued s)) w = Else
+seen script (Halted h) w = Halts h
+
+-- the variables that an outcome left
+abbrev pub left_by : Outcome Ending → World → Option Variables
+left_by (Ended (Normal t s)) w = Some s.globals
+left_by o w = None
+
+abbrev pub told_to : Outcome Ending → World → Told
+told_to o w = w.told
+
+-- what this view shows of the outcome of a script
+abbrev pub Shows : {A : Type 0} → Setting → (Outcome Ending → World → A) → A → Type 0
+Shows s view a = (o : Outcome Ending) × (w : World) × ComesTo s o w × (view o w ≡ a)
+
+abbrev pub Sees : Setting → Shown → Type 0
+Sees s a = Shows s (seen s.script) a
+
+-- the script ends normally with this result, and so many commands and turns are counted
+abbrev pub Results : Text → Text → ℕ → Type 0
+Results script result used = Sees (within standard script) (Result result used)
+
+-- it ends with an error on this line with this message
+abbrev pub RaisesOn : ℕ → Text → Text → Type 0
+RaisesOn line script message = Sees (within standard script) (Fails message line)
+
+abbrev pub Raises : Text → Text → Type 0
+Raises script message = RaisesOn 1 script message
+
+-- it is halted so within these limits
+abbrev pub Stops : Limits → Text → Halt → Type 0
+Stops l script h = Sees (within l script) (Halts h)
+
+-- from these variables it leaves those
+abbrev pub Leaves : Variables → Text → Variables → Type 0
+Leaves globals script left = Shows (from_globals globals script) left_by (Some left)
+
+-- The same with the example host
+
+abbrev pub Gives : Text → Text → ℕ → Type 0
+Gives script result used = Sees (recorded standard script) (Result result used)
+
+abbrev pub Meets : Limits → Text → Halt → Type 0
+Meets l script h = Sees (recorded l script) (Halts h)
+
+-- it is told these records and messages, and is asked or not
+abbrev pub Tells : Text → List Record → List Text → Bool → Type 0
+Tells script records messages asked = Shows (recorded standard script) told_to (record { records = records; messages = messages; asked = asked })
+
+-- the words of a setenv
+abbrev pub setting : Text → Text → Record
+setting name value = codes "setenv" ∷ name ∷ value ∷ []

@@ -1,0 +1,147 @@
+-- Variables, and where their names lead (Tcl(n), rule 7; global(n), variable(n); the element of an array is of env alone).
+use Rattle.std.specs.Prelude.{ℕ, List, [], ◌∷◌, Bool, true, false, not, ◌||◌, ◌&&◌, ◌==◌, ◌-◌, length, take, reverse, if◌then◌else◌, Option, Some, None, Ok, Err, codes, bytes_eq}
+use Rattle.std.specs.List.{list_any}
+use Rattle.tclchars.specs.Runs.{Text, front, back, begins}
+use Rattle.tclvalue.specs.Faults.{Answer, ◌>>=◌, left_out}
+use Rattle.tclvalue.specs.Indexes.{after_front}
+
+-- Variables with their values, in the order of their making
+
+abbrev pub Variables : Type 0
+Variables = List (Text × Text)
+
+abbrev pub lookup : {A : Type 0} → List (Text × A) → Text → Option A
+lookup [] name = None
+lookup (v ∷ vs) name = if bytes_eq name v.0 then Some v.1 else lookup vs name
+
+abbrev pub store : {A : Type 0} → List (Text × A) → Text → A → List (Text × A)
+store [] name value = (name, value) ∷ []
+store (v ∷ vs) name value = if bytes_eq name v.0 then (v.0, value) ∷ vs else v ∷ store vs name value
+
+abbrev pub without : Variables → Text → Variables
+without [] name = []
+without (v ∷ vs) name = if bytes_eq name v.0 then vs else v ∷ without vs name
+
+-- of a name that comes again the last value counts
+abbrev pub store_all : Variables → Variables → Variables
+store_all vs [] = vs
+store_all vs (w ∷ ws) = store_all (store vs w.0 w.1) ws
+
+-- the variables of a procedure that runs, and the names of the global ones that it sees
+pub record Frame : Type 0 where
+  pub own : Variables
+  pub shared : List Text
+
+-- a parameter, with its default if it has one
+abbrev pub Parameter : Type 0
+Parameter = Text × Option Text
+
+pub record Procedure : Type 0 where
+  pub parameters : List Parameter
+  pub body : Text
+
+-- what an evaluation keeps: the global variables, the frame of the procedure that runs, if one does, the procedures by name, and
+-- where in the file its command at hand begins, in bytes from the file's front
+pub record State : Type 0 where
+  pub globals : Variables
+  pub frame : Option Frame
+  pub procedures : List (Text × Procedure)
+  pub place : ℕ
+
+abbrev pub start : Variables → State
+start globals = record { globals = store_all [] globals; frame = None; procedures = []; place = 0 }
+
+abbrev pub in_frame : State → Option Frame → State
+in_frame s f = record s { frame = f }
+
+-- Names
+
+-- a name taken apart: n(i) is n and the index i, where the parenthesis is the first and the name ends with one that closes
+abbrev pub parted : Text → Text → Text × Option Text
+parted n [] = (n, None)
+parted n (b ∷ bs) = (n, Some (take (length bs - 1) bs))
+
+abbrev pub apart : Text → Text × Option Text
+apart name = if begins 41 (reverse name) then parted (front (λ b. not (b == 40)) name) (back (λ b. not (b == 40)) name) else (name, None)
+
+-- two colons stand somewhere
+abbrev pub has_colons : Text → Bool
+has_colons [] = false
+has_colons (b ∷ bs) = (b == 58 && begins 58 bs) || has_colons bs
+
+-- where a name leads: a variable, or an element of env. The flag says that it is global
+pub data Place : Type 0 where
+  Plain : Bool → Text → Place
+  Element : Bool → Text → Place
+
+-- at the file's level all variables are global, in a procedure those that it shares
+abbrev pub sees : Option Frame → Text → Bool
+sees None name = true
+sees (Some f) name = list_any (bytes_eq name) f.shared
+
+abbrev pub env : Text
+env = codes "env"
+
+-- only env is an array
+abbrev pub indexed : Bool → Text → Option Text → Answer Place
+indexed global name None = Ok (Plain global name)
+indexed global name (Some i) = if bytes_eq name env then Ok (Element global i) else Err (left_out (codes "array"))
+
+-- no other colons stand in a name than those in front
+abbrev pub unqualified : Text → Answer Place → Answer Place
+unqualified name p = if has_colons name then Err (left_out (codes "namespace")) else p
+
+abbrev pub led : Option Frame → Text → Option Text → Option Text → Answer Place
+led f name index (Some rest) = unqualified rest (indexed true rest index)
+led f name index None = unqualified name (indexed (sees f name) name index)
+
+abbrev pub place_of : State → Text → Option Text → Answer Place
+place_of s name index = led s.frame name index (after_front (codes "::") name)
+
+abbrev pub place_named : State → Text → Answer Place
+place_named s name = place_of s (apart name).0 (apart name).1
+
+-- neither env nor an element of it is written or unset
+abbrev pub plain : Place → Answer (Bool × Text)
+plain (Plain global name) = if bytes_eq name env then Err (left_out env) else Ok (global, name)
+plain (Element global i) = Err (left_out env)
+
+abbrev pub writable : State → Text → Answer (Bool × Text)
+writable s name = place_named s name >>= plain
+
+-- Reading and changing
+
+abbrev pub own_of : Option Frame → Variables
+own_of None = []
+own_of (Some f) = f.own
+
+abbrev pub with_own : Option Frame → Variables → Option Frame
+with_own None vs = None
+with_own (Some f) vs = Some (record f { own = vs })
+
+-- the global variables, or those of the procedure
+abbrev pub variables : State → Bool → Variables
+variables s true = s.globals
+variables s false = own_of s.frame
+
+abbrev pub with_variables : State → Bool → Variables → State
+with_variables s true vs = record s { globals = vs }
+with_variables s false vs = record s { frame = with_own s.frame vs }
+
+abbrev pub value_at : State → Bool × Text → Option Text
+value_at s p = lookup (variables s p.0) p.1
+
+abbrev pub with_value : State → Bool × Text → Text → State
+with_value s p value = with_variables s p.0 (store (variables s p.0) p.1 value)
+
+abbrev pub without_value : State → Bool × Text → State
+without_value s p = with_variables s p.0 (without (variables s p.0) p.1)
+
+-- global: the name leads to the global variable from now on
+abbrev pub shared_in : Option Frame → Text → Option Frame
+shared_in None name = None
+shared_in (Some f) name = Some (record { own = without f.own name; shared = name ∷ f.shared })
+
+abbrev pub sharable : Place → Answer Text
+sharable (Plain global name) = Ok name
+sharable (Element global i) = Err (left_out env)

@@ -1,0 +1,68 @@
+//! What holds of evaluations, whatever the oracle.
+
+ghost use Rattle.std.specs.Prelude.{◌≡◌, ℕ, ◌≤◌, ◌<◌, ◌⊎◌, Bool, true, false, List, Some};
+ghost use Rattle.tclchars.specs.Runs.{Text};
+ghost use Rattle.tclrules.specs.Oracle.{Record, Oracle, records_with, addition};
+ghost use Rattle.tclrules.specs.Derivation.{Outcome, Halted, TooManyCommands, ByHost, World, Throughout, AnswersOrRefuses, AgreesUnasked, IsUnrefused, asks, Grows};
+ghost use Rattle.tclrules.specs.Plans.{Ending};
+ghost use Rattle.tclrules.specs.Meaning.{Setting, ComesTo, limited_to, with_oracle, HasNoEnd, Keeps, IsSameOrRefused, play_file};
+
+/// A script has one outcome.
+pub fn one_outcome()
+    ensures { (s : Setting) (o o2 : Outcome Ending) (w w2 : World) → ComesTo s o w → ComesTo s o2 w2 → (o ≡ o2) × (w ≡ w2) }
+{}
+
+/// Each script has an outcome, under each limit.
+pub fn some_outcome()
+    ensures { (s : Setting) → (o : Outcome Ending) × (w : World) × ComesTo s o w }
+{}
+
+/// Under another limit on commands an outcome that isn't this limit's is the same from its count on, and below it the limit is met.
+pub fn other_limit()
+    ensures same { (s : Setting) (o : Outcome Ending) (w : World) (n : ℕ)
+        → ComesTo s o w → ¬ (o ≡ Halted TooManyCommands) → w.used ≤ n → ComesTo (limited_to n s) o w }
+    ensures met { (s : Setting) (o : Outcome Ending) (w : World) (n : ℕ)
+        → ComesTo s o w → n < w.used → (w2 : World) × ComesTo (limited_to n s) (Halted TooManyCommands) w2 }
+{}
+
+/// A script that has no end meets each limit on commands. One that is ended by the limits on depth or on values has an end.
+pub fn endless()
+    ensures { (s : Setting) (n : ℕ) → HasNoEnd s → (w : World) × ComesTo (limited_to n s) (Halted TooManyCommands) w }
+{}
+
+/// Where a second oracle answers each consultation of an evaluation as the first does, or refuses it, the outcome is the same, or a
+/// refusal. Where nothing was asked and the host refused nothing, it is enough that it does so where the first is asked no question
+/// and doesn't refuse.
+pub fn two_oracles()
+    ensures each { (s : Setting) (second : Oracle) (o o2 : Outcome Ending) (w w2 : World) (d : ComesTo s o w)
+        → Throughout (AnswersOrRefuses s.oracle second) d → ComesTo (with_oracle second s) o2 w2 → IsSameOrRefused o w o2 w2 }
+    ensures unasked { (s : Setting) (second : Oracle) (o o2 : Outcome Ending) (w w2 : World)
+        → ComesTo s o w → w.told.asked ≡ false → ((n : ℕ) → ¬ (o ≡ Halted (ByHost n)))
+        → AgreesUnasked s.oracle second → ComesTo (with_oracle second s) o2 w2 → IsSameOrRefused o w o2 w2 }
+{}
+
+/// Without the mark nothing was asked.
+pub fn unasked()
+    ensures { (s : Setting) (o : Outcome Ending) (w : World) (d : ComesTo s o w)
+        → w.told.asked ≡ false → Throughout (λ records query. asks s.oracle records query ≡ false) d }
+{}
+
+/// An evaluation that the host didn't refuse had no consultation that was refused.
+pub fn unrefused()
+    ensures { (s : Setting) (o : Outcome Ending) (w : World) (d : ComesTo s o w)
+        → ((n : ℕ) → ¬ (o ≡ Halted (ByHost n))) → Throughout (IsUnrefused s.oracle) d }
+{}
+
+/// The records grow by the oracle's answers alone. So what holds of those at first, and is kept by each answer's addition, holds of
+/// the last.
+pub fn grown()
+    ensures grows { (s : Setting) (o : Outcome Ending) (w : World) → ComesTo s o w → Grows s.oracle s.told.records w.told.records }
+    ensures kept { (s : Setting) (o : Outcome Ending) (w : World) (holds : List Record → Bool)
+        → ComesTo s o w → holds s.told.records ≡ true → Keeps s.oracle holds → holds w.told.records ≡ true }
+{}
+
+/// What playing a script gives is its outcome, and in enough steps it gives it.
+pub fn played()
+    ensures derived { (s : Setting) (steps : ℕ) (o : Outcome Ending) (w : World) → play_file s steps ≡ Some (o, w) → ComesTo s o w }
+    ensures enough { (s : Setting) (o : Outcome Ending) (w : World) → ComesTo s o w → (steps : ℕ) × (play_file s steps ≡ Some (o, w)) }
+{}

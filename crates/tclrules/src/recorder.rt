@@ -1,0 +1,120 @@
+//! A host in memory, as an example.
+
+ghost use Rattle.std.specs.Prelude.{◌≡◌, ◌++◌, ◌∷◌, [], IfOk, OnOk, OnErr, string_bytes, map};
+ghost use Rattle.std.specs.Option.{option_map};
+ghost use Rattle.tclrules.specs.Recording.{record_texts, pair_texts, message_in};
+ghost use Rattle.tclrules.specs.Variables.{lookup};
+
+use crate::host::{Host, HostAnswer};
+use std::alloc::{AllocError, Global};
+
+/// Keeps the words of each `setenv` and what each `puts` says, tells its mode where `mode` asks for it, refuses `conflict` by 51,
+/// and knows no other command. Its environment stays as it is.
+#[derive(Drop)]
+pub struct Recorder {
+    pub alloc: Global,
+    pub mode: String,
+    pub environment: Vec<(String, String)>,
+    pub records: Vec<Vec<String>>,
+    pub messages: Vec<String>,
+    pub asked: bool,
+}
+
+fn copy_words(alloc: Global, words: &[String]) -> Result<Vec<String>, AllocError>
+    ensures { IfOk result (λ v. map string_bytes v.items ≡ map string_bytes words.now) }
+{
+    let mut copies = Vec::new(alloc);
+    for word in words {
+        copies.push(String::from_str(alloc, word.as_str())?)?;
+    }
+    Ok(copies)
+}
+
+fn keep(records: &mut Vec<Vec<String>>, alloc: Global, words: &[String]) -> Result<(), AllocError>
+    ensures ok { OnOk result (map record_texts records.new.items ≡ map record_texts records.old.items ++ map string_bytes words.now ∷ []) }
+    ensures err { OnErr result (records.new.items ≡ records.old.items) }
+{
+    let copy = copy_words(alloc, words)?;
+    records.push(copy)?;
+    Ok(())
+}
+
+fn joined(alloc: Global, text: &str, ending: &str) -> Result<String, AllocError>
+    ensures { IfOk result (λ t. string_bytes t ≡ text.now ++ ending.now) }
+{
+    let mut message = String::from_str(alloc, text)?;
+    message.push_str(ending)?;
+    Ok(message)
+}
+
+fn message_of(alloc: Global, words: &[String]) -> Result<Option<String>, AllocError>
+    ensures { IfOk result (λ m. option_map string_bytes m ≡ message_in (map string_bytes words.now)) }
+{
+    match words {
+        [_, _, text] => Ok(Some(joined(alloc, text.as_str(), "\n")?)),
+        [_, _, _, text] => Ok(Some(joined(alloc, text.as_str(), "")?)),
+        _ => Ok(None),
+    }
+}
+
+fn value_of(
+    alloc: Global,
+    environment: &[(String, String)],
+    name: &str,
+) -> Result<Option<String>, AllocError>
+    ensures { IfOk result (λ v. option_map string_bytes v ≡ lookup (pair_texts environment.now) name.now) }
+{
+    for (key, value) in environment {
+        if name == key.as_str() {
+            return Ok(Some(String::from_str(alloc, value.as_str())?));
+        }
+    }
+    Ok(None)
+}
+
+impl Host for Recorder {
+    ghost use Rattle.std.specs.Prelude.{string_bytes, map};
+    ghost use Rattle.tclrules.specs.Recording.{answer_of, record_texts, pair_texts, value_in};
+
+    ghost told = { λ r. record { records = map record_texts r.records.items; messages = map string_bytes r.messages.items; asked = r.asked } };
+
+    ghost oracle = { λ r. record { command = answer_of (string_bytes r.mode); variable = value_in (pair_texts r.environment.items) } };
+
+    fn command(&mut self, words: &[String]) -> HostAnswer {
+        let [name, ..] = words else {
+            return HostAnswer::Unknown;
+        };
+        if name.as_str() == "setenv" {
+            if keep(&mut self.records, self.alloc, words).is_err() {
+                return HostAnswer::OutOfMemory;
+            }
+            HostAnswer::Done(String::new(self.alloc))
+        } else if name.as_str() == "puts" {
+            let Ok(said) = message_of(self.alloc, words) else {
+                return HostAnswer::OutOfMemory;
+            };
+            let Some(message) = said else {
+                return HostAnswer::Unknown;
+            };
+            if self.messages.push(message).is_err() {
+                return HostAnswer::OutOfMemory;
+            }
+            HostAnswer::Done(String::new(self.alloc))
+        } else if name.as_str() == "mode" {
+            self.asked = true;
+            match String::from_str(self.alloc, self.mode.as_str()) {
+                Ok(mode) => HostAnswer::Done(mode),
+                Err(_) => HostAnswer::OutOfMemory,
+            }
+        } else if name.as_str() == "conflict" {
+            HostAnswer::Refused(51)
+        } else {
+            HostAnswer::Unknown
+        }
+    }
+
+    fn read_env(&mut self, name: &str) -> Result<Option<String>, AllocError> {
+        self.asked = true;
+        value_of(self.alloc, self.environment.as_slice(), name)
+    }
+}

@@ -1,0 +1,4 @@
+pub mod Leading
+pub mod Frames
+pub mod Trees
+pub mod Apart

@@ -1,0 +1,12 @@
+use Rattle.std.proofs.Common.{◌≡◌, ◌==◌, get_or, true, false, not, refl, rules, arith}
+use Rattle.std.proofs.lemmas.Bool.Decides.{nat_tests}
+use Rattle.std.proofs.lemmas.Bool.{ne_eqb}
+use Rattle.tclchars.proofs.RunLemmas.{passed-more}
+use Rattle.tclsteps.specs.Places.{no_opening}
+use Rattle.tclsteps.proofs.place.split_array.Goals as goal
+
+pub loop-n-preserved : goal.loop-n-preserved
+loop-n-preserved c =
+    let b = get_or c.as_bytes-bytes.result.now c.loop-n.n 0 in
+    let t : no_opening b ≡ true = rw (ne_eqb b 40 c.if-bytes-n-ne40.true) refl in
+    record { within = omega arith; passed = passed-more _ _ _ (omega arith) t c.loop-n.invariant.passed }

@@ -1,0 +1,27 @@
+use Rattle.std.proofs.Common.{◌≡◌, Some, None, string_bytes, option_map, ap, sym, ◌∙◌, refl, true, false, rules}
+use Rattle.std.specs.Str.{bytes_eq}
+use Rattle.std.proofs.lemmas.Result.{err_from_is_err_and}
+use Rattle.tclrules.specs.Variables.{env}
+use Rattle.tclrules.proofs.Leading.{stay, go_on, starve, read_on, want}
+use Rattle.tclsteps.proofs.Leading.{raised, given_stops, given_on}
+use Rattle.tclsteps.proofs.reading.read_place.Goals as goal
+
+pub read_plain-requires-text-name : goal.read_plain-requires-text-name
+read_plain-requires-text-name g c =
+    search rules
+
+pub read_env-requires-text-name : goal.read_env-requires-text-name
+read_env-requires-text-name g c =
+    search rules
+
+pub returns-in-Plain : goal.returns-in-Plain
+returns-in-Plain g c =
+    (λ most used r k. rw c.in-Plain.is (c.read_plain.ensures most r k _))
+
+pub returns-then-global : goal.returns-then-global
+returns-then-global g c =
+    (λ most used r k. rw (c.in-Element.is, c.if-global.true) (c.read_env.ensures most used r k))
+
+pub returns-else-global : goal.returns-else-global
+returns-else-global g c =
+    (λ most used r k. rw (c.in-Element.is, c.if-global.false) (raised _ _ _ c.missing.ensures))

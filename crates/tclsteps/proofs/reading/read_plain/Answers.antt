@@ -1,0 +1,21 @@
+use Rattle.std.proofs.Common.{◌≡◌, Some, None, string_bytes, option_map, ap, sym, ◌∙◌, refl, true, false, rules}
+use Rattle.std.specs.Str.{bytes_eq}
+use Rattle.std.proofs.lemmas.Result.{err_from_is_err_and}
+use Rattle.tclrules.specs.Variables.{env}
+use Rattle.tclrules.proofs.Leading.{stay, go_on, starve, read_on, want}
+use Rattle.tclsteps.proofs.Leading.{raised, given_stops, given_on}
+use Rattle.tclsteps.proofs.reading.read_plain.Goals as goal
+
+pub returns-then-eq : goal.returns-then-eq
+returns-then-eq c =
+    let e : bytes_eq c.args.name.now env ≡ true = search rules in
+    (λ most r k x. rw (c.if-global.true, e) (raised _ _ _ c.whole_array.ensures))
+
+pub returns-then-global : goal.returns-then-global
+returns-then-global c =
+    let e : bytes_eq c.args.name.now env ≡ false = search rules in
+    (λ most r k x. rw (c.if-global.true, e) (c.value_at.ensures most r k x))
+
+pub returns : goal.returns
+returns c =
+    (λ most r k x. rw c.if-global.false (c.value_at-2.ensures most r k x))

@@ -1,0 +1,37 @@
+use Rattle.std.proofs.Common.{◌≡◌, ◌<◌, ◌≤◌, length, string_bytes, Ok, true, false, ap, ◌∙◌, refl, arith, rules}
+use Rattle.std.proofs.lemmas.Result.{err_from_is_err_and}
+use Rattle.tclscript.specs.Tree as tree
+use Rattle.tclexpr.specs.View.{operand_view, expr_view}
+use Rattle.tclvalue.specs.Operators.{truth}
+use Rattle.tclrules.proofs.Leading.{stay, go_on, starve}
+use Rattle.tclsteps.specs.Machine.{shown}
+use Rattle.tclsteps.proofs.Trees.{view-Operand, view-Unary, view-Binary, view-And, view-Or, view-Choice, on_top, less_more}
+use Rattle.tclsteps.proofs.Leading.{given_stops, given_on, sized_on, sized_stops}
+use Rattle.tclsteps.proofs.substitution.or.Goals as goal
+
+pub returns-in_err-truth : goal.returns-in_err-truth
+returns-in_err-truth g c =
+    let p = err_from_is_err_and c.from_residual.result c.from_residual.ensures.1 in
+    let h = rw c.as_str.ensures.value at c.in_err-truth.ensures in
+    rw (p.1, p.2) (λ most used left r k. given_stops _ _ _ _ h, tt)
+
+pub returns-in_err-wait : goal.returns-in_err-wait
+returns-in_err-wait g c =
+    let p = err_from_is_err_and c.from_residual-in_err-wait.result c.from_residual-in_err-wait.ensures.1 in
+    rw (p.1, p.2, c.in_err-wait.ensures.err) (λ most used left r k. starve, tt)
+
+pub returns-in_err-copy : goal.returns-in_err-copy
+returns-in_err-copy g c =
+    let p = err_from_is_err_and c.from_residual-in_err-copy.result c.from_residual-in_err-copy.ensures.1 in
+    rw (p.1, p.2, c.in_err-copy.ensures.err) (λ most used left r k. starve, tt)
+
+pub returns-then-branch : goal.returns-then-branch
+returns-then-branch g c =
+    let e : truth (string_bytes c.args.value) ≡ Ok true = (rw c.as_str.ensures.value at c.in_ok-truth.ensures) ∙ ap Ok c.if-branch.true in
+    rw (e, c.in_ok-copy.ensures.ok) (λ most used left r k. stay, omega arith)
+
+pub returns : goal.returns
+returns g c =
+    let e : truth (string_bytes c.args.value) ≡ Ok false = (rw c.as_str.ensures.value at c.in_ok-truth.ensures) ∙ ap Ok c.if-branch.false in
+    let t = on_top _ _ _ c.in_ok-wait.ensures.ok in
+    rw (e, t) (λ most used left r k. stay, omega arith)

@@ -1,0 +1,101 @@
+-- What is left of a plan, by what waits for a value.
+use Rattle.std.specs.Prelude.{ℕ, ◌+◌, ◌<◌, IfOk, List, [], ◌∷◌, ◌++◌, true, false, codes, Result, string_bytes}
+use Rattle.tclchars.specs.Runs.{Text}
+use Rattle.tclscript.specs.Pieces.{between}
+use Rattle.tclscript.specs.View.{parts_view, script_view}
+use Rattle.tclscript.specs.declared.piece.ByteRange.{ByteRange}
+use Rattle.tclexpr.specs.View.{expr_view}
+use Rattle.tclvalue.specs.Operators.{truth, truth_text, unary_value, binary_value}
+use Rattle.tclrules.specs.Derivation.{Runs}
+use Rattle.tclrules.specs.Variables.{State}
+use Rattle.tclrules.specs.Plans as plans
+use Rattle.tclrules.specs.Plans.{Bounds, Job, Next, Bracket, on_normal, given, sized}
+use Rattle.tclrules.specs.Leads.{Point, Leads}
+use Rattle.tclrules.specs.Words.{parts, read_element}
+use Rattle.tclrules.specs.Expressions.{expr}
+use Rattle.tclsteps.specs.Stops.{after}
+use Rattle.tclsteps.specs.Weights.{parts_weight, expr_weight}
+use Rattle.tclsteps.specs.declared.stop.Stop.{Stop}
+use Rattle.tclsteps.specs.declared.context.Context.{Context}
+use Rattle.tclsteps.specs.declared.frame.Frame.{Frame}
+use Rattle.tclsteps.specs.declared.frame.Frame.TheVariants as frames
+use Rattle.tclsteps.specs.declared.frame.Control.{Control}
+use Rattle.tclsteps.specs.declared.frame.Control.TheVariants as controls
+use Rattle.tclsteps.specs.declared.frame.Step.{Step}
+use Rattle.tclsteps.specs.declared.frame.Step.TheVariants as steps
+
+-- the text of a piece of a source
+abbrev pub shown : Text → ByteRange → Text
+shown source range = between source range.start range.end
+
+abbrev pub bounds : ℕ → ℕ → Bounds
+bounds bytes left = record { bytes = bytes; left = left }
+
+-- what a frame goes on with, before what goes on behind it
+abbrev pub behind : Text → Bounds → Frame → Next → Next
+behind source b (frames.Element name) k t s = read_element name.now t s k
+behind source b (frames.Joined text ps) k t s = sized b.bytes (string_bytes text ++ t) (parts b (parts_view (shown source) ps.now) (string_bytes text ++ t) s k)
+behind source b frames.Operand k t s = sized b.bytes t (k t s)
+behind source b (frames.Unary u) k t s = given (unary_value u t) s (λ v. k v s)
+behind source b (frames.Left o r) k t s = expr b (expr_view (shown source) r.now) s (λ u s2. given (binary_value o t u) s2 (λ v. k v s2))
+behind source b (frames.Right o t) k u s = given (binary_value o (string_bytes t) u) s (λ v. k v s)
+behind source b (frames.And r) k t s =
+    given (truth t) s (elim [ true ↦ expr b (expr_view (shown source) r.now) s (λ u s2. given (truth u) s2 (λ v. k (truth_text v) s2)) | false ↦ k (codes "0") s ])
+behind source b (frames.Or r) k t s =
+    given (truth t) s (elim [ true ↦ k (codes "1") s | false ↦ expr b (expr_view (shown source) r.now) s (λ u s2. given (truth u) s2 (λ v. k (truth_text v) s2)) ])
+behind source b frames.Truth k u s = given (truth u) s (λ v. k (truth_text v) s)
+behind source b (frames.Choice y n) k t s =
+    given (truth t) s (elim [ true ↦ expr b (expr_view (shown source) y.now) s k | false ↦ expr b (expr_view (shown source) n.now) s k ])
+
+-- what all frames go on with, of which the first waits for the next value
+abbrev pub behind_all : Text → Bounds → List Frame → Next → Next
+behind_all source b [] k = k
+behind_all source b (f ∷ fs) k = behind source b f (behind_all source b fs k)
+
+-- the plan of what is evaluated next
+abbrev pub control_plan : Text → Bounds → Control → State → Next → plans.Step
+control_plan source b (controls.Parts text ps) s k = parts b (parts_view (shown source) ps.now) (string_bytes text) s k
+control_plan source b (controls.Expression e) s k = expr b (expr_view (shown source) e.now) s k
+control_plan source b (controls.Value t) s k = k (string_bytes t) s
+
+-- the plan behind a step, with the frames that wait then
+abbrev pub step_plan : Text → Bounds → Step → List Frame → State → Next → plans.Step
+step_plan source b (steps.Next c) fs s k = control_plan source b c s (behind_all source b fs k)
+step_plan source b (steps.Done t) fs s k = k (string_bytes t) s
+step_plan source b (steps.Bracket cs) fs s k = Runs (Bracket b.left (script_view (shown source) cs.now) s) (on_normal (behind_all source b fs k))
+
+-- how much is left to do
+
+abbrev pub frame_weight : Text → Frame → ℕ
+frame_weight source (frames.Element name) = 1
+frame_weight source (frames.Joined text ps) = 2 + parts_weight (parts_view (shown source) ps.now)
+frame_weight source frames.Operand = 1
+frame_weight source (frames.Unary u) = 1
+frame_weight source (frames.Left o r) = 3 + expr_weight (expr_view (shown source) r.now)
+frame_weight source (frames.Right o t) = 1
+frame_weight source (frames.And r) = 3 + expr_weight (expr_view (shown source) r.now)
+frame_weight source (frames.Or r) = 3 + expr_weight (expr_view (shown source) r.now)
+frame_weight source frames.Truth = 1
+frame_weight source (frames.Choice y n) = 1 + (expr_weight (expr_view (shown source) y.now) + expr_weight (expr_view (shown source) n.now))
+
+abbrev pub frames_weight : Text → List Frame → ℕ
+frames_weight source [] = 0
+frames_weight source (f ∷ fs) = frame_weight source f + frames_weight source fs
+
+abbrev pub control_weight : Text → Control → ℕ
+control_weight source (controls.Parts text ps) = 1 + parts_weight (parts_view (shown source) ps.now)
+control_weight source (controls.Expression e) = expr_weight (expr_view (shown source) e.now)
+control_weight source (controls.Value t) = 0
+
+-- less is left to do than this number, unless all is done
+abbrev pub IsLess : Text → Step → List Frame → ℕ → Type 0
+IsLess source (steps.Next c) fs n = control_weight source c + frames_weight source fs < n
+IsLess source (steps.Done t) fs n = Unit {0}
+IsLess source (steps.Bracket cs) fs n = frames_weight source fs < n
+
+-- a step's result is where the plan leads, with less left to do than this number
+abbrev pub StepsTo : (Bounds → Next → plans.Step) → Context → (ℕ → Point) → Result Step Stop → List Frame → ℕ → (ℕ → Point) → Type 0
+StepsTo p c x result fs n y =
+    ((most used left : ℕ) (r : Job → plans.Step) (k : Next) →
+    Leads most r (p (bounds c.limits.value_bytes left) k) (x used) (after result (λ st s. step_plan c.source.now (bounds c.limits.value_bytes left) st fs s k) c.variables.now) (y used))
+    × IfOk result (λ st. IsLess c.source.now st fs n)

@@ -1,0 +1,18 @@
+//! What steps of an evaluation look at.
+
+use crate::variables::Variables;
+use std::alloc::Global;
+use tclrules::Limits;
+
+/// The variables, the limits, and the source of which the pieces of the tree are ranges.
+#[derive(Clone, Copy)]
+pub struct Context<'e> {
+    /// Where memory is taken.
+    pub alloc: Global,
+    /// How far the evaluation may go.
+    pub limits: Limits,
+    /// The text of which the pieces of a tree are ranges.
+    pub source: &'e str,
+    /// The variables as they are.
+    pub variables: &'e Variables,
+}

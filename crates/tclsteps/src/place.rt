@@ -1,0 +1,123 @@
+//! Where the names of variables lead.
+ghost use Rattle.std.specs.Prelude.{◌≡◌, option_map};
+ghost use Rattle.tclvalue.specs.Faults.{Gives, HasReason, left_out};
+ghost use Rattle.tclrules.specs.Variables.{apart, has_colons, unqualified, indexed, place_of, place_named};
+ghost use Rattle.tclchars.specs.Runs.{front, back};
+ghost use Rattle.tclsteps.specs.Places.{place_view, no_opening};
+
+use crate::variables::Variables;
+use std::alloc::Global;
+use tclchars::after_mark;
+use tclvalue::ValueFault;
+
+/// Where a name leads: a variable, or an element of `env`.
+#[derive(Drop)]
+pub enum Place<'a> {
+    /// The variable of this name; the flag says that it is global.
+    Plain(bool, &'a str),
+    /// The element of `env` with this index; the flag says that `env` is in sight.
+    Element(bool, &'a str),
+}
+
+fn left_out(alloc: Global, name: &str) -> ValueFault
+    ensures { HasReason (left_out name.now) result }
+{
+    match String::from_str(alloc, name) {
+        Ok(name) => ValueFault::LeftOut(name),
+        Err(_) => ValueFault::OutOfMemory,
+    }
+}
+
+fn has_colons(name: &str) -> bool
+    ensures { result ≡ has_colons name.now }
+{
+    let mut rest = name.as_bytes();
+    while let [first, after @ ..] = rest {
+        if *first == b':' && matches!(after, [b':', ..]) {
+            return true;
+        }
+        rest = after;
+    }
+    false
+}
+
+// What stands before the first parenthesis that opens, and from it on.
+fn split_array(name: &str) -> (&str, &str)
+    ensures array { result.0.now ≡ front no_opening name.now }
+    ensures rest { result.1.now ≡ back no_opening name.now }
+{
+    let bytes = name.as_bytes();
+    let mut n = 0;
+    while n < bytes.len() && bytes[n] != b'(' {
+        n += 1;
+    }
+    name.split_at(n)
+}
+
+// A name and its index, where it has one.
+fn apart(name: &str) -> (&str, Option<&str>)
+    ensures { (result.0.now, option_map (λ i. i.now) result.1) ≡ apart name.now }
+{
+    let Some(inside) = name.strip_suffix(")") else {
+        return (name, None);
+    };
+    let (array, rest) = split_array(inside);
+    match after_mark(rest, b'(') {
+        None => (name, None),
+        Some(index) => (array, Some(index)),
+    }
+}
+
+// Where a name leads in whose front no colons stand.
+fn unqualified_place<'a>(
+    alloc: Global,
+    global: bool,
+    name: &'a str,
+    index: Option<&'a str>,
+) -> Result<Place<'a>, ValueFault>
+    ensures { Gives place_view result (unqualified name.now (indexed global name.now (option_map (λ i. i.now) index.entry))) }
+{
+    if has_colons(name) {
+        return Err(left_out(alloc, "namespace"));
+    }
+    match index {
+        None => Ok(Place::Plain(global, name)),
+        Some(index) => {
+            if name == "env" {
+                Ok(Place::Element(global, index))
+            } else {
+                Err(left_out(alloc, "array"))
+            }
+        }
+    }
+}
+
+/// Where a name with an index, or without one, leads.
+pub fn place_of<'a>(
+    variables: &Variables,
+    alloc: Global,
+    name: &'a str,
+    index: Option<&'a str>,
+) -> Result<Place<'a>, ValueFault>
+    ensures { Gives place_view result (place_of variables.now name.now (option_map (λ i. i.now) index.entry)) }
+{
+    match name.strip_prefix("::") {
+        Some(rest) => unqualified_place(alloc, true, rest, index),
+        None => {
+            let global = variables.sees(name);
+            unqualified_place(alloc, global, name, index)
+        }
+    }
+}
+
+/// Where a name as it is spelled leads.
+pub fn place_named<'a>(
+    variables: &Variables,
+    alloc: Global,
+    name: &'a str,
+) -> Result<Place<'a>, ValueFault>
+    ensures { Gives place_view result (place_named variables.now name.now) }
+{
+    let (array, index) = apart(name);
+    place_of(variables, alloc, array, index)
+}

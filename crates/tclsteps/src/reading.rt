@@ -1,0 +1,168 @@
+//! The values of variables and of the environment.
+ghost use Rattle.std.specs.Prelude.{◌≡◌, ◌++◌, ℕ, Some, IfOk, codes, option_map, string_bytes};
+ghost use Rattle.tclrules.specs.Variables.{State, value_at};
+ghost use Rattle.tclrules.specs.Derivation.{Reads};
+ghost use Rattle.tclrules.specs.Leads.{Leads, Point, point};
+ghost use Rattle.tclrules.specs.Plans as plans;
+ghost use Rattle.tclrules.specs.Plans.{Job, Next};
+ghost use Rattle.tclrules.specs.Words.{found, read, read_element, read_place, read_plain};
+ghost use Rattle.tclrules.specs.Messages.{in_quotes, is_array, no_variable};
+ghost use Rattle.tclsteps.specs.Stops.{after, Raises};
+ghost use Rattle.tclsteps.specs.Places.{place_view};
+
+use crate::place::{Place, place_named, place_of};
+use crate::stop::Stop;
+use crate::variables::Variables;
+use std::alloc::{AllocError, Global};
+use tclrules::Host;
+
+fn in_quotes(alloc: Global, text: &str) -> Result<String, AllocError>
+    ensures { IfOk result (λ t. string_bytes t ≡ in_quotes text.now) }
+{
+    format!(in alloc; "\"{text}\"")
+}
+
+#[tactic(auto, unfolding(tclrules::specs::Messages::no_variable))]
+fn no_variable(alloc: Global, name: &str) -> Result<String, AllocError>
+    ensures { IfOk result (λ t. string_bytes t ≡ no_variable name.now) }
+{
+    let quoted = in_quotes(alloc, name)?;
+    format!(in alloc; "can't read {quoted}: no such variable")
+}
+
+#[tactic(auto, unfolding(tclrules::specs::Messages::is_array))]
+fn is_array(alloc: Global, name: &str) -> Result<String, AllocError>
+    ensures { IfOk result (λ t. string_bytes t ≡ is_array name.now) }
+{
+    let quoted = in_quotes(alloc, name)?;
+    format!(in alloc; "can't read {quoted}: it is an array")
+}
+
+// The error with the message that a variable has no value.
+fn missing(alloc: Global, name: &str) -> Stop
+    ensures { Raises (no_variable name.now) result }
+{
+    match no_variable(alloc, name) {
+        Ok(message) => Stop::Raised(message),
+        Err(error) => Stop::from(error),
+    }
+}
+
+// The error with the message that `env` is an array.
+fn whole_array(alloc: Global, name: &str) -> Stop
+    ensures { Raises (is_array name.now) result }
+{
+    match is_array(alloc, name) {
+        Ok(message) => Stop::Raised(message),
+        Err(error) => Stop::from(error),
+    }
+}
+
+// The value of a variable at its place.
+#[tactic(none)]
+fn value_at(
+    alloc: Global,
+    variables: &Variables,
+    spelled: &str,
+    global: bool,
+    name: &str,
+) -> Result<String, Stop>
+    ensures { (most : ℕ) (r : Job → plans.Step) (k : Next) (x : Point) → Leads most r (found (no_variable spelled.now) variables.now k (value_at variables.now (global, name.now))) x (after result (λ t s. k (string_bytes t) s) variables.now) x }
+{
+    match variables.get(global, name) {
+        Some(value) => Ok(String::from_str(alloc, value)?),
+        None => Err(missing(alloc, spelled)),
+    }
+}
+
+#[tactic(none)]
+fn read_plain(
+    alloc: Global,
+    variables: &Variables,
+    spelled: &str,
+    global: bool,
+    name: &str,
+) -> Result<String, Stop>
+    ensures { (most : ℕ) (r : Job → plans.Step) (k : Next) (x : Point) → Leads most r (read_plain spelled.now global name.now variables.now k) x (after result (λ t s. k (string_bytes t) s) variables.now) x }
+{
+    if global {
+        if name == "env" {
+            return Err(whole_array(alloc, spelled));
+        }
+        return value_at(alloc, variables, spelled, true, name);
+    }
+    value_at(alloc, variables, spelled, false, name)
+}
+
+#[tactic(none)]
+fn read_env<H: Host>(
+    alloc: Global,
+    variables: &Variables,
+    host: &mut H,
+    spelled: &str,
+    name: &str,
+) -> Result<String, Stop>
+    ensures { (most used : ℕ) (r : Job → plans.Step) (k : Next) → Leads most r (Reads name.now (found (no_variable spelled.now) variables.now k)) (point (H.oracle host.old) (H.told host.old) used) (after result (λ t s. k (string_bytes t) s) variables.now) (point (H.oracle host.new) (H.told host.new) used) }
+{
+    match host.read_env(name)? {
+        Some(value) => Ok(value),
+        None => Err(missing(alloc, spelled)),
+    }
+}
+
+#[tactic(none)]
+fn read_place<H: Host>(
+    alloc: Global,
+    variables: &Variables,
+    host: &mut H,
+    spelled: &str,
+    place: Place<'_>,
+) -> Result<String, Stop>
+    ensures { (most used : ℕ) (r : Job → plans.Step) (k : Next) → Leads most r (read_place spelled.now variables.now k (place_view place.entry)) (point (H.oracle host.old) (H.told host.old) used) (after result (λ t s. k (string_bytes t) s) variables.now) (point (H.oracle host.new) (H.told host.new) used) }
+{
+    match place {
+        Place::Plain(global, name) => read_plain(alloc, variables, spelled, global, name),
+        Place::Element(global, name) => {
+            if global {
+                return read_env(alloc, variables, host, spelled, name);
+            }
+            Err(missing(alloc, spelled))
+        }
+    }
+}
+
+/// The value of the variable of this name.
+#[tactic(none)]
+pub fn read<H: Host>(
+    alloc: Global,
+    variables: &Variables,
+    host: &mut H,
+    name: &str,
+) -> Result<String, Stop>
+    ensures { (most used : ℕ) (r : Job → plans.Step) (k : Next) → Leads most r (read name.now variables.now k) (point (H.oracle host.old) (H.told host.old) used) (after result (λ t s. k (string_bytes t) s) variables.now) (point (H.oracle host.new) (H.told host.new) used) }
+{
+    let place = place_named(variables, alloc, name)?;
+    read_place(alloc, variables, host, name, place)
+}
+
+fn spelled(alloc: Global, name: &str, index: &str) -> Result<String, AllocError>
+    ensures { IfOk result (λ t. string_bytes t ≡ name.now ++ (codes "(" ++ (index.now ++ codes ")"))) }
+{
+    format!(in alloc; "{name}({index})")
+}
+
+/// The value of the element of the array of this name.
+#[tactic(none)]
+pub fn read_element<H: Host>(
+    alloc: Global,
+    variables: &Variables,
+    host: &mut H,
+    name: &str,
+    index: &str,
+) -> Result<String, Stop>
+    ensures { (most used : ℕ) (r : Job → plans.Step) (k : Next) → Leads most r (read_element name.now index.now variables.now k) (point (H.oracle host.old) (H.told host.old) used) (after result (λ t s. k (string_bytes t) s) variables.now) (point (H.oracle host.new) (H.told host.new) used) }
+{
+    let place = place_of(variables, alloc, name, Some(index))?;
+    let spelled = spelled(alloc, name, index)?;
+    read_place(alloc, variables, host, spelled.as_str(), place)
+}

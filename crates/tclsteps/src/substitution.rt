@@ -1,0 +1,376 @@
+//! Words and expressions, step by step: what waits for a value stands on a stack, so that no nesting takes a frame of the machine.
+ghost use Rattle.std.specs.Prelude.{◌≡◌, ◌++◌, ◌+◌, ℕ, [], ◌∷◌, reverse, string_bytes, OnOk, OnErr, IfOk, IfErr, encode_utf8};
+ghost use Rattle.tclchars.specs.BracedText.{braced_text};
+ghost use Rattle.tclscript.specs.View.{part_view, parts_view};
+ghost use Rattle.tclexpr.specs.View.{expr_view, operand_view};
+ghost use Rattle.tclvalue.specs.Operators.{truth_text};
+ghost use Rattle.tclrules.specs.Leads.{point};
+ghost use Rattle.tclrules.specs.Plans.{sized};
+ghost use Rattle.tclrules.specs.Words.{parts, one};
+ghost use Rattle.tclrules.specs.Expressions.{expr, operand_value};
+ghost use Rattle.tclsteps.specs.Weights.{parts_weight, part_weight, expr_weight, operand_weight};
+ghost use Rattle.tclsteps.specs.Machine.{shown, behind, behind_all, control_plan, frame_weight, frames_weight, control_weight, StepsTo};
+ghost use Rattle.tclsteps.specs.declared.frame.Frame.TheVariants.{And, Or, Choice};
+ghost use Rattle.tclsteps.specs.declared.stop.Stop.TheVariants.{Halted};
+ghost use Rattle.tclsteps.specs.declared.stop.Halt.TheVariants.{OutOfMemory};
+
+use crate::context::Context;
+use crate::frame::{Control, Frame, Step};
+use crate::reading::{read, read_element};
+use crate::stop::{Halt, Stop};
+use std::alloc::Global;
+use tclchars::push_braced_text;
+use tclexpr::{Expr, Operand};
+use tclrules::Host;
+use tclscript::{ByteRange, Part};
+use tclvalue::{binary, truth, unary};
+
+// The piece of the source.
+fn piece<'a>(source: &'a str, range: ByteRange) -> &'a str
+    ensures { result.now ≡ shown source.now range }
+{
+    range.of(source)
+}
+
+// Lets a frame wait for the next value.
+fn wait<'a>(stack: &mut Vec<Frame<'a>>, frame: Frame<'a>) -> Result<(), Stop>
+    ensures ok { OnOk result (stack.new.items ≡ stack.old.items ++ frame.entry ∷ []) }
+    ensures err { IfErr result (λ stop. stop ≡ Halted OutOfMemory) }
+{
+    stack.push(frame)?;
+    Ok(())
+}
+
+fn copy(alloc: Global, text: &str) -> Result<String, Stop>
+    ensures ok { IfOk result (λ t. string_bytes t ≡ text.now) }
+    ensures err { IfErr result (λ stop. stop ≡ Halted OutOfMemory) }
+{
+    Ok(String::from_str(alloc, text)?)
+}
+
+// What a text in braces stands for.
+fn braced(alloc: Global, text: &str) -> Result<String, Stop>
+    ensures ok { IfOk result (λ t. string_bytes t ≡ braced_text text.now) }
+    ensures err { IfErr result (λ stop. stop ≡ Halted OutOfMemory) }
+{
+    let mut value = String::new(alloc);
+    push_braced_text(&mut value, text)?;
+    Ok(value)
+}
+
+fn character(alloc: Global, character: char) -> Result<String, Stop>
+    ensures ok { IfOk result (λ t. string_bytes t ≡ encode_utf8 character) }
+    ensures err { IfErr result (λ stop. stop ≡ Halted OutOfMemory) }
+{
+    let mut value = String::new(alloc);
+    value.push(character)?;
+    Ok(value)
+}
+
+fn truth_text(alloc: Global, holds: bool) -> Result<String, Stop>
+    ensures ok { IfOk result (λ t. string_bytes t ≡ truth_text holds) }
+    ensures err { IfErr result (λ stop. stop ≡ Halted OutOfMemory) }
+{
+    if holds {
+        copy(alloc, "1")
+    } else {
+        copy(alloc, "0")
+    }
+}
+
+// A text with a piece behind it.
+fn with_piece(text: String, piece: &str) -> Result<String, Stop>
+    ensures ok { IfOk result (λ t. string_bytes t ≡ string_bytes text ++ piece.now) }
+    ensures err { IfErr result (λ stop. stop ≡ Halted OutOfMemory) }
+{
+    let mut text = text;
+    text.push_str(piece)?;
+    Ok(text)
+}
+
+// The parts that follow go on behind a text and a piece.
+#[tactic(none)]
+fn join<'a, H: Host>(
+    context: Context<'a>,
+    host: &mut H,
+    stack: &mut Vec<Frame<'a>>,
+    text: String,
+    piece: &str,
+    rest: &'a [Part<ByteRange>],
+) -> Result<Step<'a>, Stop>
+    ensures { StepsTo (λ b k. sized b.bytes (string_bytes text ++ piece.now) (parts b (parts_view (shown context.entry.source.now) rest.now) (string_bytes text ++ piece.now) context.entry.variables.now (behind_all context.entry.source.now b (reverse stack.old.items) k))) context.entry (λ used. point (H.oracle host.old) (H.told host.old) used) result (reverse stack.new.items) (2 + parts_weight (parts_view (shown context.entry.source.now) rest.now) + frames_weight context.entry.source.now (reverse stack.old.items)) (λ used. point (H.oracle host.new) (H.told host.new) used) }
+{
+    let text = with_piece(text, piece)?;
+    if text.len() > context.limits.value_bytes {
+        return Err(Stop::Halted(Halt::ValueTooLong));
+    }
+    Ok(Step::Next(Control::Parts(text, rest)))
+}
+
+// The step at a part, before which the text is made.
+#[tactic(none)]
+fn part<'a, H: Host>(
+    context: Context<'a>,
+    host: &mut H,
+    stack: &mut Vec<Frame<'a>>,
+    text: String,
+    part: &'a Part<ByteRange>,
+    rest: &'a [Part<ByteRange>],
+) -> Result<Step<'a>, Stop>
+    ensures { StepsTo (λ b k. one b (part_view (shown context.entry.source.now) part.now) context.entry.variables.now (λ u s'. sized b.bytes (string_bytes text ++ u) (parts b (parts_view (shown context.entry.source.now) rest.now) (string_bytes text ++ u) s' (behind_all context.entry.source.now b (reverse stack.old.items) k)))) context.entry (λ used. point (H.oracle host.old) (H.told host.old) used) result (reverse stack.new.items) (1 + (part_weight (part_view (shown context.entry.source.now) part.now) + parts_weight (parts_view (shown context.entry.source.now) rest.now)) + frames_weight context.entry.source.now (reverse stack.old.items)) (λ used. point (H.oracle host.new) (H.told host.new) used) }
+{
+    match part {
+        Part::Literal(range) => join(
+            context,
+            host,
+            stack,
+            text,
+            piece(context.source, *range),
+            rest,
+        ),
+        Part::Braced(range) => {
+            let value = braced(context.alloc, piece(context.source, *range))?;
+            join(context, host, stack, text, value.as_str(), rest)
+        }
+        Part::Backslash(escaped) => {
+            let value = character(context.alloc, *escaped)?;
+            join(context, host, stack, text, value.as_str(), rest)
+        }
+        Part::Variable(name) => {
+            let value = read(
+                context.alloc,
+                context.variables,
+                host,
+                piece(context.source, *name),
+            )?;
+            join(context, host, stack, text, value.as_str(), rest)
+        }
+        Part::Indexed(name, index) => {
+            wait(stack, Frame::Joined(text, rest))?;
+            wait(stack, Frame::Element(piece(context.source, *name)))?;
+            Ok(Step::Next(Control::Parts(String::new(context.alloc), index)))
+        }
+        Part::Bracket(script) => {
+            wait(stack, Frame::Joined(text, rest))?;
+            Ok(Step::Bracket(script))
+        }
+    }
+}
+
+// The step at an operand.
+#[tactic(none)]
+fn operand<'a, H: Host>(
+    context: Context<'a>,
+    host: &mut H,
+    stack: &mut Vec<Frame<'a>>,
+    operand: &'a Operand<ByteRange>,
+) -> Result<Step<'a>, Stop>
+    ensures { StepsTo (λ b k. operand_value b (operand_view (shown context.entry.source.now) operand.now) context.entry.variables.now (behind_all context.entry.source.now b (reverse stack.old.items) k)) context.entry (λ used. point (H.oracle host.old) (H.told host.old) used) result (reverse stack.new.items) (operand_weight (operand_view (shown context.entry.source.now) operand.now) + frames_weight context.entry.source.now (reverse stack.old.items)) (λ used. point (H.oracle host.new) (H.told host.new) used) }
+{
+    match operand {
+        Operand::Number(range) => {
+            Ok(Step::Next(Control::Value(copy(context.alloc, piece(context.source, *range))?)))
+        }
+        Operand::Word(range) => {
+            Ok(Step::Next(Control::Value(copy(context.alloc, piece(context.source, *range))?)))
+        }
+        Operand::Variable(name) => {
+            let value = read(
+                context.alloc,
+                context.variables,
+                host,
+                piece(context.source, *name),
+            )?;
+            Ok(Step::Next(Control::Value(value)))
+        }
+        Operand::Indexed(name, index) => {
+            wait(stack, Frame::Element(piece(context.source, *name)))?;
+            Ok(Step::Next(Control::Parts(String::new(context.alloc), index)))
+        }
+        Operand::Bracket(script) => Ok(Step::Bracket(script)),
+        Operand::Quoted(parts) => {
+            Ok(Step::Next(Control::Parts(String::new(context.alloc), parts)))
+        }
+        Operand::Braced(range) => {
+            Ok(Step::Next(Control::Value(braced(context.alloc, piece(context.source, *range))?)))
+        }
+    }
+}
+
+// The step at an expression.
+#[tactic(none)]
+fn expression<'a, H: Host>(
+    context: Context<'a>,
+    host: &mut H,
+    stack: &mut Vec<Frame<'a>>,
+    expression: &'a Expr<ByteRange>,
+) -> Result<Step<'a>, Stop>
+    ensures { StepsTo (λ b k. expr b (expr_view (shown context.entry.source.now) expression.now) context.entry.variables.now (behind_all context.entry.source.now b (reverse stack.old.items) k)) context.entry (λ used. point (H.oracle host.old) (H.told host.old) used) result (reverse stack.new.items) (expr_weight (expr_view (shown context.entry.source.now) expression.now) + frames_weight context.entry.source.now (reverse stack.old.items)) (λ used. point (H.oracle host.new) (H.told host.new) used) }
+{
+    match expression {
+        Expr::Operand(value) => {
+            wait(stack, Frame::Operand)?;
+            operand(context, host, stack, value)
+        }
+        Expr::Unary(operator, inner) => {
+            wait(stack, Frame::Unary(*operator))?;
+            Ok(Step::Next(Control::Expression(inner)))
+        }
+        Expr::Binary(operator, left, right) => {
+            wait(stack, Frame::Left(*operator, right))?;
+            Ok(Step::Next(Control::Expression(left)))
+        }
+        Expr::And(left, right) => {
+            wait(stack, Frame::And(right))?;
+            Ok(Step::Next(Control::Expression(left)))
+        }
+        Expr::Or(left, right) => {
+            wait(stack, Frame::Or(right))?;
+            Ok(Step::Next(Control::Expression(left)))
+        }
+        Expr::Choice(condition, yes, no) => {
+            wait(stack, Frame::Choice(yes, no))?;
+            Ok(Step::Next(Control::Expression(condition)))
+        }
+    }
+}
+
+// The step behind the left operand of `&&`.
+#[tactic(none)]
+fn and<'a, H: Host>(
+    context: Context<'a>,
+    host: &mut H,
+    stack: &mut Vec<Frame<'a>>,
+    value: String,
+    right: &'a Expr<ByteRange>,
+) -> Result<Step<'a>, Stop>
+    ensures { StepsTo (λ b k. behind context.entry.source.now b (And right.entry) (behind_all context.entry.source.now b (reverse stack.old.items) k) (string_bytes value) context.entry.variables.now) context.entry (λ used. point (H.oracle host.old) (H.told host.old) used) result (reverse stack.new.items) (3 + expr_weight (expr_view (shown context.entry.source.now) right.now) + frames_weight context.entry.source.now (reverse stack.old.items)) (λ used. point (H.oracle host.new) (H.told host.new) used) }
+{
+    if truth(context.alloc, value.as_str())? {
+        wait(stack, Frame::Truth)?;
+        return Ok(Step::Next(Control::Expression(right)));
+    }
+    Ok(Step::Next(Control::Value(copy(context.alloc, "0")?)))
+}
+
+// The step behind the left operand of `||`.
+#[tactic(none)]
+fn or<'a, H: Host>(
+    context: Context<'a>,
+    host: &mut H,
+    stack: &mut Vec<Frame<'a>>,
+    value: String,
+    right: &'a Expr<ByteRange>,
+) -> Result<Step<'a>, Stop>
+    ensures { StepsTo (λ b k. behind context.entry.source.now b (Or right.entry) (behind_all context.entry.source.now b (reverse stack.old.items) k) (string_bytes value) context.entry.variables.now) context.entry (λ used. point (H.oracle host.old) (H.told host.old) used) result (reverse stack.new.items) (3 + expr_weight (expr_view (shown context.entry.source.now) right.now) + frames_weight context.entry.source.now (reverse stack.old.items)) (λ used. point (H.oracle host.new) (H.told host.new) used) }
+{
+    if truth(context.alloc, value.as_str())? {
+        return Ok(Step::Next(Control::Value(copy(context.alloc, "1")?)));
+    }
+    wait(stack, Frame::Truth)?;
+    Ok(Step::Next(Control::Expression(right)))
+}
+
+// The step behind the condition of `? :`.
+#[tactic(none)]
+fn choice<'a, H: Host>(
+    context: Context<'a>,
+    host: &mut H,
+    stack: &mut Vec<Frame<'a>>,
+    value: String,
+    yes: &'a Expr<ByteRange>,
+    no: &'a Expr<ByteRange>,
+) -> Result<Step<'a>, Stop>
+    ensures { StepsTo (λ b k. behind context.entry.source.now b (Choice yes.entry no.entry) (behind_all context.entry.source.now b (reverse stack.old.items) k) (string_bytes value) context.entry.variables.now) context.entry (λ used. point (H.oracle host.old) (H.told host.old) used) result (reverse stack.new.items) (1 + (expr_weight (expr_view (shown context.entry.source.now) yes.now) + expr_weight (expr_view (shown context.entry.source.now) no.now)) + frames_weight context.entry.source.now (reverse stack.old.items)) (λ used. point (H.oracle host.new) (H.told host.new) used) }
+{
+    if truth(context.alloc, value.as_str())? {
+        return Ok(Step::Next(Control::Expression(yes)));
+    }
+    Ok(Step::Next(Control::Expression(no)))
+}
+
+// The step of what waits for a value, at the value.
+#[tactic(none)]
+fn resume<'a, H: Host>(
+    context: Context<'a>,
+    host: &mut H,
+    stack: &mut Vec<Frame<'a>>,
+    frame: Frame<'a>,
+    value: String,
+) -> Result<Step<'a>, Stop>
+    ensures { StepsTo (λ b k. behind context.entry.source.now b frame.entry (behind_all context.entry.source.now b (reverse stack.old.items) k) (string_bytes value) context.entry.variables.now) context.entry (λ used. point (H.oracle host.old) (H.told host.old) used) result (reverse stack.new.items) (frame_weight context.entry.source.now frame.entry + frames_weight context.entry.source.now (reverse stack.old.items)) (λ used. point (H.oracle host.new) (H.told host.new) used) }
+{
+    match frame {
+        Frame::Element(name) => {
+            let value = read_element(context.alloc, context.variables, host, name, value.as_str())?;
+            Ok(Step::Next(Control::Value(value)))
+        }
+        Frame::Joined(text, parts) => join(context, host, stack, text, value.as_str(), parts),
+        Frame::Operand => {
+            if value.len() > context.limits.value_bytes {
+                return Err(Stop::Halted(Halt::ValueTooLong));
+            }
+            Ok(Step::Next(Control::Value(value)))
+        }
+        Frame::Unary(operator) => {
+            Ok(Step::Next(Control::Value(unary(context.alloc, operator, value.as_str())?)))
+        }
+        Frame::Left(operator, right) => {
+            wait(stack, Frame::Right(operator, value))?;
+            Ok(Step::Next(Control::Expression(right)))
+        }
+        Frame::Right(operator, left) => {
+            let value = binary(context.alloc, operator, left.as_str(), value.as_str())?;
+            Ok(Step::Next(Control::Value(value)))
+        }
+        Frame::And(right) => and(context, host, stack, value, right),
+        Frame::Or(right) => or(context, host, stack, value, right),
+        Frame::Truth => {
+            let holds = truth(context.alloc, value.as_str())?;
+            Ok(Step::Next(Control::Value(truth_text(context.alloc, holds)?)))
+        }
+        Frame::Choice(yes, no) => choice(context, host, stack, value, yes, no),
+    }
+}
+
+// One step.
+#[tactic(none)]
+fn step<'a, H: Host>(
+    context: Context<'a>,
+    host: &mut H,
+    stack: &mut Vec<Frame<'a>>,
+    control: Control<'a>,
+) -> Result<Step<'a>, Stop>
+    ensures { StepsTo (λ b k. control_plan context.entry.source.now b control.entry context.entry.variables.now (behind_all context.entry.source.now b (reverse stack.old.items) k)) context.entry (λ used. point (H.oracle host.old) (H.told host.old) used) result (reverse stack.new.items) (control_weight context.entry.source.now control.entry + frames_weight context.entry.source.now (reverse stack.old.items)) (λ used. point (H.oracle host.new) (H.told host.new) used) }
+{
+    match control {
+        Control::Parts(text, parts) => match parts.split_first() {
+            None => Ok(Step::Next(Control::Value(text))),
+            Some((first, rest)) => part(context, host, stack, text, first, rest),
+        },
+        Control::Expression(tree) => expression(context, host, stack, tree),
+        Control::Value(value) => match stack.pop() {
+            None => Ok(Step::Done(value)),
+            Some(frame) => resume(context, host, stack, frame, value),
+        },
+    }
+}
+
+/// Steps up to the next bracket, or to the value.
+#[tactic(none)]
+pub fn advance<'a, H: Host>(
+    context: Context<'a>,
+    host: &mut H,
+    stack: &mut Vec<Frame<'a>>,
+    control: Control<'a>,
+) -> Result<Step<'a>, Stop>
+    ensures { StepsTo (λ b k. control_plan context.entry.source.now b control.entry context.entry.variables.now (behind_all context.entry.source.now b (reverse stack.old.items) k)) context.entry (λ used. point (H.oracle host.old) (H.told host.old) used) result (reverse stack.new.items) (control_weight context.entry.source.now control.entry + frames_weight context.entry.source.now (reverse stack.old.items)) (λ used. point (H.oracle host.new) (H.told host.new) used) }
+{
+    let mut control = control;
+    loop {
+        match step(context, host, stack, control)? {
+            Step::Next(next) => control = next,
+            step => return Ok(step),
+        }
+    }
+}

@@ -1,0 +1,6 @@
+# For /etc/profile.d or /etc/csh.login: sources the init file of the shell that reads it. A link to this file will do.
+if ( $?tcsh ) then
+    source "@prefix@/init/tcsh"
+else
+    source "@prefix@/init/csh"
+endif

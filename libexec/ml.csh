@@ -1,0 +1,55 @@
+# What the alias `ml` does in csh and tcsh: without words the loaded modules; else `-NAME...` are unloaded, and then
+# `NAME...` loaded, by a command each. The name of the shell and then the words are as in module.csh.
+
+if ( ! $?_module_words ) set _module_words = ( $argv:q )
+if ( $#_module_words == 1 ) set _module_words = ( $_module_words:q list )
+
+switch ( "x$_module_words[2]" )
+case xadd:
+case xavail:
+case xdel:
+case xdisplay:
+case xhelp:
+case x--help:
+case xlist:
+case xload:
+case xpurge:
+case xremove:
+case xrm:
+case xshow:
+case xswap:
+case xswitch:
+case xunload:
+case x--version:
+case xwhatis:
+    source "@prefix@/libexec/module.csh"
+    set _module_status = $status
+    breaksw
+default:
+    set _module_shell = $_module_words[1]
+    set _module_load = ( )
+    set _module_unload = ( )
+    set _module_cut = "awk 'BEGIN { print substr(ARGV[1], 2) }' "'$_module_word:q'
+    shift _module_words
+    foreach _module_word ( $_module_words:q )
+        if ( "$_module_word" =~ -* ) then
+            set _module_unload = ( $_module_unload:q "`$_module_cut`" )
+        else
+            set _module_load = ( $_module_load:q $_module_word:q )
+        endif
+    end
+    set _module_status = 0
+    if ( $#_module_unload ) then
+        set _module_words = ( $_module_shell unload $_module_unload:q )
+        source "@prefix@/libexec/module.csh"
+        set _module_status = $status
+    endif
+    if ( $_module_status == 0 && $#_module_load ) then
+        set _module_words = ( $_module_shell load $_module_load:q )
+        source "@prefix@/libexec/module.csh"
+        set _module_status = $status
+    endif
+    unset _module_shell _module_load _module_unload _module_cut _module_word
+    breaksw
+endsw
+eval "unset _module_words _module_status ; ( exit $_module_status )"

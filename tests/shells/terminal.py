@@ -1,0 +1,214 @@
+"""Shells at a terminal: reports that can be piped, and completion."""
+
+import fcntl
+import os
+import pty
+import select
+import subprocess
+import termios
+import time
+
+from harness import SECONDS, Failed, case, same, true
+from sessions import Session
+from shells import content
+
+# How each shell is started at a terminal.
+AT_TERMINAL = {
+    "dash": ["dash", "-i"],
+    "bash": ["bash", "--norc", "--noprofile", "-i"],
+    "ksh93": ["ksh93", "-i", "-o", "emacs"],
+    "mksh": ["mksh", "-i"],
+    "zsh": ["zsh", "-f", "-i"],
+    "tcsh": ["tcsh", "-f"],
+    "fish": ["fish", "--no-config", "-i"],
+}
+
+# What has to run before completion is there.
+STARTS = {"zsh": ["autoload -Uz compinit && compinit -u -D"]}
+
+COMPLETES = ("bash", "zsh", "tcsh", "fish")
+
+AVAIL = b"/m:\nbar/1\nbar/2(default)\nfoo/1.0\nodd$(>HERE)/1\n/n:\nonly/1\n"
+
+
+class Terminal:
+    """A shell at a terminal of its own."""
+
+    def __init__(self, command, env, place):
+        self.master, slave = pty.openpty()
+        fcntl.ioctl(slave, termios.TIOCSWINSZ, b"\x28\x00\xc8\x00\x00\x00\x00\x00")
+
+        def control():
+            os.setsid()
+            fcntl.ioctl(0, termios.TIOCSCTTY, 0)
+
+        self.running = subprocess.Popen(
+            command, env=env, cwd=place, stdin=slave, stdout=slave, stderr=slave, preexec_fn=control, close_fds=True
+        )
+        os.close(slave)
+        self.seen = b""
+
+    def send(self, text):
+        os.write(self.master, text.encode())
+
+    def read(self, seconds):
+        ready, _, _ = select.select([self.master], [], [], seconds)
+        if not ready:
+            return False
+        try:
+            more = os.read(self.master, 65536)
+        except OSError:
+            return False
+        self.seen += more
+        return bool(more)
+
+    def until(self, wanted, what):
+        """Waits for what a function finds."""
+        end = time.monotonic() + SECONDS / 2
+        while not wanted():
+            if time.monotonic() > end:
+                raise Failed(f"{what} did not come; the terminal shows {self.seen[-1500:]!r}")
+            self.read(0.05)
+
+    def settle(self, seconds=0.3):
+        """Waits until nothing more is written."""
+        while self.read(seconds):
+            pass
+
+    def close(self):
+        os.close(self.master)
+        try:
+            self.running.wait(5)
+        except subprocess.TimeoutExpired:
+            self.running.kill()
+            self.running.wait()
+
+
+def add(shell, prefixes):
+    """Adds the cases of one shell at a terminal."""
+    if shell.title not in AT_TERMINAL:
+        return
+
+    def named(name):
+        def keep(function):
+            function.__name__ = f"{shell.title} at a terminal {name}"
+            case(function)
+            return function
+
+        return keep
+
+    def start(folder, begin=(), end=(), **variables):
+        """A shell at a terminal, which has sourced its init file between these lines."""
+        here = Session(shell, folder, prefixes, {"FOO": "on"}, False, {"TERM": "vt100", **variables})
+        place = os.path.join(folder.path, b"place").decode()
+        os.mkdir(place)
+        at = Terminal(AT_TERMINAL[shell.title], here.env, place)
+        for line in [*begin, shell.source(here.prefix), *end]:
+            at.settle()
+            at.send(line + "\n")
+        ready = os.path.join(place, "ready")
+        at.settle()
+        at.send(f"/usr/bin/touch '{ready}'\n")
+        at.until(lambda: os.path.exists(ready), "the init file's end")
+        at.settle()
+        return here, at, place
+
+    @named("pipes reports")
+    def pipes(folder):
+        here, at, place = start(folder)
+        report = b"Currently Loaded Modulefiles:\nfoo/1.0\n"
+        lines = ("module list", "module show foo/1.0", "ml list", "module whatis foo", "module display foo")
+        for number, line in enumerate(lines):
+            here.stand_in.answer(b"", report)
+            kept = os.path.join(place, f"piped.{number}")
+            at.send(f"{line} | /bin/sed -e 's/^/piped /' > '{kept}'\n")
+            wanted = b"".join(b"piped " + text + b"\n" for text in report.split(b"\n")[:-1])
+            at.until(lambda kept=kept, wanted=wanted: content(kept) == wanted, f"what `{line}` pipes")
+            at.settle(0.1)
+        at.close()
+
+    @named("hands on the status of a report, and pipes nothing else")
+    def status(folder):
+        here, at, place = start(folder)
+        here.stand_in.answer(b"", b"ERROR: no\n", 7)
+        here.stand_in.answer(b"", b"message\n", 0)
+        word = "$?" if shell.family == "sh" else "$status"
+        at.send(f"module list; echo {word} > '{place}/status'\n")
+        at.until(lambda: content(os.path.join(place, "status")) == b"7\n", "the status")
+        at.settle(0.1)
+        at.send(f"module load foo | /bin/cat > '{place}/piped'; echo done > '{place}/done'\n")
+        at.until(lambda: content(os.path.join(place, "done")) == b"done\n", "the end of the load")
+        same(content(os.path.join(place, "piped")), b"", "what a load pipes")
+        at.close()
+
+    if shell.title not in COMPLETES:
+        return
+
+    @named("completes")
+    def completes(folder):
+        begin = STARTS.get(shell.title, [])
+        here, at, place = start(folder, begin, LOADEDMODULES="foo/1.0:baz/3")
+        here.stand_in.write("avail", AVAIL)
+        # What is typed, with a tabulator at its end, and what the program is given.
+        typed = [
+            ("module unlo\tfoo/1.0", ["unload", "foo/1.0"]),
+            ("module load fo\t", ["load", "foo/1.0"]),
+            ("module add on\t", ["add", "only/1"]),
+            ("module whatis fo\t", ["whatis", "foo/1.0"]),
+            ("module show fo\t", ["show", "foo/1.0"]),
+            ("module unload ba\t", ["unload", "baz/3"]),
+            ("module rm fo\t", ["rm", "foo/1.0"]),
+            ("module switch baz\ton\t", ["switch", "baz/3", "only/1"]),
+            ("module load bar/1 fo\t", ["load", "bar/1", "foo/1.0"]),
+            ("module load bar/2\t", ["load", "bar/2"]),
+            ("module load od\t", ["load", "odd$(>HERE)/1"]),
+            ("ml only\t", ["load", "only/1"]),
+            ("ml -ba\t", ["unload", "baz/3"]),
+        ]
+        for number, (keys, words) in enumerate(typed):
+            here.stand_in.answer()
+            for part in keys.split("\t"):
+                if not keys.endswith(part) or part:
+                    at.send(part)
+                    if keys.find(part + "\t") >= 0 and part:
+                        at.settle(0.1)
+                        at.send("\t")
+                        at.settle(0.3)
+            at.send("\n")
+            at.until(lambda number=number: len(here.stand_in.words()) > number, f"the command of {keys!r}")
+            same(here.stand_in.words()[number], [shell.init, *words], f"the words of {keys!r}")
+            at.settle(0.1)
+        same(os.listdir(place), ["ready"], "the files that completion makes")
+        at.close()
+
+    if shell.title == "zsh":
+
+        @named("completes where the system of completions starts later")
+        def completes_later(folder):
+            here, at, _ = start(folder, end=STARTS["zsh"])
+            here.stand_in.write("avail", AVAIL)
+            here.stand_in.answer()
+            at.send("module load fo")
+            at.settle(0.2)
+            at.send("\t")
+            at.settle(0.3)
+            at.send("\n")
+            at.until(lambda: here.stand_in.words(), "the command")
+            same(here.stand_in.words(), [["zsh", "load", "foo/1.0"]], "the words")
+            at.close()
+
+    @named("completes nothing, and says nothing, where the program refuses avail")
+    def completes_nothing(folder):
+        here, at, _ = start(folder, STARTS.get(shell.title, []))
+        here.stand_in.answer()
+        at.settle(0.2)
+        at.seen = b""
+        at.send("module load ")
+        at.settle(0.2)
+        at.send("\t")
+        at.settle(0.4)
+        at.send("\n")
+        at.until(lambda: here.stand_in.words(), "the command")
+        same(here.stand_in.words(), [[shell.init, "load"]], "the words")
+        true(b"ERROR" not in at.seen and b"modulecmd" not in at.seen, f"nothing is said: {at.seen!r}")
+        at.close()
