@@ -6,13 +6,13 @@ use tclrules::Limits;
 
 /// The variables, the limits, and the source of which the pieces of the tree are ranges.
 #[derive(Clone, Copy)]
-pub struct Context<'e> {
+pub struct Context<'a, 'v> {
     /// Where memory is taken.
     pub alloc: Global,
     /// How far the evaluation may go.
     pub limits: Limits,
     /// The text of which the pieces of a tree are ranges.
-    pub source: &'e str,
+    pub source: &'a str,
     /// The variables as they are.
-    pub variables: &'e Variables,
+    pub variables: &'v Variables,
 }

@@ -91,7 +91,7 @@ fn with_piece(text: String, piece: &str) -> Result<String, Stop>
 // The parts that follow go on behind a text and a piece.
 #[tactic(none)]
 fn join<'a, H: Host>(
-    context: Context<'a>,
+    context: Context<'a, '_>,
     host: &mut H,
     stack: &mut Vec<Frame<'a>>,
     text: String,
@@ -110,7 +110,7 @@ fn join<'a, H: Host>(
 // The step at a part, before which the text is made.
 #[tactic(none)]
 fn part<'a, H: Host>(
-    context: Context<'a>,
+    context: Context<'a, '_>,
     host: &mut H,
     stack: &mut Vec<Frame<'a>>,
     text: String,
@@ -160,7 +160,7 @@ fn part<'a, H: Host>(
 // The step at an operand.
 #[tactic(none)]
 fn operand<'a, H: Host>(
-    context: Context<'a>,
+    context: Context<'a, '_>,
     host: &mut H,
     stack: &mut Vec<Frame<'a>>,
     operand: &'a Operand<ByteRange>,
@@ -200,7 +200,7 @@ fn operand<'a, H: Host>(
 // The step at an expression.
 #[tactic(none)]
 fn expression<'a, H: Host>(
-    context: Context<'a>,
+    context: Context<'a, '_>,
     host: &mut H,
     stack: &mut Vec<Frame<'a>>,
     expression: &'a Expr<ByteRange>,
@@ -238,7 +238,7 @@ fn expression<'a, H: Host>(
 // The step behind the left operand of `&&`.
 #[tactic(none)]
 fn and<'a, H: Host>(
-    context: Context<'a>,
+    context: Context<'a, '_>,
     host: &mut H,
     stack: &mut Vec<Frame<'a>>,
     value: String,
@@ -256,7 +256,7 @@ fn and<'a, H: Host>(
 // The step behind the left operand of `||`.
 #[tactic(none)]
 fn or<'a, H: Host>(
-    context: Context<'a>,
+    context: Context<'a, '_>,
     host: &mut H,
     stack: &mut Vec<Frame<'a>>,
     value: String,
@@ -274,7 +274,7 @@ fn or<'a, H: Host>(
 // The step behind the condition of `? :`.
 #[tactic(none)]
 fn choice<'a, H: Host>(
-    context: Context<'a>,
+    context: Context<'a, '_>,
     host: &mut H,
     stack: &mut Vec<Frame<'a>>,
     value: String,
@@ -292,7 +292,7 @@ fn choice<'a, H: Host>(
 // The step of what waits for a value, at the value.
 #[tactic(none)]
 fn resume<'a, H: Host>(
-    context: Context<'a>,
+    context: Context<'a, '_>,
     host: &mut H,
     stack: &mut Vec<Frame<'a>>,
     frame: Frame<'a>,
@@ -336,7 +336,7 @@ fn resume<'a, H: Host>(
 // One step.
 #[tactic(none)]
 fn step<'a, H: Host>(
-    context: Context<'a>,
+    context: Context<'a, '_>,
     host: &mut H,
     stack: &mut Vec<Frame<'a>>,
     control: Control<'a>,
@@ -359,7 +359,7 @@ fn step<'a, H: Host>(
 /// Steps up to the next bracket, or to the value.
 #[tactic(none)]
 pub fn advance<'a, H: Host>(
-    context: Context<'a>,
+    context: Context<'a, '_>,
     host: &mut H,
     stack: &mut Vec<Frame<'a>>,
     control: Control<'a>,
