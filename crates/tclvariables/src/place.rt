@@ -1,9 +1,9 @@
 //! Where the names of variables lead.
 ghost use Rattle.std.specs.Prelude.{◌≡◌, option_map};
 ghost use Rattle.tclvalue.specs.Faults.{Gives, HasReason, left_out};
-ghost use Rattle.tclrules.specs.Variables.{apart, has_colons, unqualified, indexed, place_of, place_named};
+ghost use Rattle.tclrules.specs.Variables.{apart, has_colons, unqualified, indexed, place_of, place_named, writable};
 ghost use Rattle.tclchars.specs.Runs.{front, back};
-ghost use Rattle.tclsteps.specs.Places.{place_view, no_opening};
+ghost use Rattle.tclvariables.specs.Places.{place_view, no_opening, shared_name};
 
 use crate::variables::Variables;
 use std::alloc::Global;
@@ -120,4 +120,37 @@ pub fn place_named<'a>(
 {
     let (array, index) = apart(name);
     place_of(variables, alloc, array, index)
+}
+
+/// The variable that a name leads to, where it may be written: neither `env` nor an element of it. The flag says that it is global.
+pub fn writable<'a>(
+    variables: &Variables,
+    alloc: Global,
+    name: &'a str,
+) -> Result<(bool, &'a str), ValueFault>
+    ensures { Gives (λ p. (p.0, p.1.now)) result (writable variables.now name.now) }
+{
+    match place_named(variables, alloc, name)? {
+        Place::Plain(global, name) => {
+            if name == "env" {
+                return Err(left_out(alloc, "env"));
+            }
+            Ok((global, name))
+        }
+        Place::Element(_, _) => Err(left_out(alloc, "env")),
+    }
+}
+
+/// The name of the global variable that a procedure sees once `global` names it so: no element of `env`.
+pub fn sharable<'a>(
+    variables: &Variables,
+    alloc: Global,
+    name: &'a str,
+) -> Result<&'a str, ValueFault>
+    ensures { Gives (λ n. n.now) result (shared_name variables.now name.now) }
+{
+    match place_named(variables, alloc, name)? {
+        Place::Plain(_, name) => Ok(name),
+        Place::Element(_, _) => Err(left_out(alloc, "env")),
+    }
 }

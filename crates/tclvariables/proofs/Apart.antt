@@ -5,7 +5,7 @@ use Rattle.std.proofs.lemmas.List.{reverse-append, reverse-reverse, take-append-
 use Rattle.std.proofs.Math.Seq.{take-length}
 use Rattle.tclchars.specs.Runs.{Text, front, back, begins}
 use Rattle.tclrules.specs.Variables.{apart}
-use Rattle.tclsteps.specs.Places.{no_opening}
+use Rattle.tclvariables.specs.Places.{no_opening}
 
 begins_last : (f : List ℕ) → begins 41 (reverse (f ++ 41 ∷ [])) ≡ true
 begins_last f = rw (reverse-append f (41 ∷ [])) refl

@@ -2,8 +2,8 @@ use Rattle.std.proofs.Common.{◌≡◌, ◌==◌, get_or, true, false, not, ref
 use Rattle.std.proofs.lemmas.Bool.Decides.{nat_tests}
 use Rattle.std.proofs.lemmas.Bool.{ne_eqb}
 use Rattle.tclchars.proofs.RunLemmas.{passed-more}
-use Rattle.tclsteps.specs.Places.{no_opening}
-use Rattle.tclsteps.proofs.place.split_array.Goals as goal
+use Rattle.tclvariables.specs.Places.{no_opening}
+use Rattle.tclvariables.proofs.place.split_array.Goals as goal
 
 pub loop-n-preserved : goal.loop-n-preserved
 loop-n-preserved c =

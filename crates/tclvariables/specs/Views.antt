@@ -1,19 +1,20 @@
 -- What the variables of the program stand for.
-use Rattle.std.specs.Prelude.{List, map, string_bytes, option_map, String}
+use Rattle.std.specs.Prelude.{ℕ, List, map, reverse, string_bytes, option_map, String}
 use Rattle.std.specs.declared.alloc.Global.{Global}
 use Rattle.tclchars.specs.Runs.{Text}
 use Rattle.tclrules.specs.Variables as rules
 use Rattle.tclrules.specs.Variables.{State}
-use Rattle.tclsteps.specs.declared.variables.Parameter.{Parameter}
-use Rattle.tclsteps.specs.declared.variables.Procedure.{Procedure}
-use Rattle.tclsteps.specs.declared.variables.Local.{Local}
-use Rattle.tclsteps.specs.declared.variables.Variables.TheInside.{Inside}
+use Rattle.tclvariables.specs.declared.variables.Parameter.{Parameter}
+use Rattle.tclvariables.specs.declared.variables.Procedure.{Procedure}
+use Rattle.tclvariables.specs.declared.local.Local.TheInside as local
+use Rattle.tclvariables.specs.declared.variables.Variables.TheInside.{Inside}
 
-abbrev pub texts_of : List (String Global × String Global) → rules.Variables
-texts_of entries = map (λ e. (string_bytes e.0, string_bytes e.1)) entries
+abbrev pub texts_of : List (String Global × Text) → rules.Variables
+texts_of entries = map (λ e. (string_bytes e.0, e.1)) entries
 
-abbrev pub local_view : Local → rules.Frame
-local_view l = record { own = texts_of l.own.entries; shared = map string_bytes l.shared.items }
+-- the name that was shared last comes first
+abbrev pub local_view : local.Inside → rules.Frame
+local_view l = record { own = texts_of l.own.entries; shared = reverse (map string_bytes l.shared.items) }
 
 abbrev pub parameter_view : Parameter → rules.Parameter
 parameter_view p = (string_bytes p.name, option_map string_bytes p.default)
@@ -24,7 +25,7 @@ procedure_view p = record { parameters = map parameter_view p.parameters.items; 
 abbrev pub variables_view : Inside → State
 variables_view v = record {
   globals = texts_of v.globals.entries;
-  frame = option_map local_view v.local;
+  frame = v.local;
   procedures = map (λ e. (string_bytes e.0, procedure_view e.1.value)) v.procedures.entries;
   place = v.place;
 }

@@ -1,0 +1,9 @@
+use Rattle.std.proofs.Common.{refl}
+use Rattle.std.specs.Prelude.{string_bytes}
+use Rattle.tclvariables.specs.Views.{procedure_view}
+use Rattle.tclvariables.proofs.Frames.{store_named}
+use Rattle.tclvariables.proofs.variables.Variables.define.Goals as goal
+
+pub returns-clause-ok : goal.returns-clause-ok
+returns-clause-ok c =
+    rw (c.in_ok-insert.ensures.entries, ← c.self.view_is, store_named (λ p. procedure_view p.value) c.self.inside.procedures.entries c.in_ok-name.name c.in_ok-procedure.procedure, c.in_ok-name.ensures.ok, c.in_ok-procedure.ensures.ok) refl

@@ -1,0 +1,69 @@
+//! What a variable holds.
+ghost use Rattle.std.specs.Prelude.{◌≡◌, string_bytes, true};
+ghost use Rattle.tclvariables.specs.Contents.{IsWritten};
+
+use std::marker::Model;
+
+/// The value of a variable. Of one that `lappend` wrote it is known that it is a list's text as `list` writes it, so that it need
+/// not be read again.
+#[derive(Drop)]
+pub struct Content {
+    text: String,
+    is_list: bool,
+}
+
+impl Model for Content {
+    ghost use Rattle.std.specs.Prelude.{◌≡◌, ℕ, List, string_bytes, true};
+    ghost use Rattle.tclvariables.specs.Contents.{IsWritten};
+
+    ghost Value = { List ℕ };
+
+    ghost view = { λ c. string_bytes c.text };
+
+    ghost invariant = { λ c. c.is_list ≡ true → IsWritten (string_bytes c.text) };
+}
+
+impl Content {
+    /// Any text.
+    pub fn of_text(text: String) -> Content
+        ensures { result ≡ string_bytes text }
+    {
+        Content {
+            text,
+            is_list: false,
+        }
+    }
+
+    /// The text of a list, as `list` writes it.
+    pub fn of_list(text: String) -> Content
+        requires { IsWritten (string_bytes text) }
+        ensures { result ≡ string_bytes text }
+    {
+        Content {
+            text,
+            is_list: true,
+        }
+    }
+
+    /// The text.
+    pub fn as_str(&self) -> &str
+        ensures { result.now ≡ self.now }
+    {
+        self.text.as_str()
+    }
+
+    /// Whether it is known to be a list's text as `list` writes it.
+    pub fn is_list(&self) -> bool
+        ensures { result ≡ true → IsWritten self.now }
+    {
+        self.is_list
+    }
+
+    /// The text, to be changed.
+    pub fn into_text(self) -> String
+        ensures { string_bytes result ≡ self }
+    {
+        let Content { text, .. } = self;
+        text
+    }
+}

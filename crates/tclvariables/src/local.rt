@@ -1,0 +1,76 @@
+//! The frame of a procedure that runs.
+ghost use Rattle.std.specs.Prelude.{◌≡◌, [], ◌∷◌, OnOk, OnErr, option_map, bytes_eq};
+ghost use Rattle.std.specs.List.{list_any};
+ghost use Rattle.tclrules.specs.Variables.{Frame, lookup, store, without};
+
+use crate::content::Content;
+use crate::table::{Table, put, remove, text_in};
+use indexmap::IndexMap;
+use std::alloc::{AllocError, Global};
+use std::marker::Model;
+use tclvalue::is_among;
+
+/// The variables of a procedure that runs, and the names of the global ones that it sees.
+#[derive(Drop)]
+pub struct Local {
+    own: Table,
+    shared: Vec<String>,
+}
+
+impl Model for Local {
+    ghost use Rattle.tclrules.specs.Variables.{Frame};
+
+    ghost Value = { Frame };
+
+    ghost use Rattle.tclvariables.specs.Views.{local_view};
+
+    ghost view = { local_view };
+}
+
+impl Local {
+    /// No variables, and no global one is seen.
+    pub fn new(alloc: Global) -> Local
+        ensures { result ≡ record { own = []; shared = [] } }
+    {
+        Local {
+            own: IndexMap::new(alloc),
+            shared: Vec::new(alloc),
+        }
+    }
+
+    /// Whether a name leads to a global variable.
+    pub(crate) fn sees(&self, name: &str) -> bool
+        ensures { result ≡ list_any (bytes_eq name.now) self.now.shared }
+    {
+        is_among(&self.shared, name)
+    }
+
+    pub(crate) fn get(&self, name: &str) -> Option<&str>
+        ensures { option_map (λ v. v.now) result ≡ lookup self.now.own name.now }
+    {
+        text_in(&self.own, name)
+    }
+
+    pub(crate) fn put(&mut self, alloc: Global, name: &str, content: Content) -> Result<(), AllocError>
+        ensures ok { OnOk result (self.new ≡ record self.old { own = store self.old.own name.now content }) }
+        ensures err { OnErr result (self.new ≡ self.old) }
+    {
+        put(&mut self.own, alloc, name, content)
+    }
+
+    pub(crate) fn remove(&mut self, name: &str)
+        ensures { self.new ≡ record self.old { own = without self.old.own name.now } }
+    {
+        remove(&mut self.own, name)
+    }
+
+    /// Lets a name lead to the global variable from now on.
+    pub(crate) fn share(&mut self, alloc: Global, name: &str) -> Result<(), AllocError>
+        ensures ok { OnOk result (self.new ≡ record { own = without self.old.own name.now; shared = name.now ∷ self.old.shared }) }
+        ensures err { OnErr result (self.new ≡ self.old) }
+    {
+        self.shared.push(String::from_str(alloc, name)?)?;
+        remove(&mut self.own, name);
+        Ok(())
+    }
+}

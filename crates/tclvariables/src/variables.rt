@@ -1,0 +1,220 @@
+//! Variables, the frame of the procedure that runs, and the procedures.
+ghost use Rattle.std.specs.Prelude.{◌≡◌, [], string_bytes, OnOk, OnErr, IfOk, option_map, is_some};
+ghost use Rattle.tclrules.specs.Variables.{start, in_frame, sees, value_at, with_value, without_value, shared_in, lookup, store};
+ghost use Rattle.tclrules.specs.Rules.{new_frame, with_procedure};
+ghost use Rattle.tclrules.specs.Promise as promise;
+ghost use Rattle.tclvariables.specs.Views.{texts_of, procedure_view};
+
+use crate::content::Content;
+use crate::local::Local;
+use crate::table::{Table, put, remove, text_in};
+use indexmap::IndexMap;
+use std::alloc::{AllocError, Global};
+use std::marker::Model;
+use std::mem;
+use std::rc::Rc;
+
+/// A parameter of a procedure, with its default if it has one.
+#[derive(Drop)]
+pub struct Parameter {
+    /// The name of the variable that it becomes.
+    pub name: String,
+    /// The value where a call has no word for it.
+    pub default: Option<String>,
+}
+
+/// A procedure.
+#[derive(Drop)]
+pub struct Procedure {
+    /// The parameters, from left to right.
+    pub parameters: Vec<Parameter>,
+    /// The text of its script.
+    pub body: String,
+}
+
+/// The global variables, the frame of the procedure that runs, the procedures, and the place of the file's command at hand.
+#[derive(Drop)]
+pub struct Variables {
+    globals: Table,
+    local: Option<Local>,
+    procedures: IndexMap<String, Rc<Procedure>>,
+    place: usize,
+}
+
+impl Model for Variables {
+    ghost use Rattle.tclrules.specs.Variables.{State};
+
+    ghost Value = { State };
+
+    ghost use Rattle.tclvariables.specs.Views.{variables_view};
+
+    ghost view = { variables_view };
+}
+
+impl Variables {
+    /// No variables and no procedures.
+    pub fn new(alloc: Global) -> Variables
+        ensures { result ≡ start [] }
+    {
+        Variables {
+            globals: IndexMap::new(alloc),
+            local: None,
+            procedures: IndexMap::new(alloc),
+            place: 0,
+        }
+    }
+
+    /// Whether a procedure runs.
+    pub fn is_inside(&self) -> bool
+        ensures { result ≡ is_some self.now.frame }
+    {
+        self.local.is_some()
+    }
+
+    /// Whether a name without colons leads to a global variable.
+    pub fn sees(&self, name: &str) -> bool
+        ensures { result ≡ sees self.now.frame name.now }
+    {
+        match &self.local {
+            None => true,
+            Some(local) => local.sees(name),
+        }
+    }
+
+    /// The value of a variable: of a global one, or of one of the procedure that runs.
+    pub fn get(&self, global: bool, name: &str) -> Option<&str>
+        ensures { option_map (λ v. v.now) result ≡ value_at self.now (global, name.now) }
+    {
+        if global {
+            return text_in(&self.globals, name);
+        }
+        match &self.local {
+            None => None,
+            Some(local) => local.get(name),
+        }
+    }
+
+    /// Gives a variable a value: a global one, or one of the procedure that runs, if one does. Where memory runs out, nothing
+    /// changes.
+    pub fn set(
+        &mut self,
+        alloc: Global,
+        global: bool,
+        name: &str,
+        value: String,
+    ) -> Result<(), AllocError>
+        ensures ok { OnOk result (self.new ≡ with_value self.old (global, name.now) (string_bytes value)) }
+        ensures err { OnErr result (self.new ≡ self.old) }
+    {
+        self.put(alloc, global, name, Content::of_text(value))
+    }
+
+    /// Gives a variable what it is to hold. Where memory runs out, nothing changes.
+    pub fn put(
+        &mut self,
+        alloc: Global,
+        global: bool,
+        name: &str,
+        content: Content,
+    ) -> Result<(), AllocError>
+        ensures ok { OnOk result (self.new ≡ with_value self.old (global, name.now) content) }
+        ensures err { OnErr result (self.new ≡ self.old) }
+    {
+        if global {
+            return put(&mut self.globals, alloc, name, content);
+        }
+        match &mut self.local {
+            None => Ok(()),
+            Some(local) => local.put(alloc, name, content),
+        }
+    }
+
+    /// Unsets a variable, if it is there.
+    pub fn unset(&mut self, global: bool, name: &str)
+        ensures { self.new ≡ without_value self.old (global, name.now) }
+    {
+        if global {
+            return remove(&mut self.globals, name);
+        }
+        match &mut self.local {
+            None => {}
+            Some(local) => local.remove(name),
+        }
+    }
+
+    /// Lets a name lead to the global variable from now on, in the procedure that runs, if one does. Where memory runs out, nothing
+    /// changes.
+    pub fn share(&mut self, alloc: Global, name: &str) -> Result<(), AllocError>
+        ensures ok { OnOk result (self.new ≡ in_frame self.old (shared_in self.old.frame name.now)) }
+        ensures err { OnErr result (self.new ≡ self.old) }
+    {
+        match &mut self.local {
+            None => Ok(()),
+            Some(local) => local.share(alloc, name),
+        }
+    }
+
+    /// Begins a procedure, which has no variables at first. Gives the variables of the procedure that called it, if one did.
+    pub fn enter(&mut self, alloc: Global) -> Option<Local>
+        ensures entered { self.new ≡ in_frame self.old new_frame }
+        ensures caller { result ≡ self.old.frame }
+    {
+        mem::replace(&mut self.local, Some(Local::new(alloc)))
+    }
+
+    /// Ends a procedure: what called it has its variables again.
+    pub fn leave(&mut self, caller: Option<Local>)
+        ensures { self.new ≡ in_frame self.old caller }
+    {
+        self.local = caller;
+    }
+
+    /// The procedure of this name.
+    pub fn procedure(&self, name: &str) -> Option<&Rc<Procedure>>
+        ensures { option_map (λ p. procedure_view p.now.value) result ≡ lookup self.now.procedures name.now }
+    {
+        self.procedures.get(name)
+    }
+
+    /// Makes a procedure, in the place of one of this name. Where memory runs out, nothing changes.
+    pub fn define(
+        &mut self,
+        alloc: Global,
+        name: &str,
+        procedure: Procedure,
+    ) -> Result<(), AllocError>
+        ensures ok { OnOk result (self.new ≡ with_procedure self.old name.now (procedure_view procedure)) }
+        ensures err { OnErr result (self.new ≡ self.old) }
+    {
+        let name = String::from_str(alloc, name)?;
+        let procedure = Rc::new(alloc, procedure)?;
+        let _ = self.procedures.insert(name, procedure)?;
+        Ok(())
+    }
+
+    /// The global variables with their values, in the order of their making.
+    pub fn into_globals(self, alloc: Global) -> Result<Vec<(String, String)>, AllocError>
+        ensures { IfOk result (λ v. promise.texts_of v.items ≡ self.globals) }
+    {
+        let Variables { globals, .. } = self;
+        let mut texts = Vec::new(alloc);
+        for (name, content) in globals {
+            texts.push((name, content.into_text()))?;
+        }
+        Ok(texts)
+    }
+
+    /// Where in the file its command at hand begins, in bytes.
+    pub fn place(&self) -> usize
+        ensures { result ≡ self.now.place }
+    {
+        self.place
+    }
+
+    /// Notes where in the file its command at hand begins, in bytes.
+    pub fn at_place(&mut self, place: usize)
+        ensures { self.new ≡ record self.old { place = place } }
+    {
+        self.place = place;
+    }
+}
