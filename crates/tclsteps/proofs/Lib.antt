@@ -1,4 +1,2 @@
 pub mod Leading
-pub mod Frames
 pub mod Trees
-pub mod Apart

@@ -1,5 +1,3 @@
 pub mod Stops
-pub mod Views
-pub mod Places
 pub mod Weights
 pub mod Machine

@@ -1,8 +1,8 @@
 //! What steps of an evaluation look at.
 
-use crate::variables::Variables;
 use std::alloc::Global;
 use tclrules::Limits;
+use tclvariables::Variables;
 
 /// The variables, the limits, and the source of which the pieces of the tree are ranges.
 #[derive(Clone, Copy)]

@@ -4,16 +4,12 @@
 
 mod context;
 mod frame;
-mod place;
 mod reading;
 mod stop;
 mod substitution;
-mod variables;
 
 pub use context::Context;
 pub use frame::{Control, Frame, Step};
-pub use place::{Place, place_named, place_of};
 pub use reading::{read, read_element};
 pub use stop::{Halt, Stop};
 pub use substitution::advance;
-pub use variables::{Parameter, Procedure, Variables};

@@ -8,13 +8,12 @@ ghost use Rattle.tclrules.specs.Plans.{Job, Next};
 ghost use Rattle.tclrules.specs.Words.{found, read, read_element, read_place, read_plain};
 ghost use Rattle.tclrules.specs.Messages.{in_quotes, is_array, no_variable};
 ghost use Rattle.tclsteps.specs.Stops.{after, Raises};
-ghost use Rattle.tclsteps.specs.Places.{place_view};
+ghost use Rattle.tclvariables.specs.Places.{place_view};
 
-use crate::place::{Place, place_named, place_of};
 use crate::stop::Stop;
-use crate::variables::Variables;
 use std::alloc::{AllocError, Global};
 use tclrules::Host;
+use tclvariables::{Place, Variables, place_named, place_of};
 
 fn in_quotes(alloc: Global, text: &str) -> Result<String, AllocError>
     ensures { IfOk result (λ t. string_bytes t ≡ in_quotes text.now) }

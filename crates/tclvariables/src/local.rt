@@ -51,7 +51,12 @@ impl Local {
         text_in(&self.own, name)
     }
 
-    pub(crate) fn put(&mut self, alloc: Global, name: &str, content: Content) -> Result<(), AllocError>
+    pub(crate) fn put(
+        &mut self,
+        alloc: Global,
+        name: &str,
+        content: Content,
+    ) -> Result<(), AllocError>
         ensures ok { OnOk result (self.new ≡ record self.old { own = store self.old.own name.now content }) }
         ensures err { OnErr result (self.new ≡ self.old) }
     {
