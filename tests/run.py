@@ -33,6 +33,7 @@ SUITES = (
     ("tcl/compare.py", "tcltext_cases"),
     ("tcl/values.py", "tclvalue_cases"),
     ("tcl/memory.py", ""),
+    ("runs.py", ""),
 )
 
 

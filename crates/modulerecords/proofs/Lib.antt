@@ -1,2 +1,2 @@
-mod Effected
-mod Moved
+pub mod Effected
+pub mod Moved

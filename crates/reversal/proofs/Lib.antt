@@ -1,3 +1,4 @@
+mod ModuleEntries
 mod Frames
 mod Uses
 mod Loads
@@ -6,4 +7,7 @@ mod OneStack
 mod LiveModules
 mod Steps
 mod WholeRuns
+mod Requests
 mod Losses
+mod Histories
+mod Lost

@@ -9,13 +9,14 @@ use Rattle.environment.specs.Fields.{are_distinct}
 use Rattle.environment.proofs.TextLemmas.{same_text, bytes_eq-symmetric, has-push, or_left, or_right}
 use Rattle.environment.proofs.EditLemmas.{both_true, not_is}
 use Rattle.stackstate.specs.StackRuns.{other_pushes}
-use Rattle.loadedlist.specs.Loaded.{Entry, names_of, kept_once, without_entry}
+use Rattle.loadedlist.specs.Loaded.{Entry, names_of, without_entry}
 use Rattle.envlaws.proofs.StateLemmas.{names_added}
 use Rattle.modulerecords.specs.Moves.{Module, entry_of}
 use Rattle.reversal.specs.Ways.{Way, AllSuit}
 use Rattle.reversal.specs.Live.{last_set, live_set, adds, live_adds, last_push, with_push, live_pushes, entries_over}
 use Rattle.reversal.specs.Standing.{InAnyOrder, none, next, swap, also}
 use Rattle.reversal.specs.Runs.{live_named, without_live, AreFit}
+use Rattle.reversal.proofs.ModuleEntries.{entry_once}
 use Rattle.reversal.proofs.OneVariable.{by_test}
 use Rattle.reversal.proofs.OneStack.{popped}
 
@@ -186,7 +187,7 @@ distinct_last n (k ∷ ns) h =
     (rw c b.0, rw (or_right (bytes_eq k n) (has k ns) a) b.1)
 
 pub names_over : (xs : List Entry) (m : Module) (live : List Module) → names_of (entries_over xs (m ∷ live)) ≡ names_of (entries_over xs live) ++ m.name ∷ []
-names_over xs m live = names_added (entries_over xs live) (entry_of m)
+names_over xs m live = ap (λ (y : Entry). names_of (entries_over xs live ++ y ∷ [])) (sym (entry_once m)) ∙ names_added (entries_over xs live) (entry_of m)
 
 pub fresh : (n : Text) (xs : List Entry) (live : List Module) → has n (names_of (entries_over xs live)) ≡ false → (has n (names_of xs) ≡ false) × (has n (live_names live) ≡ false)
 fresh n xs [] h = (h, refl)
@@ -234,9 +235,9 @@ entry_stays n (x ∷ ys) y t = by_test (bytes_eq n x.name) _ (λ e. rw e (entry_
 pub entries_less : (n : Text) (xs : List Entry) (live : List Module) → has n (names_of xs) ≡ false → Distinct live → without_entry n (entries_over xs live) ≡ entries_over xs (without_live n live)
 entries_less n xs [] h d = kept_all n xs h
 entries_less n xs (k ∷ live) h d = by_test (bytes_eq n k.name) _
-    (λ t. entry_gone n (entries_over xs live) (kept_once (entry_of k)) t ∙ entries_less n xs live h d.1
+    (λ t. entry_gone n (entries_over xs live) (entry_of k) t ∙ entries_less n xs live h d.1
     ∙ ap (entries_over xs) (less_absent n live (ap (λ (z : Text). has z (live_names live)) (same_text n k.name t) ∙ d.0) ∙ head t))
-    (λ t. entry_stays n (entries_over xs live) (kept_once (entry_of k)) t ∙ ap (λ (l : List Entry). l ++ kept_once (entry_of k) ∷ []) (entries_less n xs live h d.1) ∙ ap (entries_over xs) (tail t))
+    (λ t. entry_stays n (entries_over xs live) (entry_of k) t ∙ ap (λ (l : List Entry). l ++ entry_of k ∷ []) (entries_less n xs live h d.1) ∙ ap (entries_over xs) (tail t))
   where
     head : bytes_eq n k.name ≡ true → live ≡ without_live n (k ∷ live)
     head t = rw t refl

@@ -10,6 +10,7 @@ use Rattle.modulerecords.specs.Effects.{load, unload, effects, by_edit, and_then
 use Rattle.modulerecords.specs.Moves.{Module, Loads, Unloads, entry_of, listed, moved}
 use Rattle.reversal.specs.Laws.{IsLoad}
 use Rattle.reversal.proofs.Frames.{accepted}
+use Rattle.reversal.proofs.ModuleEntries.{added_entry}
 
 abbrev pub Outcome : Type 0
 Outcome = Result Environment RecordReason
@@ -51,6 +52,6 @@ loads_make m old new h =
     record {
       after = p.mid;
       effects = p.effects;
-      entry = λ xs l. loaded_after_add p.mid new (entry_of m) xs l p.entry;
+      entry = λ xs l. added_entry m xs new (loaded_after_add p.mid new (entry_of m) xs l p.entry);
       only = add_edits_loaded p.mid new (entry_of m) p.entry;
     }

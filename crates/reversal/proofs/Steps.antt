@@ -35,6 +35,7 @@ use Rattle.reversal.proofs.Frames.{Side, loads, unloads, touched, kept_loaded, k
 use Rattle.reversal.proofs.Loads.{parts, load_parts, unload_parts}
 use Rattle.reversal.proofs.OneVariable.{by_test, pick, value_kept, all_untouched, loads_fixed, unloads_fixed, or_unwrap, PathAt, path_kept, path_same, loads_path, unloads_path}
 use Rattle.reversal.proofs.OneStack.{more_loaded, StackAt, stack_kept, Pusher, loads_push, unloads_push, popped}
+use Rattle.reversal.proofs.ModuleEntries.{added_entry}
 use Rattle.reversal.proofs.LiveModules.{live_names, adds_less, suits_of, set_same, set_alone, fit_less, order_with, order_has, no_push, other_live, order_popped, apart_of, apart_distinct, apart_named, fresh, gone, entries_less, more_there, newest_there, named_there}
 
 -- records leave the loaded list and every name that is none of the tool's
@@ -157,7 +158,7 @@ pub kept_load : (ways : Text → Way) (b : Environment) (xs : List Entry) (live 
 kept_load ways b xs live m old new g k fit fits h =
     let p = load_parts m old new h in
     let t = all_through load loads ways m.name m.records old p.mid fit.suits p.effects in
-    let list : loaded_in new ≡ Some (entries_over xs (m ∷ live)) = loaded_after_add p.mid new (entry_of m) (entries_over xs live) (t.loaded.list ∙ k.list) p.entry in
+    let list : loaded_in new ≡ Some (entries_over xs (m ∷ live)) = added_entry m (entries_over xs live) new (loaded_after_add p.mid new (entry_of m) (entries_over xs live) (t.loaded.list ∙ k.list) p.entry) in
     let order : AreLoadedInOrder new = add_in_order p.mid new (entry_of m) p.entry in
     let sound : AreSound (entries_over xs (m ∷ live)) = sound_of new (entries_over xs (m ∷ live)) order list in
     let same : fits.0 ≡ entries_over xs live = same_Some fits.0 (entries_over xs live) (sym fits.1 ∙ k.list) in

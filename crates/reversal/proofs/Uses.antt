@@ -24,7 +24,8 @@ meets ways w v a k h s e = sym s ∙ ap ways (sym (same_text w v e)) ∙ h
 -- an untouched variable is named by none
 pub unnamed : (ways : Text → Way) (w : Text) (r : Record) → ways w ≡ Untouched → Suits ways r → is_named w (variable_of r) ≡ true → ⊥
 unnamed ways w (Set v x) h s e = wrong ways w v (Fixed None) Untouched h s.1 e (λ z. cc)
-unnamed ways w (Unset v x) h s e = wrong ways w v (Fixed x) Untouched h s.1 e (λ z. cc)
+unnamed ways w (Unset v None) h s e = false≢true s.0
+unnamed ways w (Unset v (Some x)) h s e = wrong ways w v (Fixed (Some x)) Untouched h s.1 e (λ z. cc)
 unnamed ways w (Push v x) h s e = wrong ways w v Stacked Untouched h s.1 e (λ z. cc)
 unnamed ways w (Front d v xs) h s e = wrong ways w v (Pathed d) Untouched h s.1 e (λ z. cc)
 unnamed ways w (Back d v xs) h s e = wrong ways w v (Pathed d) Untouched h s.1 e (λ z. cc)
@@ -91,7 +92,8 @@ moved_drop v w a d xs e h k = ap (λ (t : Text). dropped_path e t a xs) h ∙ ap
 
 pub uses_path : (ways : Text → Way) (w : Text) (d : ℕ) (r : Record) → ways w ≡ Pathed d → Suits ways r → is_named w (variable_of r) ≡ true → UsesPath w d r
 uses_path ways w d (Set v x) h s e = wrong ways w v (Fixed None) (Pathed d) h s.1 e (λ z. cc)
-uses_path ways w d (Unset v x) h s e = wrong ways w v (Fixed x) (Pathed d) h s.1 e (λ z. cc)
+uses_path ways w d (Unset v None) h s e = absurd (false≢true s.0)
+uses_path ways w d (Unset v (Some x)) h s e = wrong ways w v (Fixed (Some x)) (Pathed d) h s.1 e (λ z. cc)
 uses_path ways w d (Push v x) h s e = wrong ways w v Stacked (Pathed d) h s.1 e (λ z. cc)
 uses_path ways w d (Front a v xs) h s e =
     let p : v ≡ w = sym (same_text w v e) in
@@ -126,7 +128,8 @@ pub record UsesStack (w : Text) (r : Record) : Type 0 where
 
 pub uses_stack : (ways : Text → Way) (w : Text) (r : Record) → ways w ≡ Stacked → Suits ways r → is_named w (variable_of r) ≡ true → UsesStack w r
 uses_stack ways w (Set v x) h s e = wrong ways w v (Fixed None) Stacked h s.1 e (λ z. cc)
-uses_stack ways w (Unset v x) h s e = wrong ways w v (Fixed x) Stacked h s.1 e (λ z. cc)
+uses_stack ways w (Unset v None) h s e = absurd (false≢true s.0)
+uses_stack ways w (Unset v (Some x)) h s e = wrong ways w v (Fixed (Some x)) Stacked h s.1 e (λ z. cc)
 uses_stack ways w (Push v x) h s e =
     let p : v ≡ w = sym (same_text w v e) in
     record {

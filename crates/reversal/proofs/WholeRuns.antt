@@ -1,9 +1,11 @@
 -- Whole runs, and what follows from what is kept.
-use Rattle.std.proofs.Common.{◌≡◌, ℕ, true, List, [], ◌∷◌, ◌++◌, refl, sym, ap, ◌∙◌, subst, Some}
-use Rattle.std.proofs.lemmas.Option.{same_Some}
+use Rattle.std.proofs.Common.{◌≡◌, ℕ, true, List, [], ◌∷◌, ◌++◌, refl, sym, ap, ◌∙◌, subst, Some, Result, Ok}
+use Rattle.std.specs.Prelude.{bytes_eq}
+use Rattle.std.proofs.lemmas.Option.{same_Some, none-some}
 use Rattle.environment.specs.Texts.{Text}
 use Rattle.environment.specs.Names.{share_name, stack_name}
 use Rattle.environment.specs.Environment.{Environment, lookup}
+use Rattle.environment.proofs.TextLemmas.{same_text}
 use Rattle.environment.proofs.EnvLemmas.{same_environment}
 use Rattle.pathstate.specs.PathVariables.{path_in}
 use Rattle.pathstate.specs.PathOrder.{IsPathInOrder}
@@ -16,13 +18,15 @@ use Rattle.envlaws.specs.Places.{Place, place_of, is_editable, IsNameOf}
 use Rattle.envlaws.specs.Places.Place.{Variable, Counters, Stack, LoadedNames, LoadedFiles, LoadedConflicts, LoadedPrereqs, Other}
 use Rattle.envlaws.proofs.PlaceLemmas.{name_of_place}
 use Rattle.envlaws.proofs.StateLemmas.{start_of, one_path, one_stack, one_list, list_in_order}
-use Rattle.modulerecords.specs.Moves.{Module, Move, Loads, Unloads, Lead}
+use Rattle.modulerecords.specs.Records.{Record}
+use Rattle.modulerecords.specs.Judgments.{RecordReason}
+use Rattle.modulerecords.specs.Moves.{Module, Move, Loads, Unloads, moved, Lead}
 use Rattle.reversal.specs.Ways.{Way, Untouched, Fixed, Pathed, Stacked}
 use Rattle.reversal.specs.Live.{live_adds, entries_over}
 use Rattle.reversal.specs.Standing.{IsInOrder, IsStart, HasValue, StandsAt, Stands}
-use Rattle.reversal.specs.Runs.{live_after, without_live, AreFit, AreReversible}
+use Rattle.reversal.specs.Runs.{live_named, live_after, without_live, Undoes, AreFit, AreReversible}
 use Rattle.reversal.specs.Laws.{Holds, RunsReturn, EachOnTheWay, StepsKeep}
-use Rattle.reversal.proofs.OneVariable.{path_state}
+use Rattle.reversal.proofs.OneVariable.{by_test, path_state}
 use Rattle.reversal.proofs.LiveModules.{order_refl, order_none}
 use Rattle.reversal.proofs.Steps.{Kept, Held, Begun, kept_load, kept_unload}
 
@@ -142,13 +146,35 @@ holds_of ways b e xs live g k = record {
   returned = λ h. back ways b e xs g (subst (λ (l : List Module). Kept ways b xs l e) h k);
 }
 
+-- An unload is by the name and the records alone: so it is that of the live module.
+
+same_named : (n : Text) (live : List Module) (m : Module) → live_named n live ≡ Some m → m.name ≡ n
+same_named n [] m h = absurd (none-some m h)
+same_named n (k ∷ live) m h = by_test (bytes_eq n k.name) _
+    (λ t. let q : k ≡ m = same_Some k m (rw t at h) in ap (λ (y : Module). y.name) (sym q) ∙ sym (same_text n k.name t))
+    (λ t. same_named n live m (rw t at h))
+
+unloaded_with : Environment → Text → List Record → Result Environment RecordReason
+unloaded_with e name records = moved (Unloads (record { name = name; path = []; records = records })) e
+
+same_unload : (m k : Module) (e : Environment) → k.name ≡ m.name → m.records ≡ k.records → moved (Unloads k) e ≡ moved (Unloads m) e
+unfolding unloaded_with
+same_unload m k e h r = ap (λ (n : Text). unloaded_with e n k.records) h ∙ ap (unloaded_with e m.name) (sym r)
+
+kept_undone : (ways : Text → Way) (b : Environment) (xs : List Entry) (live : List Module) (m : Module) (old new : Environment) → Begun ways b xs → Kept ways b xs live old → Undoes live m
+    → moved (Unloads m) old ≡ Ok new → Kept ways b xs (without_live m.name live) new
+kept_undone ways b xs live m old new g k u h =
+    let n : u.loaded.name ≡ m.name = same_named m.name live u.loaded u.found in
+    subst (λ (t : Text). Kept ways b xs (without_live t live) new) n
+    (kept_unload ways b xs live u.loaded old new g k (ap (λ (t : Text). live_named t live) n ∙ u.found) (same_unload m u.loaded old n u.records ∙ h))
+
 -- runs
 
 kept_run : (ways : Text → Way) (b : Environment) (xs : List Entry) (live : List Module) (ms : List Move) (old new : Environment) → Begun ways b xs → Kept ways b xs live old → AreReversible ways live ms → Lead ms old new
     → Kept ways b xs (live_after live ms) new
 kept_run ways b xs live [] old new g k r l = subst (Kept ways b xs live) (sym l) k
 kept_run ways b xs live (Loads m ∷ ms) old new g k r l = kept_run ways b xs (m ∷ live) ms l.1.0 new g (kept_load ways b xs live m old l.1.0 g k r.0 l.0 l.1.1) r.1 l.1.2
-kept_run ways b xs live (Unloads m ∷ ms) old new g k r l = kept_run ways b xs (without_live m.name live) ms l.1.0 new g (kept_unload ways b xs live m old l.1.0 g k r.0 l.1.1) r.1 l.1.2
+kept_run ways b xs live (Unloads m ∷ ms) old new g k r l = kept_run ways b xs (without_live m.name live) ms l.1.0 new g (kept_undone ways b xs live m old l.1.0 g k r.0 l.1.1) r.1 l.1.2
 
 pub runs_return : RunsReturn
 runs_return ways b e ms s r l =
@@ -159,7 +185,7 @@ lead_parts : (done rest : List Move) (old new : Environment) → Lead (done ++ r
 lead_parts [] rest old new l = (old, refl, l)
 lead_parts (m ∷ done) rest old new l = let p = lead_parts done rest l.1.0 new l.1.2 in (p.0, (l.0, (l.1.0, l.1.1, p.1)), p.2)
 
-front_reversible : (ways : Text → Way) (live : List Module) (done rest : List Move) → AreReversible ways live (done ++ rest) → AreReversible ways live done
+pub front_reversible : (ways : Text → Way) (live : List Module) (done rest : List Move) → AreReversible ways live (done ++ rest) → AreReversible ways live done
 front_reversible ways live [] rest r = tt
 front_reversible ways live (Loads m ∷ done) rest r = (r.0, front_reversible ways (m ∷ live) done rest r.1)
 front_reversible ways live (Unloads m ∷ done) rest r = (r.0, front_reversible ways (without_live m.name live) done rest r.1)

@@ -2,12 +2,13 @@
 use Rattle.std.specs.Prelude.{◌≡◌, List, [], ◌∷◌, ◌++◌, Some, Ok}
 use Rattle.environment.specs.Texts.{Text}
 use Rattle.environment.specs.Environment.{Environment}
-use Rattle.loadedlist.specs.Loaded.{Entry, loaded_in, kept_once}
+use Rattle.loadedlist.specs.Loaded.{Entry, loaded_in}
 use Rattle.envlaws.specs.Frames.{OnlyAmong, loaded_names}
 use Rattle.modulerecords.specs.Effects.{load, effects}
 use Rattle.modulerecords.specs.Moves.{Module, Move, Loads, entry_of, moved, Lead}
 use Rattle.reversal.specs.Ways.{Way}
 use Rattle.reversal.specs.Standing.{IsInOrder, IsStart, Stands}
+use Rattle.reversal.specs.Requests.{Outcome, all_moves, Run}
 use Rattle.reversal.specs.Runs.{live_after, AreFit, AreReversible}
 
 -- in order, standing over the start, and the start itself where no module is live
@@ -30,6 +31,13 @@ EachOnTheWay =
     → AreReversible ways [] (done ++ rest) → Lead (done ++ rest) start e
     → (mid : Environment) × Lead done start mid × Lead rest mid e × Holds ways start (live_after [] done) mid
 
+-- So is every environment of a run of requests, some of which may have been refused.
+abbrev pub RequestsReturn : Type 0
+RequestsReturn =
+    (ways : Text → Way) (start e : Environment) (done rest : List Outcome) → IsStart ways start
+    → AreReversible ways [] (all_moves (done ++ rest)) → Run (done ++ rest) start e
+    → (mid : Environment) × Run done start mid × Run rest mid e × Holds ways start (live_after [] (all_moves done)) mid
+
 -- The same from any environment that is in order and stands over a start, whatever led there.
 abbrev pub StepsKeep : Type 0
 StepsKeep =
@@ -42,7 +50,7 @@ StepsKeep =
 pub record IsLoad (m : Module) (old new : Environment) : Type 0 where
   pub after : Environment
   pub effects : effects load m.name m.records old ≡ Ok after
-  pub entry : (xs : List Entry) → loaded_in after ≡ Some xs → loaded_in new ≡ Some (xs ++ kept_once (entry_of m) ∷ [])
+  pub entry : (xs : List Entry) → loaded_in after ≡ Some xs → loaded_in new ≡ Some (xs ++ entry_of m ∷ [])
   pub only : OnlyAmong after new loaded_names
 
 abbrev pub LoadsMake : Type 0

@@ -2,7 +2,7 @@
 use Rattle.std.specs.Prelude.{ℕ, ◌+◌, List, [], ◌∷◌, ◌++◌, bytes_eq, count_by, if◌then◌else◌, Option, Some, None}
 use Rattle.std.specs.Option.{option_or}
 use Rattle.environment.specs.Texts.{Text}
-use Rattle.loadedlist.specs.Loaded.{Entry, kept_once}
+use Rattle.loadedlist.specs.Loaded.{Entry}
 use Rattle.modulerecords.specs.Records.{Record, Set, Unset, Push, Front, Back}
 use Rattle.modulerecords.specs.Moves.{Module, entry_of}
 
@@ -58,7 +58,7 @@ abbrev pub live_pushes : Text → List Module → List (Text × Text)
 live_pushes v [] = []
 live_pushes v (m ∷ live) = with_push m.name (last_push v m.records) (live_pushes v live)
 
--- the entries, and behind them those of the live modules, the newest last; a repeated conflict stands once
+-- the entries, and behind them those of the live modules, the newest last
 abbrev pub entries_over : List Entry → List Module → List Entry
 entries_over entries [] = entries
-entries_over entries (m ∷ live) = entries_over entries live ++ kept_once (entry_of m) ∷ []
+entries_over entries (m ∷ live) = entries_over entries live ++ entry_of m ∷ []

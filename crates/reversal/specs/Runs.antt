@@ -32,9 +32,15 @@ abbrev pub AreFit : (Text → Way) → List Module → Type 0
 AreFit ways [] = Unit {0}
 AreFit ways (m ∷ live) = IsFit ways live m × AreFit ways live
 
+-- The unloaded module is live, and these are the records of its load.
+pub record Undoes (live : List Module) (m : Module) : Type 0 where
+  pub loaded : Module
+  pub found : live_named m.name live ≡ Some loaded
+  pub records : m.records ≡ loaded.records
+
 -- Each load is of a module that is reversible and apart from the live ones. Each unload is of a live module, with the
 -- records of its load: so no module of the start is unloaded.
 abbrev pub AreReversible : (Text → Way) → List Module → List Move → Type 0
 AreReversible ways live [] = Unit {0}
 AreReversible ways live (Loads m ∷ ms) = IsFit ways live m × AreReversible ways (m ∷ live) ms
-AreReversible ways live (Unloads m ∷ ms) = (live_named m.name live ≡ Some m) × AreReversible ways (without_live m.name live) ms
+AreReversible ways live (Unloads m ∷ ms) = Undoes live m × AreReversible ways (without_live m.name live) ms

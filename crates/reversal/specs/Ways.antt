@@ -27,14 +27,15 @@ is_reversible (Conflict names) = true
 is_reversible (Prereq names) = true
 is_reversible (Whatis text) = true
 
--- the record uses the variable that it names in the variable's way
+-- The record uses the variable that it names in the variable's way. There is none for the kinds that are not undone.
 abbrev pub IsInWay : (Text → Way) → Record → Type 0
 IsInWay ways (Set var value) = ways var ≡ Fixed None
-IsInWay ways (Unset var value) = ways var ≡ Fixed value
+IsInWay ways (Unset var None) = Unit {0}
+IsInWay ways (Unset var (Some value)) = ways var ≡ Fixed (Some value)
 IsInWay ways (Push var value) = ways var ≡ Stacked
 IsInWay ways (Front delim var xs) = ways var ≡ Pathed delim
 IsInWay ways (Back delim var xs) = ways var ≡ Pathed delim
-IsInWay ways (Remove delim var xs) = ways var ≡ Pathed delim
+IsInWay ways (Remove delim var xs) = Unit {0}
 IsInWay ways (Conflict names) = Unit {0}
 IsInWay ways (Prereq names) = Unit {0}
 IsInWay ways (Whatis text) = Unit {0}

@@ -1,5 +1,5 @@
 //! Laws about the definitions alone. Each is a function that does nothing: its contract is the law.
-ghost use Rattle.reversal.specs.Laws.{RunsReturn, EachOnTheWay, StepsKeep, LoadsMake};
+ghost use Rattle.reversal.specs.Laws.{RunsReturn, EachOnTheWay, RequestsReturn, StepsKeep, LoadsMake};
 ghost use Rattle.reversal.specs.Losses.{SetLosesValue, UnsetLosesValue, UnsetGivesAnother};
 
 /// From a start in order, after any accepted loads and unloads of new modules that are reversible and apart, in whatever
@@ -8,6 +8,13 @@ ghost use Rattle.reversal.specs.Losses.{SetLosesValue, UnsetLosesValue, UnsetGiv
 pub fn runs()
     ensures returned { RunsReturn }
     ensures each { EachOnTheWay }
+{}
+
+/// The same of requests: each is a list of moves, as a switch, which unloads and then loads, or several names; a refused one
+/// moves nothing. Every environment between two of them is in order and stands over the start, and is the start where no
+/// module is live.
+pub fn requests()
+    ensures { RequestsReturn }
 {}
 
 /// The same from any environment that is in order and stands over a start in order, whatever led there: this is what one

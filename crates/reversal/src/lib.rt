@@ -3,4 +3,5 @@
 //! There is no code here: the functions are laws, each with its contract and no body.
 #![tactic(auto)]
 
+pub mod examples;
 pub mod laws;

@@ -1,0 +1,293 @@
+-- The worked examples, by computation.
+use Rattle.std.proofs.Common.{◌≡◌, ℕ, Bool, true, false, cond, List, [], ◌∷◌, refl, sym, ap, ◌∙◌, subst, Option, Some, None, inl}
+use Rattle.std.specs.Prelude.{◌≢◌, bytes_eq, unwrap_or, codes}
+use Rattle.std.proofs.lemmas.Bool.{false≢true}
+use Rattle.environment.specs.Texts.{Text}
+use Rattle.environment.specs.Names.{share_name, stack_name}
+use Rattle.environment.specs.Environment.{Environment, lookup, with_value}
+use Rattle.environment.specs.Fields.{colon}
+use Rattle.environment.specs.Changes.{same_value}
+use Rattle.environment.proofs.TextLemmas.{bytes_eq-same, same_text}
+use Rattle.environment.proofs.EnvLemmas.{same_environment, lookup-with_value}
+use Rattle.pathstate.specs.Paths.{PathState}
+use Rattle.pathstate.specs.PathTexts.{elements_text, pairs_text}
+use Rattle.pathstate.specs.PathOrder.{IsPathInOrder}
+use Rattle.stackstate.specs.StackVariables.{IsStackInOrder}
+use Rattle.loadedlist.specs.LoadedTexts.{names_variable, files_variable, conflicts_variable, prereqs_variable}
+use Rattle.loadedlist.specs.Loaded.{Entry, IsLoadedList, AreLoadedInOrder, names_of, names_text, files_text, conflicts_text, prereqs_text, with_loaded}
+use Rattle.modulerecords.specs.Records.{Set}
+use Rattle.modulerecords.specs.Moves.{Move, Loads, Unloads}
+use Rattle.reversal.specs.Ways.{Way, Untouched, Fixed, Pathed, Stacked}
+use Rattle.reversal.specs.Standing.{IsStart}
+use Rattle.reversal.specs.Runs.{live_after}
+use Rattle.reversal.specs.Examples.{only_way, Lose, first_module, second_module, variable, EmptyPath, CounterOfNone, BottomAlone, HiddenValue, OtherEscapes, OwnerNotLoaded, ValueBeforeSet, OtherValue, EmptyLists, NeedsOfNone, ConflictTwice, IllSpelled, EmptyGroup, UnsetWithoutValue, ElementRemoved, OtherRecords, StartUnloaded, SetAndPushed, UnsetAndPushed, AddedAndPushed, TwoDelimiters, SetByTwo}
+use Rattle.reversal.proofs.OneVariable.{by_test}
+use Rattle.reversal.proofs.Histories.{History, env, seen, lookup_seen, path_at, path_seen, played, played_leads}
+
+abbrev end_of : List Move → History → History
+end_of ms h = unwrap_or (played ms h) []
+
+same : (o : Option Text) → same_value o o ≡ true
+same None = refl
+same (Some x) = bytes_eq-same x
+
+differ : (a b : Option Text) → same_value a b ≡ false → a ≢ b
+differ a b d e = false≢true (sym d ∙ ap (same_value a) (sym e) ∙ same a)
+
+-- a run that is played to its end, and a variable that isn't as it was
+lose : (ms : List Move) (h : History) (q : Text) → played ms h ≡ Some (end_of ms h) → live_after [] ms ≡ [] → same_value (seen (end_of ms h) q) (seen h q) ≡ false → Lose (env h) ms
+lose ms h q p n d = record {
+  end = env (end_of ms h);
+  lead = played_leads ms h (end_of ms h) p;
+  none = n;
+  lost = λ e. differ (seen (end_of ms h) q) (seen h q) d (sym (lookup_seen (end_of ms h) q) ∙ ap (λ (t : Environment). lookup t q) e ∙ lookup_seen h q);
+}
+
+-- what is written again changes nothing
+
+at_name : (e : Environment) (n q : Text) (b : Bool) → bytes_eq q n ≡ b → cond b (lookup e n) (lookup e q) ≡ lookup e q
+at_name e n q true h = ap (lookup e) (sym (same_text q n h))
+at_name e n q false h = refl
+
+rewritten : (e : Environment) (n : Text) (v : Option Text) → lookup e n ≡ v → with_value e n v ≡ e
+rewritten e n v h = same_environment (with_value e n v) e (λ q.
+    lookup-with_value e n v q ∙ ap (λ (t : Option Text). cond (bytes_eq q n) t (lookup e q)) (sym h) ∙ at_name e n q (bytes_eq q n) refl)
+
+-- the four texts are those of the list
+record IsListed (h : History) (xs : List Entry) : Type 0 where
+  each : IsLoadedList xs
+  names : seen h names_variable ≡ names_text xs
+  files : seen h files_variable ≡ files_text xs
+  conflicts : seen h conflicts_variable ≡ conflicts_text xs
+  prereqs : seen h prereqs_variable ≡ prereqs_text xs
+
+listed : (h : History) (xs : List Entry) → IsListed h xs → AreLoadedInOrder (env h)
+listed h xs l = record { entries = xs; list = l.each; written = all }
+  where
+    all : with_loaded (env h) xs ≡ env h
+    all =
+        ap (λ (d : Environment). with_value (with_value (with_value d files_variable (files_text xs)) conflicts_variable (conflicts_text xs)) prereqs_variable (prereqs_text xs))
+        (rewritten (env h) names_variable (names_text xs) (lookup_seen h names_variable ∙ l.names))
+        ∙ ap (λ (d : Environment). with_value (with_value d conflicts_variable (conflicts_text xs)) prereqs_variable (prereqs_text xs))
+        (rewritten (env h) files_variable (files_text xs) (lookup_seen h files_variable ∙ l.files))
+        ∙ ap (λ (d : Environment). with_value d prereqs_variable (prereqs_text xs))
+        (rewritten (env h) conflicts_variable (conflicts_text xs) (lookup_seen h conflicts_variable ∙ l.conflicts))
+        ∙ rewritten (env h) prereqs_variable (prereqs_text xs) (lookup_seen h prereqs_variable ∙ l.prereqs)
+
+-- no module is loaded, or a/1
+nothing_listed : (h : History) → seen h names_variable ≡ None → seen h files_variable ≡ None → seen h conflicts_variable ≡ None → seen h prereqs_variable ≡ None → AreLoadedInOrder (env h)
+nothing_listed h n f c p = listed h [] (record { each = record { each = refl; names = refl; conflicts = refl }; names = n; files = f; conflicts = c; prereqs = p })
+
+abbrev a1 : List Entry
+a1 = record { name = codes "a/1"; path = codes "/m/a/1"; conflicts = []; prereqs = [] } ∷ []
+
+a1_listed : (h : History) → seen h names_variable ≡ names_text a1 → seen h files_variable ≡ files_text a1 → seen h conflicts_variable ≡ None → seen h prereqs_variable ≡ None → AreLoadedInOrder (env h)
+a1_listed h n f c p = listed h a1 (record { each = record { each = refl; names = refl; conflicts = refl }; names = n; files = f; conflicts = c; prereqs = p })
+
+-- a start, by its one variable
+
+abbrev AtStart : Way → Environment → Text → Type 0
+AtStart Untouched e name = Unit {0}
+AtStart (Fixed value) e name = lookup e name ≡ value
+AtStart (Pathed delim) e name = IsPathInOrder e name delim
+AtStart Stacked e name = lookup e (stack_name name) ≡ None
+
+this_way : (name v : Text) (way other : Way) → bytes_eq v name ≡ true → only_way name way v ≡ other → way ≡ other
+this_way name v way other t q = rw t at q
+
+no_way : (name v : Text) (way other : Way) → bytes_eq v name ≡ false → only_way name way v ≡ other → Untouched ≡ other
+no_way name v way other t q = rw t at q
+
+start_at : (name : Text) (way : Way) (e : Environment) → AreLoadedInOrder e → AtStart way e name → IsStart (only_way name way) e
+start_at name way e l a = record {
+  order = record {
+    loaded = l;
+    paths = λ v d f q. by_test (bytes_eq v name) _
+        (λ t. subst (λ (z : Text). IsPathInOrder e z d) (sym (same_text v name t)) (subst (λ (y : Way). AtStart y e name) (this_way name v way (Pathed d) t q) a))
+        (λ t. let z = no_way name v way (Pathed d) t q in absurd cc);
+    stacks = λ v xs f q i. by_test (bytes_eq v name) _
+        (λ t. subst (λ (z : Text). IsStackInOrder (names_of xs) e z) (sym (same_text v name t)) (inl (subst (λ (y : Way). AtStart y e name) (this_way name v way Stacked t q) a)))
+        (λ t. let z = no_way name v way Stacked t q in absurd cc);
+  };
+  fixed = λ v value f q. by_test (bytes_eq v name) _
+      (λ t. subst (λ (z : Text). lookup e z ≡ value) (sym (same_text v name t)) (subst (λ (y : Way). AtStart y e name) (this_way name v way (Fixed value) t q) a))
+      (λ t. let z = no_way name v way (Fixed value) t q in absurd cc);
+}
+
+path_ordered : (h : History) (name : Text) (delim : ℕ) → seen h name ≡ elements_text delim (path_at h name delim).elements → seen h (share_name name) ≡ pairs_text (path_at h name delim) → IsPathInOrder (env h) name delim
+path_ordered h name delim e c = record {
+  elements = lookup_seen h name ∙ e ∙ ap (λ (s : PathState). elements_text delim s.elements) (sym (path_seen h name delim));
+  counters = lookup_seen h (share_name name) ∙ c ∙ ap pairs_text (sym (path_seen h name delim));
+}
+
+pub empty_path : EmptyPath
+empty_path =
+    let h : History = (codes "V", Some ([])) ∷ [] in
+    record {
+      reversible = (record { suits = ((refl, refl), tt); alone = λ v s. refl }, (record { loaded = _; found = refl; records = refl }, tt));
+      listed = nothing_listed h refl refl refl refl;
+      lose = lose _ h (codes "V") refl refl refl;
+    }
+
+pub counter_of_none : CounterOfNone
+counter_of_none =
+    let h : History = (codes "V", Some (codes "/b")) ∷ (codes "__MODULES_SHARE_V", Some (codes "/z:3")) ∷ [] in
+    record {
+      reversible = (record { suits = ((refl, refl), tt); alone = λ v s. refl }, (record { loaded = _; found = refl; records = refl }, tt));
+      listed = nothing_listed h refl refl refl refl;
+      lose = lose _ h (codes "__MODULES_SHARE_V") refl refl refl;
+    }
+
+pub bottom_alone : BottomAlone
+bottom_alone =
+    let h : History = (codes "V", Some (codes "y")) ∷ (codes "__MODULES_PUSHENV_V", Some (codes "&y")) ∷ [] in
+    record {
+      reversible = (record { suits = ((refl, refl), tt); alone = λ v s. refl }, (record { loaded = _; found = refl; records = refl }, tt));
+      listed = nothing_listed h refl refl refl refl;
+      lose = lose _ h (codes "__MODULES_PUSHENV_V") refl refl refl;
+    }
+
+pub hidden_value : HiddenValue
+hidden_value =
+    let h : History = (codes "LOADEDMODULES", Some (codes "a/1")) ∷ (codes "_LMFILES_", Some (codes "/m/a/1")) ∷ (codes "V", Some (codes "z")) ∷ (codes "__MODULES_PUSHENV_V", Some (codes "a/1&y")) ∷ [] in
+    record {
+      reversible = (record { suits = ((refl, refl), tt); alone = λ v s. refl }, (record { loaded = _; found = refl; records = refl }, tt));
+      listed = a1_listed h refl refl refl refl;
+      lose = lose _ h (codes "V") refl refl refl;
+    }
+
+pub other_escapes : OtherEscapes
+other_escapes =
+    let h : History = (codes "LOADEDMODULES", Some (codes "a/1")) ∷ (codes "_LMFILES_", Some (codes "/m/a/1")) ∷ (codes "V", Some (codes "\\y")) ∷ (codes "__MODULES_PUSHENV_V", Some (codes "a/1&\\y")) ∷ [] in
+    record {
+      reversible = (record { suits = ((refl, refl), tt); alone = λ v s. refl }, (record { loaded = _; found = refl; records = refl }, tt));
+      listed = a1_listed h refl refl refl refl;
+      lose = lose _ h (codes "__MODULES_PUSHENV_V") refl refl refl;
+    }
+
+pub owner_not_loaded : OwnerNotLoaded
+owner_not_loaded =
+    let h : History = (codes "V", Some (codes "y")) ∷ (codes "__MODULES_PUSHENV_V", Some (codes "m/1&y")) ∷ [] in
+    record {
+      reversible = (record { suits = ((refl, refl), tt); alone = λ v s. refl }, (record { loaded = _; found = refl; records = refl }, tt));
+      listed = nothing_listed h refl refl refl refl;
+      lose = lose _ h (codes "V") refl refl refl;
+    }
+
+pub value_before_set : ValueBeforeSet
+value_before_set =
+    let h : History = (codes "V", Some (codes "y")) ∷ [] in
+    record {
+      reversible = (record { suits = ((refl, refl), tt); alone = λ v s. refl }, (record { loaded = _; found = refl; records = refl }, tt));
+      listed = nothing_listed h refl refl refl refl;
+      lose = lose _ h (codes "V") refl refl refl;
+    }
+
+pub other_value : OtherValue
+other_value =
+    let h : History = (codes "V", Some (codes "y")) ∷ [] in
+    record {
+      reversible = (record { suits = ((refl, refl), tt); alone = λ v s. refl }, (record { loaded = _; found = refl; records = refl }, tt));
+      listed = nothing_listed h refl refl refl refl;
+      lose = lose _ h (codes "V") refl refl refl;
+    }
+
+pub empty_lists : EmptyLists
+empty_lists =
+    let h : History = (codes "LOADEDMODULES", Some ([])) ∷ (codes "_LMFILES_", Some ([])) ∷ [] in
+    record { reversible = (record { suits = tt; alone = λ v s. refl }, (record { loaded = _; found = refl; records = refl }, tt)); lose = lose _ h (codes "LOADEDMODULES") refl refl refl }
+
+pub needs_of_none : NeedsOfNone
+needs_of_none =
+    let h : History = (codes "__MODULES_LMPREREQ", Some (codes "z/1&k")) ∷ [] in
+    record { reversible = (record { suits = tt; alone = λ v s. refl }, (record { loaded = _; found = refl; records = refl }, tt)); lose = lose _ h (codes "__MODULES_LMPREREQ") refl refl refl }
+
+pub conflict_twice : ConflictTwice
+conflict_twice =
+    let h : History = (codes "LOADEDMODULES", Some (codes "a/1")) ∷ (codes "_LMFILES_", Some (codes "/m/a/1")) ∷ (codes "__MODULES_LMCONFLICT", Some (codes "a/1&k&k")) ∷ [] in
+    record { reversible = (record { suits = tt; alone = λ v s. refl }, (record { loaded = _; found = refl; records = refl }, tt)); lose = lose _ h (codes "__MODULES_LMCONFLICT") refl refl refl }
+
+pub ill_spelled : IllSpelled
+ill_spelled =
+    let h : History = (codes "LOADEDMODULES", Some (codes "a/1")) ∷ (codes "_LMFILES_", Some (codes "/m/a/1")) ∷ (codes "__MODULES_LMPREREQ", Some (codes "a/1&k|.l")) ∷ [] in
+    record { reversible = (record { suits = tt; alone = λ v s. refl }, (record { loaded = _; found = refl; records = refl }, tt)); lose = lose _ h (codes "__MODULES_LMPREREQ") refl refl refl }
+
+pub empty_group : EmptyGroup
+empty_group =
+    let h : History = (codes "LOADEDMODULES", Some (codes "a/1")) ∷ (codes "_LMFILES_", Some (codes "/m/a/1")) ∷ (codes "__MODULES_LMPREREQ", Some (codes "a/1&k&")) ∷ [] in
+    record { reversible = (record { suits = tt; alone = λ v s. refl }, (record { loaded = _; found = refl; records = refl }, tt)); lose = lose _ h (codes "__MODULES_LMPREREQ") refl refl refl }
+
+pub unset_without_value : UnsetWithoutValue
+unset_without_value =
+    let h : History = (codes "V", Some (codes "y")) ∷ [] in
+    record {
+      begins = start_at variable Untouched (env h) (nothing_listed h refl refl refl refl) tt;
+      lose = lose _ h (codes "V") refl refl refl;
+    }
+
+pub element_removed : ElementRemoved
+element_removed =
+    let h : History = (codes "V", Some (codes "/a:/b")) ∷ [] in
+    record {
+      begins = start_at variable (Pathed colon) (env h) (nothing_listed h refl refl refl refl) (path_ordered h variable colon refl refl);
+      lose = lose _ h (codes "V") refl refl refl;
+    }
+
+pub other_records : OtherRecords
+other_records =
+    let h : History = (codes "V", Some (codes "/b")) ∷ [] in
+    record {
+      begins = start_at variable (Pathed colon) (env h) (nothing_listed h refl refl refl refl) (path_ordered h variable colon refl refl);
+      lose = lose _ h (codes "V") refl refl refl;
+    }
+
+pub start_unloaded : StartUnloaded
+start_unloaded =
+    let h : History = (codes "LOADEDMODULES", Some (codes "a/1")) ∷ (codes "_LMFILES_", Some (codes "/m/a/1")) ∷ [] in
+    record {
+      begins = start_at variable Untouched (env h) (a1_listed h refl refl refl refl) tt;
+      lose = lose _ h (codes "LOADEDMODULES") refl refl refl;
+    }
+
+pub set_and_pushed : SetAndPushed
+set_and_pushed =
+    let h : History = [] in
+    record {
+      begins = start_at variable Stacked (env h) (nothing_listed h refl refl refl refl) (lookup_seen h (stack_name variable));
+      lose = lose _ h (codes "V") refl refl refl;
+    }
+
+pub unset_and_pushed : UnsetAndPushed
+unset_and_pushed =
+    let h : History = (codes "V", Some (codes "y")) ∷ [] in
+    record {
+      begins = start_at variable Stacked (env h) (nothing_listed h refl refl refl refl) (lookup_seen h (stack_name variable));
+      lose = lose _ h (codes "V") refl refl refl;
+    }
+
+pub added_and_pushed : AddedAndPushed
+added_and_pushed =
+    let h : History = (codes "V", Some (codes "/b")) ∷ [] in
+    record {
+      begins = start_at variable (Pathed colon) (env h) (nothing_listed h refl refl refl refl) (path_ordered h variable colon refl refl);
+      lose = lose _ h (codes "V") refl refl refl;
+    }
+
+pub two_delimiters : TwoDelimiters
+two_delimiters =
+    let h : History = (codes "V", Some (codes "a")) ∷ [] in
+    record {
+      begins = start_at variable (Pathed colon) (env h) (nothing_listed h refl refl refl refl) (path_ordered h variable colon refl refl);
+      lose = lose _ h (codes "V") refl refl refl;
+    }
+
+abbrev set_by_two : List Move
+set_by_two = Loads (first_module (Set variable (codes "x") ∷ [])) ∷ Loads (second_module (Set variable (codes "y") ∷ [])) ∷ Unloads (first_module (Set variable (codes "x") ∷ [])) ∷ []
+
+pub set_by_two_falls : SetByTwo
+set_by_two_falls = record {
+  begins = start_at variable (Fixed None) (env []) (nothing_listed [] refl refl refl refl) (lookup_seen [] variable);
+  end = env (end_of set_by_two []);
+  lead = played_leads set_by_two [] (end_of set_by_two []) refl;
+  fallen = λ s. differ (seen (end_of set_by_two []) variable) (Some (codes "y")) refl (sym (lookup_seen (end_of set_by_two []) variable) ∙ (s.variables variable refl).value);
+}

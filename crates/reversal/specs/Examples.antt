@@ -1,0 +1,196 @@
+-- Worked examples of what is lost where one premise doesn't hold, each over one variable and one or two modules.
+use Rattle.std.specs.Prelude.{◌≡◌, ◌≢◌, List, [], ◌∷◌, bytes_eq, codes, if◌then◌else◌, Some, None}
+use Rattle.std.specs.FinMap as finite
+use Rattle.environment.specs.Texts.{Text}
+use Rattle.environment.specs.Environment.{Environment, with_value}
+use Rattle.environment.specs.Fields.{colon}
+use Rattle.loadedlist.specs.Loaded.{AreLoadedInOrder}
+use Rattle.modulerecords.specs.Records.{Record, Set, Unset, Push, Front, Back, Remove}
+use Rattle.modulerecords.specs.Moves.{Module, Move, Loads, Unloads, Lead}
+use Rattle.reversal.specs.Ways.{Way, Untouched, Fixed, Pathed, Stacked}
+use Rattle.reversal.specs.Standing.{IsStart, Stands}
+use Rattle.reversal.specs.Runs.{live_after, AreReversible}
+
+-- the environment with these values
+abbrev pub held : List (Text × Text) → Environment
+held [] = finite.empty
+held (p ∷ ps) = with_value (held ps) p.0 (Some p.1)
+
+-- this variable is used in this way, and no other is used
+abbrev pub only_way : Text → Way → Text → Way
+only_way name way v = if bytes_eq v name then way else Untouched
+
+-- The moves are accepted and leave no module live, and they lead elsewhere than to the start.
+pub record Lose (start : Environment) (ms : List Move) : Type 0 where
+  pub end : Environment
+  pub lead : Lead ms start end
+  pub none : live_after [] ms ≡ []
+  pub lost : end ≢ start
+
+-- The modules are reversible and apart, but this is no start: its loaded list is in order, and something else isn't.
+pub record LoseUnstarted (ways : Text → Way) (start : Environment) (ms : List Move) : Type 0 where
+  pub reversible : AreReversible ways [] ms
+  pub listed : AreLoadedInOrder start
+  pub lose : Lose start ms
+
+-- The modules are reversible and apart, and no variable is used, but the loaded list of the start isn't in order.
+pub record LoseUnlisted (start : Environment) (ms : List Move) : Type 0 where
+  pub reversible : AreReversible (λ v. Untouched) [] ms
+  pub lose : Lose start ms
+
+-- It is a start, but the moves aren't reversible.
+pub record LoseIrreversible (ways : Text → Way) (start : Environment) (ms : List Move) : Type 0 where
+  pub begins : IsStart ways start
+  pub lose : Lose start ms
+
+-- It is a start, and the moves are accepted, but they lead to an environment that doesn't stand over it.
+pub record LoseStanding (ways : Text → Way) (start : Environment) (ms : List Move) : Type 0 where
+  pub begins : IsStart ways start
+  pub end : Environment
+  pub lead : Lead ms start end
+  pub fallen : Stands ways start (live_after [] ms) end → ⊥
+
+-- modules of one record or none, and the variable of the examples
+abbrev pub first_module : List Record → Module
+first_module records = record { name = codes "m/1"; path = codes "/m/m/1"; records = records }
+
+abbrev pub second_module : List Record → Module
+second_module records = record { name = codes "n/1"; path = codes "/m/n/1"; records = records }
+
+abbrev pub variable : Text
+variable = codes "V"
+
+-- a load and its unload, and two loads with the unloads in the order of the loads
+abbrev pub there_and_back : Record → List Move
+there_and_back r = Loads (first_module (r ∷ [])) ∷ Unloads (first_module (r ∷ [])) ∷ []
+
+abbrev pub crossed : Record → Record → List Move
+crossed r s =
+    Loads (first_module (r ∷ [])) ∷ Loads (second_module (s ∷ []))
+    ∷ Unloads (first_module (r ∷ [])) ∷ Unloads (second_module (s ∷ [])) ∷ []
+
+abbrev pub nothing_asked : List Move
+nothing_asked = Loads (first_module []) ∷ Unloads (first_module []) ∷ []
+
+abbrev pub add_front : Record
+add_front = Front colon variable (codes "/a" ∷ [])
+
+abbrev pub push_value : Record
+push_value = Push variable (codes "x")
+
+-- a/1 is loaded, and the variable has these values
+abbrev pub listed_with : List (Text × Text) → Environment
+listed_with ps = held ((codes "LOADEDMODULES", codes "a/1") ∷ (codes "_LMFILES_", codes "/m/a/1") ∷ ps)
+
+-- Starts. A path set to the empty text is unset in the end.
+abbrev pub EmptyPath : Type 0
+EmptyPath =
+    LoseUnstarted (only_way variable (Pathed colon)) (held ((variable, codes "") ∷ [])) (there_and_back add_front)
+
+-- Counters of an element that isn't there are dropped.
+abbrev pub CounterOfNone : Type 0
+CounterOfNone =
+    LoseUnstarted (only_way variable (Pathed colon))
+    (held ((variable, codes "/b") ∷ (codes "__MODULES_SHARE_V", codes "/z:3") ∷ [])) (there_and_back add_front)
+
+-- A stack of a bottom alone is unset in the end.
+abbrev pub BottomAlone : Type 0
+BottomAlone =
+    LoseUnstarted (only_way variable Stacked)
+    (held ((variable, codes "y") ∷ (codes "__MODULES_PUSHENV_V", codes "&y") ∷ [])) (there_and_back push_value)
+
+-- A value that the stack doesn't show is forgotten.
+abbrev pub HiddenValue : Type 0
+HiddenValue =
+    LoseUnstarted (only_way variable Stacked)
+    (listed_with ((variable, codes "z") ∷ (codes "__MODULES_PUSHENV_V", codes "a/1&y") ∷ [])) (there_and_back push_value)
+
+-- A stack with other escapes is written with its own.
+abbrev pub OtherEscapes : Type 0
+OtherEscapes =
+    LoseUnstarted (only_way variable Stacked)
+    (listed_with ((variable, codes "\\y") ∷ (codes "__MODULES_PUSHENV_V", codes "a/1&\\y") ∷ [])) (there_and_back push_value)
+
+-- The item of an owner that isn't loaded is taken for the module's own.
+abbrev pub OwnerNotLoaded : Type 0
+OwnerNotLoaded =
+    LoseUnstarted (only_way variable Stacked)
+    (held ((variable, codes "y") ∷ (codes "__MODULES_PUSHENV_V", codes "m/1&y") ∷ [])) (there_and_back push_value)
+
+-- A variable that is set has a value at the start.
+abbrev pub ValueBeforeSet : Type 0
+ValueBeforeSet =
+    LoseUnstarted (only_way variable (Fixed None)) (held ((variable, codes "y") ∷ [])) (there_and_back (Set variable (codes "x")))
+
+-- A variable that is unset has another value at the start than its unload gives back.
+abbrev pub OtherValue : Type 0
+OtherValue =
+    LoseUnstarted (only_way variable (Fixed (Some (codes "x")))) (held ((variable, codes "y") ∷ []))
+    (there_and_back (Unset variable (Some (codes "x"))))
+
+-- Loaded lists. Lists set to the empty text are unset in the end.
+abbrev pub EmptyLists : Type 0
+EmptyLists = LoseUnlisted (held ((codes "LOADEDMODULES", codes "") ∷ (codes "_LMFILES_", codes "") ∷ [])) nothing_asked
+
+-- Needs of a module that isn't loaded are dropped.
+abbrev pub NeedsOfNone : Type 0
+NeedsOfNone = LoseUnlisted (held ((codes "__MODULES_LMPREREQ", codes "z/1&k") ∷ [])) nothing_asked
+
+-- A conflict that stands twice is kept once.
+abbrev pub ConflictTwice : Type 0
+ConflictTwice = LoseUnlisted (listed_with ((codes "__MODULES_LMCONFLICT", codes "a/1&k&k") ∷ [])) nothing_asked
+
+-- An ill-spelled name is dropped.
+abbrev pub IllSpelled : Type 0
+IllSpelled = LoseUnlisted (listed_with ((codes "__MODULES_LMPREREQ", codes "a/1&k|.l") ∷ [])) nothing_asked
+
+-- A group without names is dropped.
+abbrev pub EmptyGroup : Type 0
+EmptyGroup = LoseUnlisted (listed_with ((codes "__MODULES_LMPREREQ", codes "a/1&k&") ∷ [])) nothing_asked
+
+-- Kinds that unloading doesn't undo.
+abbrev pub UnsetWithoutValue : Type 0
+UnsetWithoutValue =
+    LoseIrreversible (only_way variable Untouched) (held ((variable, codes "y") ∷ [])) (there_and_back (Unset variable None))
+
+abbrev pub ElementRemoved : Type 0
+ElementRemoved =
+    LoseIrreversible (only_way variable (Pathed colon)) (held ((variable, codes "/a:/b") ∷ []))
+    (there_and_back (Remove colon variable (codes "/a" ∷ [])))
+
+-- Other records at the unload than at the load.
+abbrev pub OtherRecords : Type 0
+OtherRecords =
+    LoseIrreversible (only_way variable (Pathed colon)) (held ((variable, codes "/b") ∷ []))
+    (Loads (first_module (add_front ∷ [])) ∷ Unloads (first_module []) ∷ [])
+
+-- A module of the start is unloaded.
+abbrev pub StartUnloaded : Type 0
+StartUnloaded =
+    LoseIrreversible (only_way variable Untouched) (listed_with [])
+    (Unloads (record { name = codes "a/1"; path = codes "/m/a/1"; records = [] }) ∷ [])
+
+-- Two ways of one variable.
+abbrev pub SetAndPushed : Type 0
+SetAndPushed = LoseIrreversible (only_way variable Stacked) (held []) (crossed (Set variable (codes "y")) push_value)
+
+abbrev pub UnsetAndPushed : Type 0
+UnsetAndPushed =
+    LoseIrreversible (only_way variable Stacked) (held ((variable, codes "y") ∷ []))
+    (crossed (Unset variable (Some (codes "y"))) push_value)
+
+abbrev pub AddedAndPushed : Type 0
+AddedAndPushed =
+    LoseIrreversible (only_way variable (Pathed colon)) (held ((variable, codes "/b") ∷ [])) (crossed add_front push_value)
+
+abbrev pub TwoDelimiters : Type 0
+TwoDelimiters =
+    LoseIrreversible (only_way variable (Pathed colon)) (held ((variable, codes "a") ∷ []))
+    (crossed (Back colon variable (codes "b" ∷ [])) (Back 59 variable (codes "c" ∷ [])))
+
+-- Two live modules set one variable, and the first of them is unloaded: the other one's value is gone.
+abbrev pub SetByTwo : Type 0
+SetByTwo =
+    LoseStanding (only_way variable (Fixed None)) (held [])
+    (Loads (first_module (Set variable (codes "x") ∷ [])) ∷ Loads (second_module (Set variable (codes "y") ∷ []))
+    ∷ Unloads (first_module (Set variable (codes "x") ∷ [])) ∷ [])

@@ -1,0 +1,44 @@
+//! Why each premise is asked: worked examples in which the others hold, and a run of accepted moves loses the start. They are
+//! computed over the definitions.
+ghost use Rattle.reversal.specs.Examples.{EmptyPath, CounterOfNone, BottomAlone, HiddenValue, OtherEscapes, OwnerNotLoaded, ValueBeforeSet, OtherValue, EmptyLists, NeedsOfNone, ConflictTwice, IllSpelled, EmptyGroup, UnsetWithoutValue, ElementRemoved, OtherRecords, StartUnloaded, SetAndPushed, UnsetAndPushed, AddedAndPushed, TwoDelimiters, SetByTwo};
+
+/// Starts that aren't in order, or where a fixed variable has another value, though their loaded list is in order and the
+/// modules are reversible and apart.
+pub fn starts()
+    ensures empty_path { EmptyPath }
+    ensures counter_of_none { CounterOfNone }
+    ensures bottom_alone { BottomAlone }
+    ensures hidden_value { HiddenValue }
+    ensures other_escapes { OtherEscapes }
+    ensures owner_not_loaded { OwnerNotLoaded }
+    ensures value_before_set { ValueBeforeSet }
+    ensures other_value { OtherValue }
+{}
+
+/// Starts of which the loaded list isn't in order, where a module without records is loaded and unloaded.
+pub fn lists()
+    ensures empty_lists { EmptyLists }
+    ensures needs_of_none { NeedsOfNone }
+    ensures conflict_twice { ConflictTwice }
+    ensures ill_spelled { IllSpelled }
+    ensures empty_group { EmptyGroup }
+{}
+
+/// From a start: records of a kind that unloading doesn't undo, other records at the unload than at the load, and an unload
+/// of a module of the start.
+pub fn kinds()
+    ensures unset_without_value { UnsetWithoutValue }
+    ensures element_removed { ElementRemoved }
+    ensures other_records { OtherRecords }
+    ensures start_unloaded { StartUnloaded }
+{}
+
+/// From a start: two ways of one variable. And where two live modules set one variable, the unload of one takes the other's
+/// value away, so that the environment stands over the start no more (the start comes back when both are unloaded).
+pub fn ways()
+    ensures set_and_pushed { SetAndPushed }
+    ensures unset_and_pushed { UnsetAndPushed }
+    ensures added_and_pushed { AddedAndPushed }
+    ensures two_delimiters { TwoDelimiters }
+    ensures set_by_two { SetByTwo }
+{}

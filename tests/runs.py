@@ -1,0 +1,679 @@
+"""A model of loads and unloads of its own, and random runs of it.
+
+The model is written from the rules in docs/DEFINITIONS.md (environments, paths with counters, stacks, the loaded list,
+records and their effects, reversible, apart, in order, standing over a start), and shares nothing with the definitions
+that the prover reads nor with the program. What the laws of the crate `reversal` say of all runs is tried here on random
+ones: after each load and unload the environment is in order and stands over the start, and it is the start where no
+module is live. Then
+
+- the same with wrong definitions, each of which has to lose a law;
+- for each premise, runs that break it alone: some of them have to lose the start.
+
+    python3 -B tests/runs.py [RUNS [SEED]]
+"""
+
+import random
+import sys
+
+MOST = 4294967295
+SHARE, STACK = "__MODULES_SHARE_", "__MODULES_PUSHENV_"
+NAMES, FILES = "LOADEDMODULES", "_LMFILES_"
+CONFLICTS, PREREQS = "__MODULES_LMCONFLICT", "__MODULES_LMPREREQ"
+LISTS = (NAMES, FILES, CONFLICTS, PREREQS)
+
+# What edits get wrong, in the runs that have to lose a law; and whether what is in order is judged by the same wrong words.
+WRONG, EVERYWHERE = "", False
+EDITING = False
+
+
+def is_wrong(how):
+    return WRONG == how and (EDITING or EVERYWHERE)
+
+
+class Refused(Exception):
+    """The edit is refused, and nothing has changed."""
+
+
+# Texts.
+
+
+def escaped(field):
+    return field.replace("\\", "\\\\").replace(":", "\\:")
+
+
+def fields(text):
+    """The fields between the colons that no backslash escapes, without their escapes."""
+    found, at, field = [], 0, ""
+    while at < len(text):
+        mark = text[at]
+        if mark == "\\" and text[at + 1 : at + 2] in ("\\", ":"):
+            field += text[at + 1]
+            at += 2
+            continue
+        if mark == ":":
+            found.append(field)
+            field = ""
+        else:
+            field += mark
+        at += 1
+    return found + [field]
+
+
+def put(env, name, value):
+    if value is None:
+        env.pop(name, None)
+    else:
+        env[name] = value
+
+
+def firsts(texts):
+    return list(dict.fromkeys(texts))
+
+
+# Path variables.
+
+
+def counter(text):
+    """The number that a counter spells, or none."""
+    if not text.isascii() or not text.isdigit() or text[0] == "0":
+        return None
+    return int(text) if int(text) <= MOST else None
+
+
+def path_in(env, name, delim):
+    """The elements, and the counter of each."""
+    marks = fields(env[SHARE + name]) if SHARE + name in env else []
+    counted = {}
+    for element, spelled in zip(marks[0::2], marks[1::2]):
+        if counter(spelled) is not None:
+            counted.setdefault(element, counter(spelled))
+    value = env.get(name)
+    if value is None:
+        elements = []
+    elif value == "":
+        elements = [""] if "" in counted else []
+    else:
+        elements = value.split(delim)
+    return elements, {element: counted.get(element, 1) for element in elements}
+
+
+def write_path(env, name, delim, elements, counters):
+    if not elements:
+        put(env, name, "" if is_wrong("an empty text left for an unset path") else None)
+        put(env, SHARE + name, None)
+        return
+    least = 1 if is_wrong("counters written for 1") else 2
+    alone = elements == [""]
+    pairs = [x for x in firsts(elements) if counters[x] >= least or alone]
+    put(env, name, delim.join(elements))
+    put(env, SHARE + name, ":".join(f"{escaped(x)}:{counters[x]}" for x in pairs) if pairs else None)
+
+
+def add(env, name, delim, values, front):
+    elements, counters = path_in(env, name, delim)
+    for x in reversed(values) if front else values:
+        if x in elements:
+            counters[x] += 1
+        else:
+            elements = [x] + elements if front else elements + [x]
+            counters[x] = 1
+    if any(count > MOST for count in counters.values()):
+        raise Refused("a counter is full")
+    write_path(env, name, delim, elements, counters)
+
+
+def drop(env, name, delim, values):
+    elements, counters = path_in(env, name, delim)
+    for x in values:
+        if x in elements:
+            counters[x] -= 1
+            if counters[x] == 0:
+                elements = [y for y in elements if y != x]
+                del counters[x]
+    write_path(env, name, delim, elements, counters)
+
+
+# Stacks: items of an owner (none at the bottom) and a value, newest first.
+
+
+def stack_in(env, name):
+    if STACK + name not in env:
+        return []
+    items = []
+    for field in fields(env[STACK + name]):
+        if "&" not in field:
+            raise Refused("no stack")
+        owner, value = field.split("&", 1)
+        items.append((owner or None, value))
+    owners = [owner for owner, _ in items]
+    if None in owners[:-1] or len(set(owners)) < len(owners):
+        raise Refused("no stack")
+    return items
+
+
+def write_stack(env, name, items):
+    text = ":".join(escaped(f"{owner or ''}&{value}") for owner, value in items)
+    put(env, STACK + name, text if items else None)
+
+
+def push(env, name, owner, value):
+    items = stack_in(env, name)
+    if not items and STACK + name not in env and name in env:
+        items = [(None, env[name])]
+    if not is_wrong("a repeated push that leaves two items"):
+        items = [item for item in items if item[0] != owner]
+    write_stack(env, name, [(owner, value)] + items)
+    put(env, name, value)
+
+
+def pop(env, name, owner):
+    items = stack_in(env, name)
+    if all(item[0] != owner for item in items):
+        return
+    if is_wrong("a stack popped from the top"):
+        owner = items[0][0]
+    rest = [item for item in items if item[0] != owner]
+    if items[0][0] == owner or is_wrong("a pop that restores the bottom always"):
+        shown = rest[-1] if is_wrong("a pop that restores the bottom always") and rest else rest[0] if rest else None
+        put(env, name, shown[1] if shown else None)
+    write_stack(env, name, rest if any(item[0] is not None for item in rest) else [])
+
+
+# The loaded list: entries of a name, a path, conflicts and groups of needs.
+
+
+def is_name(name):
+    parts = name.split("/")
+    return len(parts) <= 4 and all(p and p[0] != "." and not set(p) & set("\0 \t\n\v\f\r:&|\\@") for p in parts)
+
+
+def elements_in(env, name):
+    return env[name].split(":") if env.get(name) else []
+
+
+def loaded_in(env):
+    names, paths = elements_in(env, NAMES), elements_in(env, FILES)
+    if len(names) != len(paths) or len(set(names)) < len(names) or not all(map(is_name, names)) or "" in paths:
+        raise Refused("inconsistent")
+
+    def words(variable, name):
+        for element in elements_in(env, variable):
+            parts = element.split("&")
+            if len(parts) > 1 and parts[0] == name:
+                return parts[1:]
+        return []
+
+    entries = []
+    for name, path in zip(names, paths):
+        conflicts = firsts(filter(is_name, words(CONFLICTS, name)))
+        groups = [list(filter(is_name, word.split("|"))) for word in words(PREREQS, name)]
+        entries.append((name, path, conflicts, [group for group in groups if group]))
+    return entries
+
+
+def write_loaded(env, entries):
+    if is_wrong("entries in name order"):
+        entries = sorted(entries)
+    put(env, NAMES, ":".join(e[0] for e in entries) or None)
+    put(env, FILES, ":".join(e[1] for e in entries) or None)
+    put(env, CONFLICTS, ":".join("&".join([e[0]] + e[2]) for e in entries if e[2]) or None)
+    put(env, PREREQS, ":".join("&".join([e[0]] + ["|".join(g) for g in e[3]]) for e in entries if e[3]) or None)
+
+
+# Records, modules (a name, a path and records) and moves.
+
+
+def entry_of(module):
+    name, path, records = module
+    conflicts = firsts(n for r in records if r[0] == "conflict" for n in r[1])
+    return name, path, conflicts, [list(r[1]) for r in records if r[0] == "prereq"]
+
+
+def load_record(env, owner, record):
+    kind, *words = record
+    if kind == "setenv":
+        put(env, words[0], words[1])
+    elif kind == "unsetenv":
+        put(env, words[0], None)
+    elif kind == "pushenv":
+        push(env, words[0], owner, words[1])
+    elif kind in ("prepend-path", "append-path"):
+        add(env, words[1], words[0], words[2], kind == "prepend-path")
+    elif kind == "remove-path":
+        drop(env, words[1], words[0], words[2])
+
+
+def unload_record(env, owner, record):
+    kind, *words = record
+    if kind == "setenv":
+        put(env, words[0], None)
+    elif kind == "unsetenv" and words[1] is not None:
+        put(env, words[0], words[1])
+    elif kind == "pushenv":
+        pop(env, words[0], owner)
+    elif kind in ("prepend-path", "append-path"):
+        drop(env, words[1], words[0], words[2])
+
+
+def moved(env, kind, module):
+    """The environment that a load or an unload makes, or a refusal."""
+    global EDITING
+    EDITING = True
+    try:
+        return edited(env, kind, module)
+    finally:
+        EDITING = False
+
+
+def edited(env, kind, module):
+    name, path, records = module
+    new = dict(env)
+    loaded = loaded_in(env)
+    there = [e for e in loaded if e[0] == name]
+    if (kind == "load") == bool(there) or (kind == "unload" and there[0][1] != path):
+        raise Refused("does not fit")
+    for record in records:
+        (load_record if kind == "load" else unload_record)(new, name, record)
+    entries = loaded_in(new)
+    if kind == "load":
+        write_loaded(new, entries + [entry_of(module)])
+    else:
+        write_loaded(new, [e for e in entries if e[0] != name])
+    return new
+
+
+# Ways: ("fixed", value or none), ("path", delimiter), ("stack",); a variable without one is untouched.
+
+
+def named(record):
+    kind = record[0]
+    if kind in ("setenv", "unsetenv", "pushenv"):
+        return record[1]
+    return record[2] if kind.endswith("path") else None
+
+
+def suits(ways, record):
+    """The record is of a kind that unloading undoes, and uses its variable in the variable's way."""
+    kind = record[0]
+    if kind == "setenv":
+        return ways.get(record[1]) == ("fixed", None)
+    if kind == "unsetenv":
+        return record[2] is not None and ways.get(record[1]) == ("fixed", record[2])
+    if kind == "pushenv":
+        return ways.get(record[1]) == ("stack",)
+    if kind == "remove-path":
+        return False
+    return kind in ("conflict", "prereq", "whatis") or ways.get(record[2]) == ("path", record[1])
+
+
+def fixed_by(module):
+    return {named(r) for r in module[2] if r[0] in ("setenv", "unsetenv")}
+
+
+def is_fit(ways, live, module):
+    """The module is reversible, and apart from the live ones."""
+    return all(suits(ways, r) for r in module[2]) and not any(fixed_by(module) & fixed_by(other) for other in live)
+
+
+def in_order(ways, env):
+    """The environment is in order for the variables that have a way."""
+    try:
+        entries = loaded_in(env)
+        again = dict(env)
+        write_loaded(again, entries)
+        if again != env or any(":" in e[1] for e in entries):
+            return False
+        names = {e[0] for e in entries}
+        for name, way in ways.items():
+            again = dict(env)
+            if way[0] == "path":
+                write_path(again, name, way[1], *path_in(env, name, way[1]))
+            if way[0] == "stack" and STACK + name in env:
+                items = stack_in(env, name)
+                owners = [owner for owner, _ in items if owner is not None]
+                if not owners or not names.issuperset(owners) or env.get(name) != items[0][1]:
+                    return False
+                write_stack(again, name, items)
+            if again != env:
+                return False
+    except Refused:
+        return False
+    return True
+
+
+def is_start(ways, env):
+    return in_order(ways, env) and all(w[0] != "fixed" or env.get(n) == w[1] for n, w in ways.items())
+
+
+def path_stands(start, env, name, delim, live):
+    old, old_counters = path_in(start, name, delim)
+    new, counters = path_in(env, name, delim)
+    adds = {}
+    for module in live:
+        for r in module[2]:
+            if r[0] in ("prepend-path", "append-path") and r[2] == name:
+                for x in r[3]:
+                    adds[x] = adds.get(x, 0) + 1
+    if [x for x in new if x in old] != old or set(new) != set(old) | set(adds):
+        return False
+    return all(counters[x] == old_counters.get(x, 0) + adds.get(x, 0) for x in counters)
+
+
+def stack_stands(start, env, name, live):
+    pushed = {}
+    for module in live:
+        for r in module[2]:
+            if r[0] == "pushenv" and r[1] == name:
+                pushed[module[0]] = r[2]
+    if not pushed:
+        return stack_in(env, name) == stack_in(start, name) and env.get(name) == start.get(name)
+    under = stack_in(start, name)
+    if not under and name in start:
+        under = [(None, start[name])]
+    items = stack_in(env, name)
+    above = items[: len(items) - len(under)]
+    return items[len(above) :] == under and dict(above) == pushed and len(above) == len(pushed) and env.get(name) == items[0][1]
+
+
+def stands(ways, start, live, env):
+    """The environment stands over the start with these live modules, oldest first."""
+    if loaded_in(env) != loaded_in(start) + [entry_of(module) for module in live]:
+        return False
+    free = set(LISTS)
+    for name, way in ways.items():
+        if way[0] == "path":
+            free |= {name, SHARE + name}
+            if not path_stands(start, env, name, way[1], live):
+                return False
+        if way[0] == "stack":
+            free |= {name, STACK + name}
+            if not stack_stands(start, env, name, live):
+                return False
+        if way[0] == "fixed":
+            free.add(name)
+            value = start.get(name)
+            for module in live:
+                for r in module[2]:
+                    if named(r) == name:
+                        value = r[2] if r[0] == "setenv" else None
+            if env.get(name) != value:
+                return False
+    return all(env.get(n) == start.get(n) for n in set(env) | set(start) if n not in free)
+
+
+# Random starts, modules and runs.
+
+ELEMENTS = ["", "a", "b", "a:b", "a;b", "x\\y", "\\", ":", "/opt/é", "&", "b\\:", "2"]
+VALUES = ["", "v", "a:b\\c'd", "&x", "\\", ":", "w"]
+VARIABLES = ["A", "B", "C", "D", "E_1"]
+NEW = ["m/1", "m/2", "n", "k/9", "z/1/x"]
+OLD = ["a/1", "old", "q/2"]
+
+
+def elements(rng, delim, least):
+    free = [x for x in ELEMENTS if delim not in x]
+    return [rng.choice(free) for _ in range(rng.randint(least, 3))]
+
+
+def some_way(rng):
+    return rng.choice([("fixed", None), ("fixed", rng.choice(VALUES)), ("path", rng.choice(":;b ")), ("stack",)])
+
+
+def some_record(rng, name, way):
+    if way[0] == "fixed":
+        return ("setenv", name, rng.choice(VALUES)) if way[1] is None else ("unsetenv", name, way[1])
+    if way[0] == "stack":
+        return "pushenv", name, rng.choice(VALUES)
+    return rng.choice(["prepend-path", "append-path"]), way[1], name, elements(rng, way[1], 1)
+
+
+def some_module(rng, ways, name):
+    records = []
+    for _ in range(rng.randint(0, 4)):
+        if ways and rng.random() < 0.8:
+            variable = rng.choice(sorted(ways))
+            records.append(some_record(rng, variable, ways[variable]))
+        else:
+            records.append((rng.choice(["conflict", "prereq"]), [rng.choice(["c", "d/1"]) for _ in range(rng.randint(1, 3))]))
+    return name, "/m/" + name, records
+
+
+def some_start(rng, ways):
+    env = {}
+    entries = [(n, "/o/" + n, rng.choice([[], ["c"], ["c", "d"]]), rng.choice([[], [["g"]], [["g", "h"], ["g", "g"]]])) for n in OLD if rng.random() < 0.4]
+    rng.shuffle(entries)
+    write_loaded(env, entries)
+    for name in VARIABLES:
+        way = ways.get(name, ("none",))
+        if way[0] == "path" and rng.random() < 0.7:
+            held = elements(rng, way[1], 0)
+            write_path(env, name, way[1], held, {x: rng.choice([1, 1, 2, 3, MOST - 2]) for x in held})
+        elif way[0] == "stack" and entries and rng.random() < 0.5:
+            owners = rng.sample([e[0] for e in entries], rng.randint(1, len(entries)))
+            items = [(owner, rng.choice(VALUES)) for owner in owners] + [(None, rng.choice(VALUES))] * rng.randint(0, 1)
+            write_stack(env, name, items)
+            put(env, name, items[0][1])
+        elif way[0] == "fixed":
+            put(env, name, way[1])
+        elif rng.random() < 0.5:
+            put(env, name, rng.choice(VALUES) if way[0] != "path" else None)
+        if way[0] in ("none", "fixed", "stack") and rng.random() < 0.2:
+            put(env, SHARE + name, rng.choice(["junk", "a:2", ":"]))
+        if way[0] in ("none", "fixed", "path") and rng.random() < 0.2:
+            put(env, STACK + name, rng.choice(["junk", "a/1&x", "&"]))
+    for name in ("__MODULES_ELSE", SHARE + "9", "odd name", "HOME"):
+        if rng.random() < 0.2:
+            put(env, name, rng.choice(VALUES))
+    return env
+
+
+def some_moves(rng, modules, count):
+    """Loads and unloads that may be refused, and then an unload of all, in any order."""
+    moves = [(rng.choice(["load", "unload"]), rng.choice(modules)) for _ in range(count)]
+    last = list(modules)
+    rng.shuffle(last)
+    return moves + [("unload", module) for module in last]
+
+
+def run(ways, start, moves):
+    """The first law that the run loses, with the place in it, or none; and how many moves were accepted."""
+    env, live, accepted = start, [], 0
+    for kind, module in moves:
+        if kind == "load" and not is_fit(ways, live, module):
+            continue
+        if kind == "unload" and module not in live:
+            continue
+        try:
+            env = moved(env, kind, module)
+        except Refused:
+            continue
+        accepted += 1
+        live = live + [module] if kind == "load" else [m for m in live if m != module]
+        try:
+            lost = None if in_order(ways, env) else "in order"
+            lost = lost or (None if stands(ways, start, live, env) else "standing")
+        except Refused:
+            lost = "standing"
+        if not live and env != start:
+            lost = "the start" if lost is None else lost + " and the start"
+        if lost:
+            return lost, accepted
+    return ("an unload was refused", accepted) if live else (None, accepted)
+
+
+def random_run(rng):
+    ways = {name: some_way(rng) for name in VARIABLES if rng.random() < 0.7}
+    start = some_start(rng, ways)
+    if not is_start(ways, start):
+        return "no start", 0
+    modules = [some_module(rng, ways, name) for name in NEW]
+    return run(ways, start, some_moves(rng, modules, 12))
+
+
+def random_runs(runs, seed):
+    rng, lost, moves = random.Random(seed), {}, 0
+    for _ in range(runs):
+        law, accepted = random_run(rng)
+        moves += accepted
+        if law:
+            lost[law] = lost.get(law, 0) + 1
+    return lost, moves
+
+
+# Worked examples: each breaks one premise, and loses the start.
+
+M1, M2 = ("m/1", "/m/m/1"), ("n/1", "/m/n/1")
+
+
+def loses(start, moves):
+    """The start is lost, with every move accepted."""
+    env = start
+    for kind, module in moves:
+        env = moved(env, kind, module)
+    return env != start
+
+
+def there_and_back(*modules):
+    return [("load", m) for m in modules] + [("unload", m) for m in reversed(modules)]
+
+
+def crossed(one, other):
+    """The module that was loaded first is unloaded first."""
+    return [("load", one), ("load", other), ("unload", one), ("unload", other)]
+
+
+def loses_standing(ways, start, moves):
+    """Some environment on the way doesn't stand over the start."""
+    env, live = start, []
+    for kind, module in moves:
+        env = moved(env, kind, module)
+        live = live + [module] if kind == "load" else [m for m in live if m[0] != module[0]]
+        if not stands(ways, start, live, env):
+            return True
+    return False
+
+
+def premises(ways, start, moves, loaded=()):
+    """Which premises the run breaks."""
+    broken, live, by_name = set(), [], dict(loaded)
+    for name, way in ways.items():
+        one = {name: way}
+        if way[0] == "fixed" and start.get(name) != way[1]:
+            broken.add("value at the start")
+        if way[0] in ("path", "stack") and not in_order(one, start):
+            broken.add(way[0] + " in order")
+    if not in_order({}, start):
+        broken.add("list in order")
+    for kind, module in moves:
+        for record in module[2]:
+            if record[0] == "remove-path" or (record[0] == "unsetenv" and record[2] is None):
+                broken.add("kinds")
+            elif not suits(ways, record):
+                broken.add("one way")
+        if kind == "load":
+            if any(fixed_by(module) & fixed_by(other) for other in live):
+                broken.add("alone")
+            live.append(module)
+        else:
+            old = [m for m in live if m[0] == module[0]]
+            if not old:
+                broken.add("new modules")
+            elif old[0][2] != module[2]:
+                broken.add("the same records")
+            live = [m for m in live if m[0] != module[0]]
+    return broken
+
+
+def module(place, *records):
+    return place + (list(records),)
+
+
+def examples():
+    """A name, the premise that is broken, ways, a start and moves."""
+    add_a = module(M1, ("prepend-path", ":", "P", ["/a"]))
+    add_b = module(M1, ("prepend-path", ":", "P", ["/b"]))
+    push_x = module(M1, ("pushenv", "C", "x"))
+    listed = {NAMES: "a/1", FILES: "/a"}
+    path, stack = {"P": ("path", ":")}, {"C": ("stack",)}
+    set_a = module(M1, ("setenv", "A", "1"))
+    return [
+        ("unsetenv without a value", "kinds", {}, {"A": "x"}, there_and_back(module(M1, ("unsetenv", "A", None)))),
+        ("remove-path", "kinds", path, {"P": "/a:/b"}, there_and_back(module(M1, ("remove-path", ":", "P", ["/a"])))),
+        ("other records at the unload", "the same records", path, {"P": "/a"}, [("load", add_b), ("unload", module(M1))]),
+        ("a set of a variable with a value", "value at the start", {"A": ("fixed", None)}, {"A": "x"}, there_and_back(set_a)),
+        ("an unset with another value", "value at the start", {"A": ("fixed", "C")}, {"A": "de"}, there_and_back(module(M1, ("unsetenv", "A", "C")))),
+        ("set and pushed", "one way", stack, {}, crossed(module(M2, ("setenv", "C", "y")), push_x)),
+        ("unset and pushed", "one way", stack, {"C": "v"}, crossed(module(M2, ("unsetenv", "C", "v")), push_x)),
+        ("added and pushed", "one way", path, {"P": "/a"}, crossed(add_b, module(M2, ("pushenv", "P", "x")))),
+        ("two delimiters", "one way", path, {"P": "a"}, crossed(module(M1, ("append-path", ":", "P", ["b"])), module(M2, ("append-path", ";", "P", ["c"])))),
+        ("set by two live modules", "alone", {"A": ("fixed", None)}, {}, crossed(set_a, module(M2, ("setenv", "A", "2")))),
+        ("an empty path", "path in order", path, {"P": ""}, there_and_back(add_a)),
+        ("a counter of 1", "path in order", path, {"P": "/a", SHARE + "P": "/a:1"}, there_and_back(add_b)),
+        ("counters of no element", "path in order", path, {"P": "/a", SHARE + "P": "/z:3"}, there_and_back(add_b)),
+        ("a stack of a bottom alone", "stack in order", stack, {"C": "x", STACK + "C": "&x"}, there_and_back(push_x)),
+        ("a variable that shows another value", "stack in order", stack, {**listed, "C": "z", STACK + "C": "a/1&x"}, there_and_back(push_x)),
+        ("a stack with other escapes", "stack in order", stack, {**listed, "C": "\\x", STACK + "C": "a/1&\\x"}, there_and_back(push_x)),
+        ("an owner that isn't loaded", "stack in order", stack, {"C": "y", STACK + "C": "m/1&y"}, there_and_back(push_x)),
+        ("an empty loaded list", "list in order", {}, {NAMES: "", FILES: ""}, there_and_back(module(M1))),
+        ("needs of no module", "list in order", {}, {PREREQS: "z/1&k"}, there_and_back(module(M1))),
+        ("a conflict twice", "list in order", {}, {**listed, CONFLICTS: "a/1&k&k"}, there_and_back(module(M1))),
+        ("an ill-spelled need", "list in order", {}, {**listed, PREREQS: "a/1&k|.l"}, there_and_back(module(M1))),
+        ("a group without names", "list in order", {}, {**listed, PREREQS: "a/1&k&"}, there_and_back(module(M1))),
+        ("a module of the start unloaded", "new modules", {}, listed, [("unload", ("a/1", "/a", []))]),
+    ]
+
+
+def show_examples():
+    """The worked examples; how many are as they should be, and how many aren't."""
+    counts = [0, 0]
+    for name, premise, ways, start, moves in examples():
+        broken, lost = premises(ways, start, moves), loses(start, moves)
+        if premise == "alone":
+            lost = not lost and loses_standing(ways, start, moves)
+        right = broken == {premise} and lost
+        counts[not right] += 1
+        what = "standing" if premise == "alone" else "the start"
+        told = f"{premise}: {name}: breaks {', '.join(sorted(broken))}; {what} {'is lost' if lost else 'stays'}"
+        print(f"{'ok' if right else 'FAILED'}: {told}")
+    return counts
+
+
+WRONGS = [
+    "counters written for 1",
+    "a pop that restores the bottom always",
+    "an empty text left for an unset path",
+    "a stack popped from the top",
+    "a repeated push that leaves two items",
+    "entries in name order",
+]
+
+
+def show_wrong(runs, seed):
+    """The laws that each wrong definition loses; how many lose one, and how many none."""
+    global WRONG, EVERYWHERE
+    counts = [0, 0]
+    for WRONG in WRONGS:
+        EVERYWHERE = False
+        lost, _ = random_runs(runs, seed)
+        EVERYWHERE = True
+        too, _ = random_runs(runs, seed)
+        counts[not lost] += 1
+        print(f"{'ok' if lost else 'FAILED'}: edits with {WRONG} lose {lost or 'nothing'}")
+        print(f"    where what is in order is judged so too: {too or 'nothing'}")
+    WRONG = ""
+    return counts
+
+
+def main():
+    numbers = [int(word) for word in sys.argv[1:] if word.isdigit()]
+    runs, seed = (numbers + [5000, 1][len(numbers) :])[:2]
+    lost, moves = random_runs(runs, seed)
+    print(f"{'FAILED' if lost else 'ok'}: {runs} runs, {moves} accepted moves, lost {lost or 'nothing'}")
+    counts = [[not lost, bool(lost)], show_wrong(max(runs // 20, 500), seed), show_examples()]
+    passed, failed = (sum(each) for each in zip(*counts))
+    print(f"{passed} passed, {failed} failed")
+    return 1 if failed else 0
+
+
+if __name__ == "__main__":
+    sys.exit(main())
