@@ -85,7 +85,7 @@ listed_with ps = held ((codes "LOADEDMODULES", codes "a/1") ∷ (codes "_LMFILES
 -- Starts. A path set to the empty text is unset in the end.
 abbrev pub EmptyPath : Type 0
 EmptyPath =
-    LoseUnstarted (only_way variable (Pathed colon)) (held ((variable, codes "") ∷ [])) (there_and_back add_front)
+    LoseUnstarted (only_way variable (Pathed colon)) (held ((variable, []) ∷ [])) (there_and_back add_front)
 
 -- Counters of an element that isn't there are dropped.
 abbrev pub CounterOfNone : Type 0
@@ -103,13 +103,15 @@ BottomAlone =
 abbrev pub HiddenValue : Type 0
 HiddenValue =
     LoseUnstarted (only_way variable Stacked)
-    (listed_with ((variable, codes "z") ∷ (codes "__MODULES_PUSHENV_V", codes "a/1&y") ∷ [])) (there_and_back push_value)
+    (listed_with ((variable, codes "z") ∷ (codes "__MODULES_PUSHENV_V", codes "a/1&y") ∷ []))
+    (there_and_back push_value)
 
 -- A stack with other escapes is written with its own.
 abbrev pub OtherEscapes : Type 0
 OtherEscapes =
     LoseUnstarted (only_way variable Stacked)
-    (listed_with ((variable, codes "\\y") ∷ (codes "__MODULES_PUSHENV_V", codes "a/1&\\y") ∷ [])) (there_and_back push_value)
+    (listed_with ((variable, codes "\\y") ∷ (codes "__MODULES_PUSHENV_V", codes "a/1&\\y") ∷ []))
+    (there_and_back push_value)
 
 -- The item of an owner that isn't loaded is taken for the module's own.
 abbrev pub OwnerNotLoaded : Type 0
@@ -120,7 +122,8 @@ OwnerNotLoaded =
 -- A variable that is set has a value at the start.
 abbrev pub ValueBeforeSet : Type 0
 ValueBeforeSet =
-    LoseUnstarted (only_way variable (Fixed None)) (held ((variable, codes "y") ∷ [])) (there_and_back (Set variable (codes "x")))
+    LoseUnstarted (only_way variable (Fixed None)) (held ((variable, codes "y") ∷ []))
+    (there_and_back (Set variable (codes "x")))
 
 -- A variable that is unset has another value at the start than its unload gives back.
 abbrev pub OtherValue : Type 0
@@ -151,7 +154,8 @@ EmptyGroup = LoseUnlisted (listed_with ((codes "__MODULES_LMPREREQ", codes "a/1&
 -- Kinds that unloading doesn't undo.
 abbrev pub UnsetWithoutValue : Type 0
 UnsetWithoutValue =
-    LoseIrreversible (only_way variable Untouched) (held ((variable, codes "y") ∷ [])) (there_and_back (Unset variable None))
+    LoseIrreversible (only_way variable Untouched) (held ((variable, codes "y") ∷ []))
+    (there_and_back (Unset variable None))
 
 abbrev pub ElementRemoved : Type 0
 ElementRemoved =
@@ -181,7 +185,8 @@ UnsetAndPushed =
 
 abbrev pub AddedAndPushed : Type 0
 AddedAndPushed =
-    LoseIrreversible (only_way variable (Pathed colon)) (held ((variable, codes "/b") ∷ [])) (crossed add_front push_value)
+    LoseIrreversible (only_way variable (Pathed colon)) (held ((variable, codes "/b") ∷ []))
+    (crossed add_front push_value)
 
 abbrev pub TwoDelimiters : Type 0
 TwoDelimiters =
