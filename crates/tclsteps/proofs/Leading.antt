@@ -1,9 +1,9 @@
 -- How a call of the program comes on in a derivation.
-use Rattle.std.proofs.Common.{◌≡◌, ℕ, ◌<◌, ◌≤◌, Bool, true, false, length, String, Global, Result, Ok, Err, refl, sym, ◌∙◌, ap, arith}
-use Rattle.std.specs.Prelude.{string_bytes, IsErrAnd, IfSome, nat_lt, if◌then◌else◌}
+use Rattle.std.proofs.Common.{◌≡◌, ℕ, ◌<◌, ◌≤◌, Bool, true, false, length, Result, Ok, Err, arith}
+use Rattle.std.specs.Prelude.{IsErrAnd, IfSome, nat_lt, if◌then◌else◌}
 use Rattle.std.proofs.lemmas.Bool.Decides.{nat_tests}
 use Rattle.tclchars.specs.Runs.{Text}
-use Rattle.tclvalue.specs.Faults.{Answer, reason_of, Gives}
+use Rattle.tclvalue.specs.Faults.{Answer, reason_of}
 use Rattle.tcloperators.specs.declared.fault.ValueFault.{ValueFault}
 use Rattle.tcloperators.specs.declared.fault.ValueFault.TheVariants as faults
 use Rattle.tclrules.specs.Derivation.{Runs, ValueTooLong}

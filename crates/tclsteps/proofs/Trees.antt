@@ -1,5 +1,5 @@
 -- Trees of the program, level by level, and frames.
-use Rattle.std.proofs.Common.{◌≡◌, ℕ, ◌+◌, ◌≤◌, List, [], ◌∷◌, ◌++◌, ◌<◌, map, reverse, length, get_or, drop, sym, Vec, Box, Ok, Err, Result, ap, ◌∙◌, refl, rules, arith}
+use Rattle.std.proofs.Common.{◌≡◌, ℕ, ◌≤◌, List, [], ◌∷◌, ◌++◌, ◌<◌, reverse, length, get_or, drop, sym, Vec, Box, Ok, Err, Result, ap, ◌∙◌, refl, rules, arith}
 use Rattle.std.specs.Prelude.{IfOk, encode_utf8}
 use Rattle.std.specs.declared.alloc.Global.{Global}
 use Rattle.std.proofs.lemmas.List.{reverse-append}

@@ -1,5 +1,5 @@
 -- How much is left to do of a word or an expression, as a number that each step makes smaller.
-use Rattle.std.specs.Prelude.{ℕ, ◌+◌, List, [], ◌∷◌}
+use Rattle.std.specs.Prelude.{ℕ, ◌+◌}
 use Rattle.tclscript.specs.Tree.{Parts, no_parts, part, Part, literal, braced, backslash, variable, indexed, bracket}
 use Rattle.tclexpr.specs.Tree.{Expr, operand, unary, binary, conjunction, disjunction, choice}
 use Rattle.tclexpr.specs.Operands as operands

@@ -1,5 +1,5 @@
 -- What the variables of the program stand for.
-use Rattle.std.specs.Prelude.{ℕ, List, map, reverse, string_bytes, option_map, String}
+use Rattle.std.specs.Prelude.{List, map, reverse, string_bytes, option_map, String}
 use Rattle.std.specs.declared.alloc.Global.{Global}
 use Rattle.tclchars.specs.Runs.{Text}
 use Rattle.tclrules.specs.Variables as rules

@@ -1,10 +1,12 @@
 //! The frame of a procedure that runs.
-ghost use Rattle.std.specs.Prelude.{◌≡◌, [], ◌∷◌, OnOk, OnErr, option_map, bytes_eq};
+ghost use Rattle.std.specs.Prelude.{◌≡◌, [], ◌∷◌, true, OnOk, OnErr, option_map, bytes_eq, string_bytes};
+ghost use Rattle.tclchars.specs.Runs.{Text};
+ghost use Rattle.tclvariables.specs.Contents.{HoldsList};
 ghost use Rattle.std.specs.List.{list_any};
 ghost use Rattle.tclrules.specs.Variables.{Frame, lookup, store, without};
 
 use crate::content::Content;
-use crate::table::{Table, put, remove, text_in};
+use crate::table::{Table, holds_list, put, remove, take, text_in};
 use indexmap::IndexMap;
 use std::alloc::{AllocError, Global};
 use std::marker::Model;
@@ -61,6 +63,20 @@ impl Local {
         ensures err { OnErr result (self.new ≡ self.old) }
     {
         put(&mut self.own, alloc, name, content)
+    }
+
+    pub(crate) fn holds_list(&self, name: &str) -> bool
+        ensures { result ≡ true → HoldsList (lookup self.now.own name.now) }
+    {
+        holds_list(&self.own, name)
+    }
+
+    pub(crate) fn take(&mut self, alloc: Global, name: &str) -> Option<String>
+        ensures value { option_map string_bytes result ≡ lookup self.old.own name.now }
+        ensures given_back { (t : Text) → store self.new.own name.now t ≡ store self.old.own name.now t }
+        ensures shared { self.new.shared ≡ self.old.shared }
+    {
+        take(&mut self.own, alloc, name)
     }
 
     pub(crate) fn remove(&mut self, name: &str)

@@ -1,11 +1,14 @@
 //! Variables by name, in the order of their making.
-ghost use Rattle.std.specs.Prelude.{◌≡◌, OnOk, OnErr, option_map};
+ghost use Rattle.std.specs.Prelude.{◌≡◌, true, OnOk, OnErr, option_map, string_bytes};
+ghost use Rattle.tclchars.specs.Runs.{Text};
 ghost use Rattle.tclrules.specs.Variables.{lookup, store, without};
+ghost use Rattle.tclvariables.specs.Contents.{HoldsList};
 ghost use Rattle.tclvariables.specs.Views.{texts_of};
 
 use crate::content::Content;
 use indexmap::IndexMap;
 use std::alloc::{AllocError, Global};
+use std::mem;
 
 pub(crate) type Table = IndexMap<String, Content>;
 
@@ -15,6 +18,30 @@ pub(crate) fn text_in<'a>(table: &'a Table, name: &str) -> Option<&'a str>
     match table.get(name) {
         None => None,
         Some(content) => Some(content.as_str()),
+    }
+}
+
+// Whether a variable is known to hold a list's text as `list` writes it.
+pub(crate) fn holds_list(table: &Table, name: &str) -> bool
+    ensures { result ≡ true → HoldsList (lookup (texts_of table.now.entries) name.now) }
+{
+    match table.get(name) {
+        None => false,
+        Some(content) => content.is_list(),
+    }
+}
+
+// Takes the text of a variable, and leaves an empty one in its place.
+pub(crate) fn take(table: &mut Table, alloc: Global, name: &str) -> Option<String>
+    ensures value { option_map string_bytes result ≡ lookup (texts_of table.old.entries) name.now }
+    ensures given_back { (t : Text) → store (texts_of table.new.entries) name.now t ≡ store (texts_of table.old.entries) name.now t }
+{
+    match table.get_mut(name) {
+        None => None,
+        Some(slot) => {
+            let content = mem::replace(slot, Content::of_text(String::new(alloc)));
+            Some(content.into_text())
+        }
     }
 }
 

@@ -1,5 +1,7 @@
 //! Variables, the frame of the procedure that runs, and the procedures.
-ghost use Rattle.std.specs.Prelude.{◌≡◌, [], string_bytes, OnOk, OnErr, IfOk, option_map, is_some};
+ghost use Rattle.std.specs.Prelude.{◌≡◌, [], true, string_bytes, OnOk, OnErr, IfOk, option_map, is_some};
+ghost use Rattle.tclchars.specs.Runs.{Text};
+ghost use Rattle.tclvariables.specs.Contents.{HoldsList};
 ghost use Rattle.tclrules.specs.Variables.{start, in_frame, sees, value_at, with_value, without_value, shared_in, lookup, store};
 ghost use Rattle.tclrules.specs.Rules.{new_frame, with_procedure};
 ghost use Rattle.tclrules.specs.Promise as promise;
@@ -7,7 +9,7 @@ ghost use Rattle.tclvariables.specs.Views.{texts_of, procedure_view};
 
 use crate::content::Content;
 use crate::local::Local;
-use crate::table::{Table, put, remove, text_in};
+use crate::table::{Table, holds_list, put, remove, take, text_in};
 use indexmap::IndexMap;
 use std::alloc::{AllocError, Global};
 use std::marker::Model;
@@ -126,6 +128,33 @@ impl Variables {
         match &mut self.local {
             None => Ok(()),
             Some(local) => local.put(alloc, name, content),
+        }
+    }
+
+    /// Whether a variable is known to hold a list's text as `list` writes it.
+    pub fn holds_list(&self, global: bool, name: &str) -> bool
+        ensures { result ≡ true → HoldsList (value_at self.now (global, name.now)) }
+    {
+        if global {
+            return holds_list(&self.globals, name);
+        }
+        match &self.local {
+            None => false,
+            Some(local) => local.holds_list(name),
+        }
+    }
+
+    /// Takes the text of a variable, if it is there, for what `put` gives it next: until then an empty text stands in its place.
+    pub fn take(&mut self, alloc: Global, global: bool, name: &str) -> Option<String>
+        ensures value { option_map string_bytes result ≡ value_at self.old (global, name.now) }
+        ensures given_back { (t : Text) → with_value self.new (global, name.now) t ≡ with_value self.old (global, name.now) t }
+    {
+        if global {
+            return take(&mut self.globals, alloc, name);
+        }
+        match &mut self.local {
+            None => None,
+            Some(local) => local.take(alloc, name),
         }
     }
 

@@ -1,9 +1,7 @@
-use Rattle.std.proofs.Common.{◌≡◌, Some, None, string_bytes, option_map, ap, sym, ◌∙◌, refl, true, false, rules}
+use Rattle.std.proofs.Common.{◌≡◌, true, false, rules}
 use Rattle.std.specs.Str.{bytes_eq}
-use Rattle.std.proofs.lemmas.Result.{err_from_is_err_and}
 use Rattle.tclrules.specs.Variables.{env}
-use Rattle.tclrules.proofs.Leading.{stay, go_on, starve, read_on, want}
-use Rattle.tclsteps.proofs.Leading.{raised, given_stops, given_on}
+use Rattle.tclsteps.proofs.Leading.{raised}
 use Rattle.tclsteps.proofs.reading.read_plain.Goals as goal
 
 pub returns-then-eq : goal.returns-then-eq

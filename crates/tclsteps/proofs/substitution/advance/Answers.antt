@@ -1,4 +1,4 @@
-use Rattle.std.proofs.Common.{◌≡◌, reverse, Ok, arith}
+use Rattle.std.proofs.Common.{reverse, Ok, arith}
 use Rattle.std.proofs.lemmas.Result.{err_from_is_err_and}
 use Rattle.tclrules.proofs.Leading.{stay, go_on}
 use Rattle.tclsteps.proofs.Trees.{less_more}

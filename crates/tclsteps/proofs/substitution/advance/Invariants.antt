@@ -1,4 +1,4 @@
-use Rattle.std.proofs.Common.{ℕ, ◌≡◌, ◌≤◌, ◌+◌, reverse}
+use Rattle.std.proofs.Common.{ℕ, ◌≤◌, ◌+◌, reverse}
 use Rattle.tclrules.specs.Plans as plans
 use Rattle.tclrules.specs.Plans.{Job, Next}
 use Rattle.tclrules.specs.Leads.{Leads, point}

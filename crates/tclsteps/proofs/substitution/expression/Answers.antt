@@ -1,12 +1,9 @@
-use Rattle.std.proofs.Common.{◌≡◌, ◌<◌, ◌≤◌, length, string_bytes, Ok, true, false, ap, ◌∙◌, refl, arith, rules}
+use Rattle.std.proofs.Common.{ap, ◌∙◌, arith}
 use Rattle.std.proofs.lemmas.Result.{err_from_is_err_and}
-use Rattle.tclscript.specs.Tree as tree
-use Rattle.tclexpr.specs.View.{operand_view, expr_view}
-use Rattle.tclvalue.specs.Operators.{truth}
-use Rattle.tclrules.proofs.Leading.{stay, go_on, starve}
+use Rattle.tclexpr.specs.View.{expr_view}
+use Rattle.tclrules.proofs.Leading.{stay, starve}
 use Rattle.tclsteps.specs.Machine.{shown}
 use Rattle.tclsteps.proofs.Trees.{view-Operand, view-Unary, view-Binary, view-And, view-Or, view-Choice, on_top, less_more}
-use Rattle.tclsteps.proofs.Leading.{given_stops, given_on, sized_on, sized_stops}
 use Rattle.tclsteps.proofs.substitution.expression.Goals as goal
 
 pub returns-in_err-wait-in-Operand : goal.returns-in_err-wait-in-Operand

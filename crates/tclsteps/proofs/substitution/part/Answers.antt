@@ -1,7 +1,6 @@
-use Rattle.std.proofs.Common.{◌≡◌, ap, ◌∙◌, arith, rules}
+use Rattle.std.proofs.Common.{ap, ◌∙◌, arith, rules}
 use Rattle.std.proofs.lemmas.Result.{err_from_is_err_and}
-use Rattle.tclscript.specs.Tree as tree
-use Rattle.tclscript.specs.View.{part_view, parts_view, script_view}
+use Rattle.tclscript.specs.View.{part_view}
 use Rattle.tclrules.proofs.Leading.{stay, go_on, starve}
 use Rattle.tclsteps.specs.Machine.{shown}
 use Rattle.tclsteps.proofs.Trees.{view-Literal, view-Braced, view-Backslash, view-Variable, view-Indexed, view-Bracket, on_top, less_more}

@@ -1,12 +1,6 @@
-use Rattle.std.proofs.Common.{◌≡◌, [], ◌∷◌, drop, ◌<◌, ◌≤◌, length, string_bytes, Ok, true, false, ap, ◌∙◌, refl, arith, rules}
-use Rattle.std.proofs.lemmas.Result.{err_from_is_err_and}
-use Rattle.tclscript.specs.Tree as tree
-use Rattle.tclexpr.specs.View.{operand_view, expr_view}
-use Rattle.tclvalue.specs.Operators.{truth}
-use Rattle.tclrules.proofs.Leading.{stay, go_on, starve}
-use Rattle.tclsteps.specs.Machine.{shown}
-use Rattle.tclsteps.proofs.Trees.{view-Operand, view-Unary, view-Binary, view-And, view-Or, view-Choice, on_top, less_more, empty_of}
-use Rattle.tclsteps.proofs.Leading.{given_stops, given_on, sized_on, sized_stops}
+use Rattle.std.proofs.Common.{◌≡◌, [], arith}
+use Rattle.tclrules.proofs.Leading.{stay}
+use Rattle.tclsteps.proofs.Trees.{on_top, less_more, empty_of}
 use Rattle.tclsteps.proofs.substitution.step.Goals as goal
 
 pub returns-in-None : goal.returns-in-None

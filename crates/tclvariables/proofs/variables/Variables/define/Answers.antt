@@ -1,5 +1,4 @@
 use Rattle.std.proofs.Common.{refl}
-use Rattle.std.specs.Prelude.{string_bytes}
 use Rattle.tclvariables.specs.Views.{procedure_view}
 use Rattle.tclvariables.proofs.Frames.{store_named}
 use Rattle.tclvariables.proofs.variables.Variables.define.Goals as goal
