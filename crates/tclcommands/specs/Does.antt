@@ -1,0 +1,34 @@
+-- What a command of the program does, as the rules say it.
+use Rattle.std.specs.Prelude.{ℕ, List, [], map, String, string_bytes, Result, unwrap_or}
+use Rattle.std.specs.Borrow.{Bor}
+use Rattle.std.specs.declared.alloc.Global.{Global}
+use Rattle.tclchars.specs.Runs.{Text}
+use Rattle.tclrules.specs.Variables.{State, value_at}
+use Rattle.tclrules.specs.Leads.{Point, Leads}
+use Rattle.tclrules.specs.Plans as plans
+use Rattle.tclrules.specs.Plans.{Bounds, Job, Next}
+use Rattle.tclsteps.specs.Machine.{bounds}
+use Rattle.tclsteps.specs.Stops.{after}
+use Rattle.tclsteps.specs.declared.stop.Stop.{Stop}
+use Rattle.tclcommands.specs.declared.value.Value.{Value}
+use Rattle.tclcommands.specs.declared.value.Value.TheVariants as values
+
+-- the text of a result, where these are the variables
+abbrev pub value_text : Value → State → Text
+value_text (values.Text t) s = string_bytes t
+value_text (values.Word w) s = w.now
+value_text (values.Variable global name) s = unwrap_or (value_at s (global, name.now)) []
+
+-- names with their values
+abbrev pub named_values : List (Bor (List ℕ) × String Global) → List (Text × Text)
+named_values ps = map (λ p. (p.0.now, string_bytes p.1)) ps
+
+-- what a plan goes on with is the result, with the variables after it
+abbrev pub Does : (Bounds → Next → plans.Step) → ℕ → Result Value Stop → State → (ℕ → Point) → (ℕ → Point) → Type 0
+Does p limit result s x y =
+    (most used left : ℕ) (r : Job → plans.Step) (k : Next) → Leads most r (p (bounds limit left) k) (x used) (after result (λ v s'. k (value_text v s') s') s) (y used)
+
+-- the same where the host is left as it is
+abbrev pub DoesAlone : (Bounds → Next → plans.Step) → ℕ → Result Value Stop → State → Type 0
+DoesAlone p limit result s =
+    (most left : ℕ) (r : Job → plans.Step) (k : Next) (x : Point) → Leads most r (p (bounds limit left) k) x (after result (λ v s'. k (value_text v s') s') s) x

@@ -1,0 +1,56 @@
+//! The results of commands.
+ghost use Rattle.std.specs.Prelude.{◌≡◌, length, IfOk, string_bytes};
+ghost use Rattle.tclrules.specs.Rules.{value_or};
+ghost use Rattle.tclcommands.specs.Does.{value_text};
+
+use std::alloc::{AllocError, Global};
+use tclvariables::Variables;
+
+/// The result of a command, of which no copy is made before it is asked for.
+#[derive(Drop)]
+pub enum Value<'a> {
+    /// A text of its own.
+    Text(String),
+    /// A word of the command.
+    Word(&'a str),
+    /// What a variable holds: whether it is global, and its name.
+    Variable(bool, &'a str),
+}
+
+impl Value<'_> {
+    /// The text.
+    pub fn into_text(self, alloc: Global, variables: &Variables) -> Result<String, AllocError>
+        ensures { IfOk result (λ t. string_bytes t ≡ value_text self.entry variables.now) }
+    {
+        match self {
+            Value::Text(text) => Ok(text),
+            Value::Word(word) => String::from_str(alloc, word),
+            Value::Variable(global, name) => {
+                String::from_str(alloc, value_or(variables, global, name, ""))
+            }
+        }
+    }
+
+    /// How many bytes the text has.
+    pub fn len(&self, variables: &Variables) -> usize
+        ensures { result ≡ length (value_text self.now variables.now) }
+    {
+        match self {
+            Value::Text(text) => text.len(),
+            Value::Word(word) => word.len(),
+            Value::Variable(global, name) => value_or(variables, *global, name, "").len(),
+        }
+    }
+}
+
+/// The value of a variable, or this one where it has none.
+pub(crate) fn value_or<'a>(
+    variables: &'a Variables,
+    global: bool,
+    name: &str,
+    default: &'a str,
+) -> &'a str
+    ensures { result.now ≡ value_or default.entry.now variables.entry.now (global, name.now) }
+{
+    variables.get(global, name).unwrap_or(default)
+}

@@ -1,0 +1,166 @@
+//! Commands that write a variable: set(n), append(n), incr(n).
+ghost use Rattle.std.specs.Prelude.{◌≡◌, ◌++◌, ℕ, [], map, string_bytes, OnOk};
+ghost use Rattle.std.specs.Fmt.{signed_decimal};
+ghost use Rattle.tclvalue.specs.Faults.{Gives, GivesText};
+ghost use Rattle.tclvalue.specs.Limits.{limited};
+ghost use Rattle.tclvalue.specs.Characters.{joined};
+ghost use Rattle.tclchars.specs.Runs.{Text};
+ghost use Rattle.tclrules.specs.Variables.{State, with_value};
+ghost use Rattle.tclrules.specs.Leads.{Leads, Point};
+ghost use Rattle.tclrules.specs.Plans as plans;
+ghost use Rattle.tclrules.specs.Plans.{Job, Next};
+ghost use Rattle.tclrules.specs.Forms.{Set, Append, Increase};
+ghost use Rattle.tclrules.specs.Rules.{write_at, write, assign, form, value_or, increased};
+ghost use Rattle.tclsteps.specs.Machine.{bounds};
+ghost use Rattle.tclsteps.specs.Stops.{after};
+ghost use Rattle.tclcommands.specs.Does.{named_values, DoesAlone};
+
+use crate::value::{Value, value_or};
+use std::alloc::Global;
+use tclforms::increase_of;
+use tclsteps::{Halt, Stop};
+use tclvalue::{ValueFault, count_of, sum};
+use tclvariables::{Variables, writable};
+
+// Writes a variable at its place.
+#[tactic(none)]
+pub(crate) fn write_at(
+    alloc: Global,
+    variables: &mut Variables,
+    limit: usize,
+    global: bool,
+    name: &str,
+    value: String,
+) -> Result<(), Stop>
+    ensures leads { (most left : ℕ) (r : Job → plans.Step) (k : Next) (x : Point) → Leads most r (write_at (bounds limit left) (global, name.now) (string_bytes value) variables.old k) x (after result (λ _ s. k (string_bytes value) s) variables.new) x }
+    ensures written { OnOk result (variables.new ≡ with_value variables.old (global, name.now) (string_bytes value)) }
+{
+    if value.len() > limit {
+        return Err(Stop::Halted(Halt::ValueTooLong));
+    }
+    variables.set(alloc, global, name, value)?;
+    Ok(())
+}
+
+/// Writes a variable.
+#[tactic(none)]
+pub fn write(
+    alloc: Global,
+    variables: &mut Variables,
+    limit: usize,
+    name: &str,
+    value: String,
+) -> Result<(), Stop>
+    ensures { (most left : ℕ) (r : Job → plans.Step) (k : Next) (x : Point) → Leads most r (write (bounds limit left) name.now (string_bytes value) variables.old k) x (after result (λ _ s. k (string_bytes value) s) variables.new) x }
+{
+    let (global, name) = writable(variables, alloc, name)?;
+    write_at(alloc, variables, limit, global, name, value)
+}
+
+/// Writes variables, one after the other.
+#[tactic(none)]
+pub fn assign(
+    alloc: Global,
+    variables: &mut Variables,
+    limit: usize,
+    pairs: Vec<(&str, String)>,
+) -> Result<(), Stop>
+    ensures { (most left : ℕ) (r : Job → plans.Step) (k : State → plans.Step) (x : Point) → Leads most r (assign (bounds limit left) (named_values pairs.entry.items) variables.old k) x (after result (λ _ s. k s) variables.new) x }
+{
+    for (name, value) in pairs {
+        write(alloc, variables, limit, name, value)?;
+    }
+    Ok(())
+}
+
+/// set(n), with a value.
+#[tactic(none)]
+pub fn set<'a>(
+    alloc: Global,
+    variables: &mut Variables,
+    limit: usize,
+    name: &'a str,
+    value: &'a str,
+) -> Result<Value<'a>, Stop>
+    ensures { DoesAlone (λ b k. form b (Set name.now value.now) variables.old k) limit result variables.new }
+{
+    let copy = String::from_str(alloc, value)?;
+    write(alloc, variables, limit, name, copy)?;
+    Ok(Value::Word(value))
+}
+
+// The text of a variable, which is taken, or an empty one.
+fn taken(alloc: Global, variables: &mut Variables, global: bool, name: &str) -> String
+    ensures value { string_bytes result ≡ value_or [] variables.old (global, name.now) }
+    ensures given_back { (t : Text) → with_value variables.new (global, name.now) t ≡ with_value variables.old (global, name.now) t }
+{
+    match variables.take(alloc, global, name) {
+        Some(text) => text,
+        None => String::new(alloc),
+    }
+}
+
+// A text with others behind it, within the limit.
+fn extended(text: String, values: &[String], limit: usize) -> Result<String, ValueFault>
+    ensures { GivesText result (limited limit (string_bytes text ++ joined [] (map string_bytes values.now))) }
+{
+    let mut text = text;
+    let mut rest = values;
+    while let [value, after @ ..] = rest {
+        if value.len() > limit.saturating_sub(text.len()) {
+            return Err(ValueFault::ValueTooLong);
+        }
+        text.push_str(value)?;
+        rest = after;
+    }
+    if text.len() > limit {
+        return Err(ValueFault::ValueTooLong);
+    }
+    Ok(text)
+}
+
+/// append(n)
+#[tactic(none)]
+pub fn append<'a>(
+    alloc: Global,
+    variables: &mut Variables,
+    limit: usize,
+    name: &'a str,
+    values: &'a [String],
+) -> Result<Value<'a>, Stop>
+    ensures { DoesAlone (λ b k. form b (Append name.now (map string_bytes values.now)) variables.old k) limit result variables.new }
+{
+    let (global, name) = writable(variables, alloc, name)?;
+    let old = taken(alloc, variables, global, name);
+    let value = extended(old, values, limit)?;
+    write_at(alloc, variables, limit, global, name, value)?;
+    Ok(Value::Variable(global, name))
+}
+
+// The sum of two whole numbers, which are judged from the left to the right.
+fn increased(alloc: Global, old: &str, increase: &str) -> Result<String, ValueFault>
+    ensures { GivesText result (increased old.now increase.now) }
+{
+    let old = count_of(alloc, old)?;
+    let increase = count_of(alloc, increase)?;
+    let sum = sum(old, increase)?;
+    Ok(format!(in alloc; "{sum}")?)
+}
+
+/// incr(n)
+#[tactic(none)]
+pub fn increase<'a>(
+    alloc: Global,
+    variables: &mut Variables,
+    limit: usize,
+    name: &'a str,
+    increases: &'a [String],
+) -> Result<Value<'a>, Stop>
+    ensures { DoesAlone (λ b k. form b (Increase name.now (map string_bytes increases.now)) variables.old k) limit result variables.new }
+{
+    let (global, name) = writable(variables, alloc, name)?;
+    let increase = increase_of(alloc, increases)?;
+    let value = increased(alloc, value_or(variables, global, name, "0"), increase)?;
+    write_at(alloc, variables, limit, global, name, value)?;
+    Ok(Value::Variable(global, name))
+}
