@@ -1,38 +1,40 @@
 """What the public calls of envstate do where memory is refused: what they do with ample memory, or want of memory alone.
 
-The tests of the crate envstate_rows are run, each by itself, as the gate built them. Where memory runs out in an edit, they
-see that the variables are those before it, and end with that error; an answer that is another ends them in another way.
+    allocations.py PROGRAM      PROGRAM is envstate_rows, built
+
+Each paragraph of its rows is run by itself. Where memory runs out in an edit, the program looks whether the variables are
+those before it, and says that memory ran out; an answer that is another is printed.
 """
 
 import os
-import re
 import subprocess
 import sys
 import tempfile
 
-from harness import SECONDS, Failed, refuser, refuses_each
+from harness import HERE, SECONDS, Failed, refuser, refuses_each
 
-TESTS = os.path.abspath(sys.argv[1])
+PROGRAM = os.path.abspath(sys.argv[1])
+ROWS = os.path.join(os.path.dirname(HERE), "crates", "envstate_rows", "stdin")
 
-# What a test that ended for want of memory says.
-REFUSED = re.compile(rb"error: (OutOfMemory|AllocError|AllocFailed \{ \.\. \})\nthe test failed: its result gives status 1\n")
+# What the program says where memory runs out before the paragraph is read, and in it.
+REFUSED = (b"", b"out of memory\n")
 
 
-def run(name, asked):
-    """How a test ends, and what it says of its end."""
+def run(paragraph, asked):
+    """What is printed of a paragraph."""
     done = subprocess.run(
-        [TESTS, name], env=asked, stdin=subprocess.DEVNULL, capture_output=True, timeout=SECONDS, check=False
+        [PROGRAM], input=paragraph.encode(), env=asked, capture_output=True, timeout=SECONDS, check=False
     )
-    return done.returncode, done.stderr
+    return done.stdout
 
 
-def is_refused(found):
-    return found[0] > 0 and REFUSED.fullmatch(found[1]) is not None
+def is_refused(printed):
+    return printed in REFUSED
 
 
-def names():
-    listed = subprocess.run([TESTS, "--list"], stdout=subprocess.PIPE, check=True).stdout.decode()
-    return [line.partition(": ")[0] for line in listed.splitlines() if line.endswith(": test")]
+def paragraphs():
+    with open(ROWS, encoding="utf-8") as rows:
+        return rows.read().split("\n\n")
 
 
 def main():
@@ -40,9 +42,10 @@ def main():
     failed = 0
     with tempfile.TemporaryDirectory(prefix="envstate-") as folder:
         shim = refuser(os.fsencode(folder))
-        for name in names():
+        for paragraph in paragraphs():
+            name = paragraph.partition("\n")[0]
             try:
-                refuses_each(shim, lambda asked, name=name: run(name, asked), is_refused, name)
+                refuses_each(shim, lambda asked, text=paragraph: run(text, asked), is_refused, name)
                 passed += 1
                 print(f"ok: {name}")
             except Failed as found:

@@ -21,7 +21,7 @@ PROGRAMS = {
     "modulecmd": ("modulecmd_main", "modulecmd_main"),
     "tcltext_cases": ("tcltext_cases", "tcltext_cases"),
     "tclvalue_cases": ("tclvalue_cases", "tclvalue_cases"),
-    "envstate_rows_tests": ("envstate_rows", "envstate_rows_tests"),
+    "envstate_rows": ("envstate_rows", "envstate_rows"),
 }
 
 # The tests outside the gate: a script, and what it is given.
@@ -29,7 +29,7 @@ SUITES = (
     ("program.py", "modulecmd"),
     ("memory.py", "modulecmd"),
     ("shells/run.py", "modulecmd"),
-    ("allocations.py", "envstate_rows_tests"),
+    ("allocations.py", "envstate_rows"),
     ("tcl/compare.py", "tcltext_cases"),
     ("tcl/values.py", "tclvalue_cases"),
     ("tcl/memory.py", ""),
