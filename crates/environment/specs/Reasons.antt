@@ -1,5 +1,6 @@
 -- Why edits are refused, as contracts see it: the cause and the variable, and nothing of memory.
-use Rattle.std.specs.Prelude.{◌≡◌, ℕ, string_bytes, Option, Some, None, IfSome, Result, Ok, Err}
+use Rattle.std.specs.Prelude.{◌≡◌, ℕ, codes, string_bytes, Option, Some, None, IfSome, Result, Ok, Err}
+use Rattle.message.specs.Messages.{around, quoting}
 use Rattle.environment.specs.Texts.{Text}
 use Rattle.environment.specs.Environment.{Environment}
 use Rattle.environment.specs.declared.fault.EnvFault.{EnvFault}
@@ -33,6 +34,16 @@ number_of (CounterFull name) = 34
 number_of Inconsistent = 35
 number_of (BadStack name) = 36
 number_of (BadValue name) = 37
+
+-- what a fault says
+abbrev pub message_of : EnvFault → Text
+message_of OutOfMemory = codes "Out of memory"
+message_of (BadVariable name) = quoting (codes "Bad variable name '") (string_bytes name)
+message_of (Protected name) = around (codes "Variable '") (string_bytes name) (codes "' is kept by the tool")
+message_of (CounterFull name) = around (codes "Counter of '") (string_bytes name) (codes "' is full")
+message_of Inconsistent = codes "Loaded modules are inconsistent"
+message_of (BadStack name) = quoting (codes "Bad stack of '") (string_bytes name)
+message_of (BadValue name) = quoting (codes "Bad value of '") (string_bytes name)
 
 -- the reason, where there is one, and else the outcome
 abbrev pub unless : {A : Type 0} → Option EnvReason → Result A EnvReason → Result A EnvReason

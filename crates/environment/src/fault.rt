@@ -1,36 +1,33 @@
 //! Why an edit of the environment was refused.
+use message::Message;
 use std::alloc::{AllocError, AllocFailed};
-use thiserror::Error;
+use std::error::Error;
+use std::fmt;
+use std::fmt::Display;
 
 /// Why an edit of the environment was refused. After a refusal the environment is as it was.
-#[derive(Debug, Drop, Error)]
+#[derive(Debug, Drop)]
 pub enum EnvFault {
     /// Memory ran out.
-    #[error("Out of memory")]
     OutOfMemory,
     /// The name of a variable isn't spelled as one.
-    #[error("Bad variable name '{0}'")]
     BadVariable(String),
     /// The variable holds the tool's own state.
-    #[error("Variable '{0}' is kept by the tool")]
     Protected(String),
     /// A counter of the path variable would pass the largest that can be written.
-    #[error("Counter of '{0}' is full")]
     CounterFull(String),
     /// The two loaded lists don't fit together, or an entry can't be one of them.
-    #[error("Loaded modules are inconsistent")]
     Inconsistent,
     /// The stack of the variable isn't one.
-    #[error("Bad stack of '{0}'")]
     BadStack(String),
     /// A value for the variable holds what none may hold.
-    #[error("Bad value of '{0}'")]
     BadValue(String),
 }
 
 impl EnvFault {
     ghost use Rattle.std.specs.Prelude.{◌≡◌};
-    ghost use Rattle.environment.specs.Reasons.{number_of};
+    ghost use Rattle.message.specs.Messages.{text_of};
+    ghost use Rattle.environment.specs.Reasons.{message_of, number_of};
 
     /// The number of the refusal.
     pub fn number(&self) -> u16
@@ -46,7 +43,39 @@ impl EnvFault {
             EnvFault::BadValue(_) => 37,
         }
     }
+
+    /// What the fault says.
+    pub fn message(&self) -> Message<'_>
+        ensures { text_of result ≡ message_of self.now }
+    {
+        match self {
+            EnvFault::OutOfMemory => Message::plain("Out of memory"),
+            EnvFault::BadVariable(name) => Message::quoting("Bad variable name '", name.as_str()),
+            EnvFault::Protected(name) => {
+                Message::around("Variable '", name.as_str(), "' is kept by the tool")
+            }
+            EnvFault::CounterFull(name) => {
+                Message::around("Counter of '", name.as_str(), "' is full")
+            }
+            EnvFault::Inconsistent => Message::plain("Loaded modules are inconsistent"),
+            EnvFault::BadStack(name) => Message::quoting("Bad stack of '", name.as_str()),
+            EnvFault::BadValue(name) => Message::quoting("Bad value of '", name.as_str()),
+        }
+    }
 }
+
+impl fmt::Display for EnvFault {
+    ghost use Rattle.std.specs.Prelude.{Some};
+    ghost use Rattle.environment.specs.Reasons.{message_of};
+
+    ghost output = { λ fault. Some (message_of fault) };
+
+    fn fmt<W: fmt::Write>(&self, f: &mut fmt::Formatter<W>) -> fmt::Result {
+        self.message().fmt(f)
+    }
+}
+
+impl Error for EnvFault {}
 
 impl From<AllocError> for EnvFault {
     ghost use Rattle.std.specs.Prelude.{◌≡◌};

@@ -3,10 +3,10 @@ use Rattle.std.proofs.Common.{◌≡◌, ℕ, ◌+◌, ◌<◌, ◌≤◌, true,
 use Rattle.std.specs.List.{slice_split}
 use Rattle.std.proofs.lemmas.List.{at_drop_more, at_drop_all}
 use Rattle.modulename.specs.ModuleName.{Text, is_module_name}
-use Rattle.lookup.specs.Agreement.{Files, Folders, Shows}
-use Rattle.lookup.specs.Answers.{IsMissed, IsSpellingFault}
+use Rattle.lookup.specs.Agreement.{Files, Listings, Shows}
+use Rattle.lookup.specs.Answers.{IsFindFault, IsSpellingFault}
 use Rattle.lookup.specs.Search.{Held, absent, no_cookie, not_utf8, script, not_utf8_at, not_found, modulefile, is_module, module_at, path_of, first_module, colon, found, bad_name}
-use Rattle.lookup.specs.Entries.{answer_at, entry_answer, found_along, IsMissedAt}
+use Rattle.lookup.specs.Entries.{answer_at, entry_answer, found_along, IsFindFaultAt}
 use Rattle.lookup.specs.declared.search.FindFault.{FindFault}
 use Rattle.lookup.specs.declared.search.FindFault.TheVariants as fault
 
@@ -56,19 +56,19 @@ module _ (modulepath name : Text) (spelled : is_module_name name ≡ true) (n : 
     none_yet-more files none e =
         none ∙ at_entry files ∙ ap (λ a. unwrap_or a (found_along files name (drop (n + 1) (entries_of modulepath)))) e
 
-    pub missed-at_entry : (agrees : Files → Folders → Type 0) (first before now : ℕ) → first ≤ before → Shows agrees (λ files folders. NoneYet files) →
-        (e : FindFault) → IsMissedAt agrees before now name dir e → IsMissed agrees first now modulepath name e
-    missed-at_entry agrees first before now later none fault.OutOfMemory h = tt
-    missed-at_entry agrees first before now later none (fault.NotFound n') h = absurd h
-    missed-at_entry agrees first before now later none fault.Device h = omega (arith, h)
-    missed-at_entry agrees first before now later none (fault.BadName n') h = absurd h
-    missed-at_entry agrees first before now later none (fault.BadDefaultFile path) h = absurd h
-    missed-at_entry agrees first before now later none (fault.NotUtf8 path) h =
-        λ files folders agree. found-at_entry files (none files folders agree) (Err (not_utf8_at (string_bytes path))) (h files folders agree)
+    pub fault-at_entry : (agrees : Files → Listings → Type 0) (first before now : ℕ) → first ≤ before → Shows agrees (λ files listings. NoneYet files) →
+        (e : FindFault) → IsFindFaultAt agrees before now name dir e → IsFindFault agrees first now modulepath name e
+    fault-at_entry agrees first before now later none fault.OutOfMemory h = tt
+    fault-at_entry agrees first before now later none (fault.NotFound n') h = absurd h
+    fault-at_entry agrees first before now later none fault.Device h = omega (arith, h)
+    fault-at_entry agrees first before now later none (fault.BadName n') h = absurd h
+    fault-at_entry agrees first before now later none (fault.BadDefaultFile path) h = absurd h
+    fault-at_entry agrees first before now later none (fault.NotUtf8 path) h =
+        λ files listings agree. found-at_entry files (none files listings agree) (Err (not_utf8_at (string_bytes path))) (h files listings agree)
 
 -- a fault at an entry is none of the spelling
-pub spelling-at_entry : (agrees : Files → Folders → Type 0) (before now : ℕ) (name dir : Text) → is_module_name name ≡ true →
-    (e : FindFault) → IsMissedAt agrees before now name dir e → IsSpellingFault name e
+pub spelling-at_entry : (agrees : Files → Listings → Type 0) (before now : ℕ) (name dir : Text) → is_module_name name ≡ true →
+    (e : FindFault) → IsFindFaultAt agrees before now name dir e → IsSpellingFault name e
 spelling-at_entry agrees before now name dir spelled fault.OutOfMemory h = tt
 spelling-at_entry agrees before now name dir spelled (fault.NotFound n) h = spelled
 spelling-at_entry agrees before now name dir spelled fault.Device h = spelled

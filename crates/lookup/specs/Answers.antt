@@ -1,7 +1,8 @@
 -- How the answers of the search show what the definitions say.
-use Rattle.std.specs.Prelude.{◌≡◌, ℕ, ◌<◌, true, false, Err, string_bytes}
+use Rattle.std.specs.Prelude.{◌≡◌, ℕ, ◌<◌, true, false, Err, codes, string_bytes}
 use Rattle.modulename.specs.ModuleName.{Text, is_module_name}
-use Rattle.lookup.specs.Agreement.{Files, Folders, Shows}
+use Rattle.message.specs.Messages.{quoting}
+use Rattle.lookup.specs.Agreement.{Files, Listings, Shows}
 use Rattle.lookup.specs.Search.{Held, absent, no_cookie, not_utf8, script, bad_name, not_found, not_utf8_at, found}
 use Rattle.lookup.specs.declared.modulefile.Modulefile.{Modulefile}
 use Rattle.lookup.specs.declared.modulefile.Modulefile.TheVariants.{Absent, NoCookie, NotUtf8, Script}
@@ -26,6 +27,15 @@ find_number (fault.BadName name) = 44
 find_number (fault.BadDefaultFile path) = 45
 find_number (fault.NotUtf8 path) = 46
 
+-- what each says of itself
+abbrev pub find_message : FindFault → Text
+find_message fault.OutOfMemory = codes "Out of memory"
+find_message (fault.NotFound name) = quoting (codes "Unable to locate a modulefile for '") (string_bytes name)
+find_message fault.Device = codes "Reading failed"
+find_message (fault.BadName name) = quoting (codes "Bad module name '") (string_bytes name)
+find_message (fault.BadDefaultFile path) = quoting (codes "Bad default file '") (string_bytes path)
+find_message (fault.NotUtf8 path) = quoting (codes "Not UTF-8: '") (string_bytes path)
+
 -- a tree's fault, as one of the search
 abbrev pub fault_of_tree : TreeFault → FindFault
 fault_of_tree tree_fault.OutOfMemory = fault.OutOfMemory
@@ -33,16 +43,16 @@ fault_of_tree tree_fault.Device = fault.Device
 
 -- The cause of each fault of a search: want of memory has none in the tree, the device has failed since,
 -- and any other fault is the answer of the search in each pair of maps that agrees.
-abbrev pub IsMissed : (Files → Folders → Type 0) → ℕ → ℕ → Text → Text → FindFault → Type 0
-IsMissed agrees before now modulepath name fault.OutOfMemory = Unit {0}
-IsMissed agrees before now modulepath name (fault.NotFound n) =
-    Shows agrees (λ files folders. found files modulepath name ≡ Err (not_found (string_bytes n)))
-IsMissed agrees before now modulepath name fault.Device = before < now
-IsMissed agrees before now modulepath name (fault.BadName n) =
-    Shows agrees (λ files folders. found files modulepath name ≡ Err (bad_name (string_bytes n)))
-IsMissed agrees before now modulepath name (fault.BadDefaultFile path) = ⊥
-IsMissed agrees before now modulepath name (fault.NotUtf8 path) =
-    Shows agrees (λ files folders. found files modulepath name ≡ Err (not_utf8_at (string_bytes path)))
+abbrev pub IsFindFault : (Files → Listings → Type 0) → ℕ → ℕ → Text → Text → FindFault → Type 0
+IsFindFault agrees before now modulepath name fault.OutOfMemory = Unit {0}
+IsFindFault agrees before now modulepath name (fault.NotFound n) =
+    Shows agrees (λ files listings. found files modulepath name ≡ Err (not_found (string_bytes n)))
+IsFindFault agrees before now modulepath name fault.Device = before < now
+IsFindFault agrees before now modulepath name (fault.BadName n) =
+    Shows agrees (λ files listings. found files modulepath name ≡ Err (bad_name (string_bytes n)))
+IsFindFault agrees before now modulepath name (fault.BadDefaultFile path) = ⊥
+IsFindFault agrees before now modulepath name (fault.NotUtf8 path) =
+    Shows agrees (λ files listings. found files modulepath name ≡ Err (not_utf8_at (string_bytes path)))
 
 -- A name is refused as ill-spelled exactly where it is: no other answer is given for it but want of memory.
 abbrev pub IsSpellingFault : Text → FindFault → Type 0

@@ -2,13 +2,13 @@
 use Rattle.std.specs.Prelude.{map, string_bytes, vec_items}
 use Rattle.std.specs.BTreeMap.{get_by_text}
 use Rattle.std.specs.Option.{option_map}
-use Rattle.lookup.specs.Agreement.{Files, Folders}
+use Rattle.lookup.specs.Agreement.{Files, Listings}
 use Rattle.lookup.specs.declared.memory.MemoryTree.{MemoryTree}
 
 -- the bytes of the file at each path
 abbrev pub files_of : MemoryTree → Files
 files_of tree path = option_map (λ bytes. vec_items bytes) (get_by_text tree.files path)
 
--- the names in the folder at each path
-abbrev pub folders_of : MemoryTree → Folders
-folders_of tree path = option_map (λ names. map string_bytes (vec_items names)) (get_by_text tree.folders path)
+-- the names in the directory at each path
+abbrev pub listings_of : MemoryTree → Listings
+listings_of tree path = option_map (λ names. map string_bytes (vec_items names)) (get_by_text tree.listings path)

@@ -7,7 +7,7 @@ use Rattle.std.specs.IoError.{error_kind}
 use Rattle.lookup.specs.declared.tree.TreeFault.{TreeFault}
 use Rattle.lookup.specs.declared.tree.TreeFault.TheVariants as fault
 
--- nothing is at the path: no file has the name, a name on the way is no folder, or the text is no name
+-- nothing is at the path: no file has the name, a name on the way is no directory, or the text is no name
 abbrev pub is_absence : ErrorKind → Bool
 is_absence kind.NotFound = true
 is_absence kind.NotADirectory = true

@@ -52,25 +52,25 @@ paths modulepath name = map (λ dir. path_of dir name) (directories modulepath)
 
 -- why no module is found: the name is ill-spelled; no directory has a module of this name; or the file
 -- at this path, which is the module, is not UTF-8
-pub data Missed : Type 0 where
-  bad_name : Text → Missed
-  not_found : Text → Missed
-  not_utf8_at : Text → Missed
+pub data FindReason : Type 0 where
+  bad_name : Text → FindReason
+  not_found : Text → FindReason
+  not_utf8_at : Text → FindReason
 
 -- the module at a path
-abbrev pub module_at : Text → Held → Result Text Missed
+abbrev pub module_at : Text → Held → Result Text FindReason
 module_at path absent = Ok path
 module_at path no_cookie = Ok path
 module_at path not_utf8 = Err (not_utf8_at path)
 module_at path (script text) = Ok path
 
 -- the first module, if there is one
-abbrev pub first_module : Files → Text → Option Text → Result Text Missed
+abbrev pub first_module : Files → Text → Option Text → Result Text FindReason
 first_module files name None = Err (not_found name)
 first_module files name (Some path) = module_at path (modulefile (files path))
 
 -- The path of the module that a name means: the first of the paths that is a module.
-abbrev pub found : Files → Text → Text → Result Text Missed
+abbrev pub found : Files → Text → Text → Result Text FindReason
 found files modulepath name =
     if is_module_name name
     then first_module files name (find (λ path. is_module (modulefile (files path))) (paths modulepath name))

@@ -1,7 +1,7 @@
-//! The folders of a disk, whose answers are kept and given again.
+//! The files and directories of a disk, whose answers are kept and given again.
 ghost use Rattle.std.specs.Prelude.{◌≡◌, ◌<◌, ◌≤◌, ℕ, List, map, Some, Option, IfOk, OnOk, IfErr, string_bytes, vec_items};
 ghost use Rattle.std.specs.BTreeMap.{get_by_text};
-ghost use Rattle.lookup.specs.Agreement.{Files, Folders, Shows, HasCause, file_answer, folder_answer, kept, kept-answer};
+ghost use Rattle.lookup.specs.Agreement.{Files, Listings, Shows, HasCause, file_answer, listing_answer, kept, kept-answer};
 ghost use Rattle.std.specs.IoError.{error_kind};
 ghost use Rattle.lookup.specs.Devices.{contents, fault_of_kind, is_absence, there};
 
@@ -13,17 +13,17 @@ use std::io::ErrorKind;
 use std::rt::Files;
 use std::{fs, io};
 
-/// The files and folders of a disk. Each answer is kept, and given again.
+/// The files and directories of a disk. Each answer is kept, and given again.
 ///
-/// There is nothing at a path where another kind of thing is, as a folder where a file is asked for, a pipe, a socket
+/// There is nothing at a path where another kind of thing is, as a directory where a file is asked for, a pipe, a socket
 /// or a device, which are never opened; where a link leads to nothing; and where a name in the path is a file. Any
-/// other fault is the device's: a missing permission, links in a ring, a path that the system refuses, or a folder
+/// other fault is the device's: a missing permission, links in a ring, a path that the system refuses, or a directory
 /// with a name that is not UTF-8.
 #[derive(Drop)]
 pub struct DiskTree<R: Files + AllocGlobal + Clone + Drop> {
     rt: R,
     files: BTreeMap<String, Option<Vec<u8>>>,
-    folders: BTreeMap<String, Option<Vec<String>>>,
+    listings: BTreeMap<String, Option<Vec<String>>>,
     failures: u64,
 }
 
@@ -92,7 +92,7 @@ fn names_in<R: Files + AllocGlobal + Clone + Drop>(rt: &R, dir: &str) -> io::Res
     Ok(names)
 }
 
-fn load_folder<R: Files + AllocGlobal + Clone + Drop>(
+fn load_listing<R: Files + AllocGlobal + Clone + Drop>(
     rt: &R,
     dir: &str,
 ) -> Result<Option<Vec<String>>, TreeFault> {
@@ -111,11 +111,11 @@ fn copy_file(answer: &Option<Vec<u8>>) -> Result<Option<Vec<u8>>, AllocError>
     }
 }
 
-fn copy_folder(
+fn copy_listing(
     alloc: Global,
     answer: &Option<Vec<String>>,
 ) -> Result<Option<Vec<String>>, AllocError>
-    ensures { IfOk result (λ copy. folder_answer copy ≡ folder_answer answer.now) }
+    ensures { IfOk result (λ copy. listing_answer copy ≡ listing_answer answer.now) }
 {
     match answer {
         None => Ok(None),
@@ -124,16 +124,16 @@ fn copy_folder(
 }
 
 impl<R: Files + AllocGlobal + Clone + Drop> DiskTree<R> {
-    /// The folders that the runtime reaches, of which nothing was asked yet.
+    /// The files and directories that the runtime reaches, of which nothing was asked yet.
     pub fn new(rt: R) -> DiskTree<R>
-        ensures { (files : Files) (folders : Folders) → ⟦<DiskTree<R> as Tree>⟧.agrees result files folders }
+        ensures { (files : Files) (listings : Listings) → ⟦<DiskTree<R> as Tree>⟧.agrees result files listings }
     {
         let files = BTreeMap::new(rt.alloc());
-        let folders = BTreeMap::new(rt.alloc());
+        let listings = BTreeMap::new(rt.alloc());
         DiskTree {
             rt,
             files,
-            folders,
+            listings,
             failures: 0,
         }
     }
@@ -141,7 +141,7 @@ impl<R: Files + AllocGlobal + Clone + Drop> DiskTree<R> {
     /// The fault, with a failure of the device counted. The count has a last value, past which none is told.
     fn counted(&mut self, fault: TreeFault) -> TreeFault
         ensures files { self.new.files ≡ self.old.files }
-        ensures folders { self.new.folders ≡ self.old.folders }
+        ensures listings { self.new.listings ≡ self.old.listings }
         ensures later { self.old.failures ≤ self.new.failures }
         ensures device { result ≡ TreeFault.Device → self.old.failures < self.new.failures }
         ensures same { self.old.failures < u64.MAX → result ≡ fault }
@@ -162,16 +162,17 @@ impl<R: Files + AllocGlobal + Clone + Drop> DiskTree<R> {
 impl<R: Files + AllocGlobal + Clone + Drop> Tree for DiskTree<R> {
     ghost failures = { λ t. t.failures };
 
-    ghost agrees = { λ t files folders.
+    ghost agrees = { λ t files listings.
         ((path : List ℕ) (answer : _) → get_by_text t.files path ≡ Some answer → files path ≡ file_answer answer)
-        × ((path : List ℕ) (answer : _) → get_by_text t.folders path ≡ Some answer → folders path ≡ folder_answer answer) };
+        × ((path : List ℕ) (answer : _) → get_by_text t.listings path ≡ Some answer
+        → listings path ≡ listing_answer answer) };
 
     ghost agreeable = { λ t. (
       λ path. kept file_answer (get_by_text t.files path),
-      λ path. kept folder_answer (get_by_text t.folders path),
+      λ path. kept listing_answer (get_by_text t.listings path),
       (
         λ path answer had. kept-answer file_answer (get_by_text t.files path) answer had,
-        λ path answer had. kept-answer folder_answer (get_by_text t.folders path) answer had,
+        λ path answer had. kept-answer listing_answer (get_by_text t.listings path) answer had,
       ),
     ) };
 
@@ -191,14 +192,14 @@ impl<R: Files + AllocGlobal + Clone + Drop> Tree for DiskTree<R> {
     }
 
     fn entries(&mut self, dir: &str) -> Result<Option<Vec<String>>, TreeFault> {
-        if let Some(answer) = self.folders.get(dir) {
-            return Ok(copy_folder(self.rt.alloc(), answer)?);
+        if let Some(answer) = self.listings.get(dir) {
+            return Ok(copy_listing(self.rt.alloc(), answer)?);
         }
         let key = String::from_str(self.rt.alloc(), dir)?;
-        match load_folder(&self.rt, dir) {
+        match load_listing(&self.rt, dir) {
             Ok(answer) => {
-                let copy = copy_folder(self.rt.alloc(), &answer)?;
-                self.folders.insert(key, answer)?;
+                let copy = copy_listing(self.rt.alloc(), &answer)?;
+                self.listings.insert(key, answer)?;
                 Ok(copy)
             }
             Err(fault) => Err(self.counted(fault)),

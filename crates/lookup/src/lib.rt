@@ -1,4 +1,4 @@
-//! Files and folders by their paths, in memory or on a disk, and the search for modulefiles in them.
+//! Files and directories by their paths, in memory or on a disk, and the search for modulefiles in them.
 #![tactic(auto)]
 
 mod disk;

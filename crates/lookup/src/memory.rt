@@ -2,19 +2,19 @@
 ghost use Rattle.std.specs.Prelude.{◌≡◌, ℕ, List, map, None, refl, IfOk, OnOk, OnErr, string_bytes, vec_items};
 ghost use Rattle.std.specs.BTreeMap.{get_by_text};
 ghost use Rattle.std.specs.Option.{option_map};
-ghost use Rattle.lookup.specs.Contents.{files_of, folders_of};
-ghost use Rattle.lookup.specs.Agreement.{Files, Folders, Shows, HasCause, file_answer, folder_answer, with_at};
+ghost use Rattle.lookup.specs.Contents.{files_of, listings_of};
+ghost use Rattle.lookup.specs.Agreement.{Files, Listings, Shows, HasCause, file_answer, listing_answer, with_at};
 
 use crate::tree::{Tree, TreeFault};
 use std::alloc::{AllocError, Global};
 use std::collections::BTreeMap;
 
-/// Files and folders in memory.
+/// Files and directories in memory.
 #[derive(Drop)]
 pub struct MemoryTree {
     alloc: Global,
     files: BTreeMap<String, Vec<u8>>,
-    folders: BTreeMap<String, Vec<String>>,
+    listings: BTreeMap<String, Vec<String>>,
 }
 
 pub(crate) fn copy_names(alloc: Global, names: &Vec<String>) -> Result<Vec<String>, AllocError>
@@ -38,15 +38,15 @@ fn own_names(alloc: Global, names: &[&str]) -> Result<Vec<String>, AllocError>
 }
 
 impl MemoryTree {
-    /// A tree with no file and no folder.
+    /// A tree with no file and no directory.
     pub fn new(alloc: Global) -> MemoryTree
         ensures files { (path : List ℕ) → files_of result path ≡ None }
-        ensures folders { (path : List ℕ) → folders_of result path ≡ None }
+        ensures listings { (path : List ℕ) → listings_of result path ≡ None }
     {
         MemoryTree {
             alloc,
             files: BTreeMap::new(alloc),
-            folders: BTreeMap::new(alloc),
+            listings: BTreeMap::new(alloc),
         }
     }
 
@@ -54,9 +54,10 @@ impl MemoryTree {
     ///
     /// It fails only for want of memory, and the tree is then as it was.
     pub fn put_file(&mut self, path: &str, bytes: &[u8]) -> Result<(), AllocError>
-        ensures put { OnOk result ((p : List ℕ) → files_of self.new p ≡ with_at (files_of self.old) path.now bytes.now p) }
+        ensures put { OnOk result ((p : List ℕ)
+            → files_of self.new p ≡ with_at (files_of self.old) path.now bytes.now p) }
         ensures refused { OnErr result ((p : List ℕ) → files_of self.new p ≡ files_of self.old p) }
-        ensures folders { (p : List ℕ) → folders_of self.new p ≡ folders_of self.old p }
+        ensures listings { (p : List ℕ) → listings_of self.new p ≡ listings_of self.old p }
     {
         let key = String::from_str(self.alloc, path)?;
         let copy = bytes.to_vec(self.alloc)?;
@@ -64,17 +65,18 @@ impl MemoryTree {
         Ok(())
     }
 
-    /// Puts a folder with these names at the path, in place of one that was there.
+    /// Puts a directory with these names at the path, in place of one that was there.
     ///
     /// It fails only for want of memory, and the tree is then as it was.
-    pub fn put_folder(&mut self, path: &str, names: &[&str]) -> Result<(), AllocError>
-        ensures put { OnOk result ((p : List ℕ) → folders_of self.new p ≡ with_at (folders_of self.old) path.now (map (λ name. name.now) names.now) p) }
-        ensures refused { OnErr result ((p : List ℕ) → folders_of self.new p ≡ folders_of self.old p) }
+    pub fn put_directory(&mut self, path: &str, names: &[&str]) -> Result<(), AllocError>
+        ensures put { OnOk result ((p : List ℕ)
+            → listings_of self.new p ≡ with_at (listings_of self.old) path.now (map (λ name. name.now) names.now) p) }
+        ensures refused { OnErr result ((p : List ℕ) → listings_of self.new p ≡ listings_of self.old p) }
         ensures files { (p : List ℕ) → files_of self.new p ≡ files_of self.old p }
     {
         let key = String::from_str(self.alloc, path)?;
         let copy = own_names(self.alloc, names)?;
-        self.folders.insert(key, copy)?;
+        self.listings.insert(key, copy)?;
         Ok(())
     }
 }
@@ -82,9 +84,10 @@ impl MemoryTree {
 impl Tree for MemoryTree {
     ghost failures = { λ t. 0 };
 
-    ghost agrees = { λ t files folders. ((path : List ℕ) → files path ≡ files_of t path) × ((path : List ℕ) → folders path ≡ folders_of t path) };
+    ghost agrees = { λ t files listings. ((path : List ℕ) → files path ≡ files_of t path)
+        × ((path : List ℕ) → listings path ≡ listings_of t path) };
 
-    ghost agreeable = { λ t. (files_of t, folders_of t, (λ path. refl, λ path. refl)) };
+    ghost agreeable = { λ t. (files_of t, listings_of t, (λ path. refl, λ path. refl)) };
 
     fn read(&mut self, path: &str) -> Result<Option<Vec<u8>>, TreeFault> {
         match self.files.get(path) {
@@ -94,7 +97,7 @@ impl Tree for MemoryTree {
     }
 
     fn entries(&mut self, dir: &str) -> Result<Option<Vec<String>>, TreeFault> {
-        match self.folders.get(dir) {
+        match self.listings.get(dir) {
             None => Ok(None),
             Some(names) => Ok(Some(copy_names(self.alloc, names)?)),
         }

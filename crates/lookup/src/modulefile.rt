@@ -1,6 +1,6 @@
 //! What a path holds as a modulefile.
 ghost use Rattle.std.specs.Prelude.{◌≡◌, IfOk, Some};
-ghost use Rattle.lookup.specs.Agreement.{Files, Folders, Shows, HasCause};
+ghost use Rattle.lookup.specs.Agreement.{Shows, HasCause, Narrows};
 ghost use Rattle.lookup.specs.Answers.{modulefile_view};
 ghost use Rattle.lookup.specs.Search.{modulefile};
 
@@ -38,8 +38,9 @@ fn modulefile_of(bytes: Vec<u8>) -> Modulefile
 ///
 /// It fails as the tree does.
 pub fn read_modulefile<T: Tree>(tree: &mut T, path: &str) -> Result<Modulefile, TreeFault>
-    ensures before { Shows (T.agrees tree.new) (λ files folders. T.agrees tree.old files folders) }
-    ensures answer { IfOk result (λ m. Shows (T.agrees tree.new) (λ files folders. modulefile (files path.now) ≡ modulefile_view m)) }
+    ensures before { Narrows (T.agrees tree.old) (T.agrees tree.new) }
+    ensures answer { IfOk result (λ m. Shows (T.agrees tree.new)
+        (λ files listings. modulefile (files path.now) ≡ modulefile_view m)) }
     ensures cause { HasCause (T.failures tree.old) (T.failures tree.new) result }
 {
     match tree.read(path)? {

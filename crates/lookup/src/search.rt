@@ -1,18 +1,22 @@
 //! The search for a module by its exact name.
-ghost use Rattle.std.specs.Prelude.{◌≡◌, ◌≤◌, ℕ, true, false, Ok, IfOk, IfErr, MatchResult, string_bytes};
+ghost use Rattle.std.specs.Prelude.{◌≡◌, ◌≤◌, ℕ, true, false, Ok, Some, IfOk, IfErr, MatchResult, string_bytes};
 ghost use Rattle.modulename.specs.ModuleName.{is_module_name};
 ghost use Rattle.lookup.specs.declared.search.FindFault.TheVariants.{OutOfMemory};
-ghost use Rattle.lookup.specs.Agreement.{Files, Folders, Shows};
-ghost use Rattle.lookup.specs.Answers.{IsMissed, IsSpellingFault, find_number, fault_of_tree};
-ghost use Rattle.lookup.specs.Entries.{entry_answer, IsMissedAt};
+ghost use Rattle.message.specs.Messages.{text_of};
+ghost use Rattle.lookup.specs.Agreement.{Shows, Narrows};
+ghost use Rattle.lookup.specs.Answers.{IsFindFault, IsSpellingFault, fault_of_tree, find_message, find_number};
+ghost use Rattle.lookup.specs.Entries.{entry_answer, IsFindFaultAt};
 ghost use Rattle.lookup.specs.Search.{found, path_of};
 ghost use Rattle.std.specs.Option.{option_map};
 
 use crate::modulefile::{Modulefile, read_modulefile};
 use crate::tree::{Tree, TreeFault};
+use message::Message;
 use modulename::is_module_name;
 use std::alloc::{AllocError, AllocFailed, Global};
-use thiserror::Error;
+use std::error::Error;
+use std::fmt;
+use std::fmt::Display;
 
 /// A module that was found.
 #[derive(Debug, Drop)]
@@ -24,25 +28,19 @@ pub struct Found {
 }
 
 /// Why no module was found.
-#[derive(Debug, Drop, Error)]
+#[derive(Debug, Drop)]
 pub enum FindFault {
     /// No memory was left.
-    #[error("Out of memory")]
     OutOfMemory,
     /// No directory of MODULEPATH has a module of this name.
-    #[error("Unable to locate a modulefile for '{0}'")]
     NotFound(String),
     /// The device failed in this call.
-    #[error("Reading failed")]
     Device,
     /// The name is not spelled as the name of a module.
-    #[error("Bad module name '{0}'")]
     BadName(String),
     /// The default file at this path cannot be evaluated.
-    #[error("Bad default file '{0}'")]
     BadDefaultFile(String),
     /// The file at this path, which is the module, is not UTF-8.
-    #[error("Not UTF-8: '{0}'")]
     NotUtf8(String),
 }
 
@@ -60,7 +58,36 @@ impl FindFault {
             FindFault::NotUtf8(_) => 46,
         }
     }
+
+    /// What the fault says.
+    pub fn message(&self) -> Message<'_>
+        ensures { text_of result ≡ find_message self.now }
+    {
+        match self {
+            FindFault::OutOfMemory => Message::plain("Out of memory"),
+            FindFault::NotFound(name) => {
+                Message::quoting("Unable to locate a modulefile for '", name.as_str())
+            }
+            FindFault::Device => Message::plain("Reading failed"),
+            FindFault::BadName(name) => Message::quoting("Bad module name '", name.as_str()),
+            FindFault::BadDefaultFile(path) => Message::quoting(
+                "Bad default file '",
+                path.as_str(),
+            ),
+            FindFault::NotUtf8(path) => Message::quoting("Not UTF-8: '", path.as_str()),
+        }
+    }
 }
+
+impl fmt::Display for FindFault {
+    ghost output = { λ fault. Some (find_message fault) };
+
+    fn fmt<W: fmt::Write>(&self, f: &mut fmt::Formatter<W>) -> fmt::Result {
+        self.message().fmt(f)
+    }
+}
+
+impl Error for FindFault {}
 
 impl From<AllocError> for FindFault {
     ghost from_gives = { λ _ e. e ≡ OutOfMemory };
@@ -106,10 +133,11 @@ fn module_below<T: Tree>(
     dir: &str,
     name: &str,
 ) -> Result<Option<String>, FindFault>
-    ensures before { Shows (T.agrees tree.new) (λ files folders. T.agrees tree.old files folders) }
-    ensures answer { IfOk result (λ r. Shows (T.agrees tree.new) (λ files folders.
+    ensures before { Narrows (T.agrees tree.old) (T.agrees tree.new) }
+    ensures answer { IfOk result (λ r. Shows (T.agrees tree.new) (λ files listings.
         entry_answer files name.now dir.now ≡ option_map (λ path. Ok (string_bytes path)) r)) }
-    ensures missed { IfErr result (λ e. IsMissedAt (T.agrees tree.new) (T.failures tree.old) (T.failures tree.new) name.now dir.now e) }
+    ensures fault { IfErr result (λ e. IsFindFaultAt (T.agrees tree.new) (T.failures tree.old)
+        (T.failures tree.new) name.now dir.now e) }
     ensures later { T.failures tree.old ≤ T.failures tree.new }
 {
     if dir.is_empty() {
@@ -136,10 +164,12 @@ pub fn locate<T: Tree>(
     modulepath: &str,
     name: &str,
 ) -> Result<Found, FindFault>
-    ensures before { Shows (T.agrees tree.new) (λ files folders. T.agrees tree.old files folders) }
+    ensures before { Narrows (T.agrees tree.old) (T.agrees tree.new) }
     ensures found { IfOk result (λ f. (string_bytes f.name ≡ name.now)
-        × Shows (T.agrees tree.new) (λ files folders. found files modulepath.now name.now ≡ Ok (string_bytes f.path))) }
-    ensures missed { IfErr result (λ e. IsMissed (T.agrees tree.new) (T.failures tree.old) (T.failures tree.new) modulepath.now name.now e) }
+        × Shows (T.agrees tree.new) (λ files listings.
+        found files modulepath.now name.now ≡ Ok (string_bytes f.path))) }
+    ensures fault { IfErr result (λ e. IsFindFault (T.agrees tree.new) (T.failures tree.old)
+        (T.failures tree.new) modulepath.now name.now e) }
     ensures spelling { MatchResult result (λ f. is_module_name name.now ≡ true) (λ e. IsSpellingFault name.now e) }
     ensures unread { is_module_name name.now ≡ false → tree.new ≡ tree.old }
     ensures later { T.failures tree.old ≤ T.failures tree.new }

@@ -1,19 +1,21 @@
 //! What every tree of files keeps.
-ghost use Rattle.std.specs.Prelude.{◌≡◌, ℕ, IfOk};
+ghost use Rattle.std.specs.Prelude.{◌≡◌, ℕ, Some, IfOk};
 ghost use Rattle.lookup.specs.declared.tree.TreeFault.TheVariants.{OutOfMemory};
-ghost use Rattle.lookup.specs.Agreement.{Files, Folders, Shows, HasCause, IsAgreeable, file_answer, folder_answer, tree_number};
+ghost use Rattle.message.specs.Messages.{text_of};
+ghost use Rattle.lookup.specs.Agreement.{Files, Listings, Shows, HasCause, IsAgreeable, file_answer, listing_answer, tree_message, tree_number, Narrows};
 
+use message::Message;
 use std::alloc::{AllocError, AllocFailed};
-use thiserror::Error;
+use std::error::Error;
+use std::fmt;
+use std::fmt::Display;
 
 /// Why a tree gave no answer.
-#[derive(Clone, Copy, Debug, PartialEq, Eq, Error)]
+#[derive(Clone, Copy, Debug, PartialEq, Eq)]
 pub enum TreeFault {
     /// No memory was left for the answer.
-    #[error("Out of memory")]
     OutOfMemory,
     /// The device failed: what is at the path could not be read or listed.
-    #[error("Reading failed")]
     Device,
 }
 
@@ -27,7 +29,27 @@ impl TreeFault {
             TreeFault::Device => 43,
         }
     }
+
+    /// What the fault says.
+    pub fn message(&self) -> Message<'static>
+        ensures { text_of result ≡ tree_message self.now }
+    {
+        match self {
+            TreeFault::OutOfMemory => Message::plain("Out of memory"),
+            TreeFault::Device => Message::plain("Reading failed"),
+        }
+    }
 }
+
+impl fmt::Display for TreeFault {
+    ghost output = { λ fault. Some (tree_message fault) };
+
+    fn fmt<W: fmt::Write>(&self, f: &mut fmt::Formatter<W>) -> fmt::Result {
+        self.message().fmt(f)
+    }
+}
+
+impl Error for TreeFault {}
 
 impl From<AllocError> for TreeFault {
     ghost from_gives = { λ _ e. e ≡ OutOfMemory };
@@ -45,31 +67,33 @@ impl<T: Drop> From<AllocFailed<T>> for TreeFault {
     }
 }
 
-/// Files and folders by their paths.
+/// Files and directories by their paths.
 ///
-/// What a tree says of the files and folders behind it is the set of pairs of maps that agree with it. A call only
+/// What a tree says of the files and directories behind it is the set of pairs of maps that agree with it. A call only
 /// makes this set smaller, and its answer is what each pair that is left has at the path.
 pub trait Tree {
     /// How often the device has failed.
     ghost failures: { Self → ℕ };
 
-    /// Which files and folders agree with the answers so far.
-    ghost agrees: { Self → Files → Folders → Type 0 };
+    /// Which files and directories agree with the answers so far.
+    ghost agrees: { Self → Files → Listings → Type 0 };
 
     /// The bytes of the file at the path, or `None` where no file is there.
     ///
     /// It fails with `OutOfMemory`, or with `Device` where the device failed in this call.
     fn read(&mut self, path: &str) -> Result<Option<Vec<u8>>, TreeFault>
-        ensures before { Shows (agrees self.new) (λ files folders. agrees self.old files folders) }
-        ensures answer { IfOk result (λ answer. Shows (agrees self.new) (λ files folders. files path.now ≡ file_answer answer)) }
+        ensures before { Narrows (agrees self.old) (agrees self.new) }
+        ensures answer { IfOk result (λ answer.
+            Shows (agrees self.new) (λ files listings. files path.now ≡ file_answer answer)) }
         ensures cause { HasCause (failures self.old) (failures self.new) result };
 
-    /// The names in the folder at the path, or `None` where no folder is there.
+    /// The names in the directory at the path, or `None` where no directory is there.
     ///
     /// It fails as `read` does.
     fn entries(&mut self, dir: &str) -> Result<Option<Vec<String>>, TreeFault>
-        ensures before { Shows (agrees self.new) (λ files folders. agrees self.old files folders) }
-        ensures answer { IfOk result (λ answer. Shows (agrees self.new) (λ files folders. folders dir.now ≡ folder_answer answer)) }
+        ensures before { Narrows (agrees self.old) (agrees self.new) }
+        ensures answer { IfOk result (λ answer.
+            Shows (agrees self.new) (λ files listings. listings dir.now ≡ listing_answer answer)) }
         ensures cause { HasCause (failures self.old) (failures self.new) result };
 
     /// With each tree some pair of maps agrees.

@@ -9,7 +9,7 @@ use Rattle.modules.specs.declared.requests.Shell.TheVariants.{Sh, Bash, Ksh, Zsh
 use Rattle.modules.specs.declared.running.Limits.{Limits}
 use Rattle.modules.specs.Reasons.{Reason, bad_arguments}
 use Rattle.modules.specs.Requests.{Asked, request_of}
-use Rattle.modules.specs.Answers.{cause_of, Stands}
+use Rattle.modules.specs.Answers.{origin_of, IsOrigin}
 use Rattle.modules.specs.Answers.{number_of as refusal_number}
 use Rattle.modules.specs.Steps.{Done, step}
 use Rattle.modules.specs.declared.refusal.Refusal.TheVariants as refusals
@@ -21,9 +21,9 @@ use Rattle.modulecmd.specs.declared.refuse.CommandFault.TheVariants.{Refused, Un
 use Rattle.modulecmd.specs.Printing.{IsUnsayable, print_fault_number}
 
 -- Why a command is refused, apart from want of memory, a failed device, a failed write and changes without a text.
-pub data Objection : Type 0 where
-  unknown_shell : (word : Text) → Objection
-  because : (reason : Reason) → Objection
+pub data CommandReason : Type 0 where
+  unknown_shell : (word : Text) → CommandReason
+  because : (reason : Reason) → CommandReason
 
 -- the shell of this name
 abbrev pub shell_named : Text → Option Shell
@@ -38,16 +38,16 @@ shell_named word =
 abbrev pub Command : Type 0
 Command = Shell × Asked
 
-abbrev pub for_shell : Shell → Result Asked Reason → Result Command Objection
+abbrev pub for_shell : Shell → Result Asked Reason → Result Command CommandReason
 for_shell shell (Ok asked) = Ok (shell, asked)
 for_shell shell (Err reason) = Err (because reason)
 
-abbrev pub by_shell : Text → List Text → Option Shell → Result Command Objection
+abbrev pub by_shell : Text → List Text → Option Shell → Result Command CommandReason
 by_shell word words None = Err (unknown_shell word)
 by_shell word words (Some shell) = for_shell shell (request_of words)
 
 -- the command that the arguments make: the name of a shell, and then the words of a request
-abbrev pub command_of : List Text → Result Command Objection
+abbrev pub command_of : List Text → Result Command CommandReason
 command_of [] = Err (because bad_arguments)
 command_of (word ∷ words) = by_shell word words (shell_named word)
 
@@ -59,29 +59,31 @@ standard = record { commands = 100000; depth = 200; value_bytes = 1048576 }
 abbrev pub Effect : Type 0
 Effect = Shell × Done
 
-abbrev pub with_shell : Shell → Result Done Reason → Result Effect Objection
+abbrev pub with_shell : Shell → Result Done Reason → Result Effect CommandReason
 with_shell shell (Ok done) = Ok (shell, done)
 with_shell shell (Err reason) = Err (because reason)
 
-abbrev pub effect_of : Environment → Files → Result Command Objection → Result Effect Objection
+abbrev pub effect_of : Environment → Files → Result Command CommandReason → Result Effect CommandReason
 effect_of e files (Ok command) = with_shell command.0 (step standard files e command.1)
-effect_of e files (Err objection) = Err objection
+effect_of e files (Err reason) = Err reason
 
 -- what a command with these arguments does, in this environment and over these files
-abbrev pub effect : List Text → Environment → Files → Result Effect Objection
+abbrev pub effect : List Text → Environment → Files → Result Effect CommandReason
 effect arguments e files = effect_of e files (command_of arguments)
 
--- The changes from one environment to the other have no text in the shell, and the first that no line says is of this variable.
+-- The changes from one environment to the other have no text in the shell, and the first that no line says is of this
+-- variable.
 abbrev pub LacksText : Shell → Environment → Environment → Text → Type 0
 LacksText shell old new name = (cs : List Edit) × AreChanges old new cs × IsUnsayable shell cs name
 
-abbrev pub IsUnsaid : Environment → Result Effect Objection → Text → Type 0
+abbrev pub IsUnsaid : Environment → Result Effect CommandReason → Text → Type 0
 IsUnsaid e (Ok f) name = LacksText f.0 e f.1.env name
-IsUnsaid e (Err objection) name = ⊥
+IsUnsaid e (Err reason) name = ⊥
 
--- A refusal has a reason: memory can always be wanting, a device has failed, a variable can't be said, or an objection is the command's.
-abbrev pub HasReason : CommandFault → (Objection → Type 0) → (Text → Type 0) → Type 0 → Type 0
-HasReason (Refused refusal) Is Lacks failed = Stands (cause_of refusal) (λ reason. Is (because reason)) failed
+-- A refusal has a reason: memory can always be wanting, a device has failed, a variable can't be said, or the
+-- command has a reason.
+abbrev pub HasReason : CommandFault → (CommandReason → Type 0) → (Text → Type 0) → Type 0 → Type 0
+HasReason (Refused refusal) Is Lacks failed = IsOrigin (origin_of refusal) (λ reason. Is (because reason)) failed
 HasReason (UnknownShell word) Is Lacks failed = Is (unknown_shell (string_bytes word))
 HasReason (Unprinted prints.OutOfMemory) Is Lacks failed = Unit {0}
 HasReason (Unprinted (prints.NotSayable name)) Is Lacks failed = Lacks (string_bytes name)

@@ -16,7 +16,8 @@ name_of entry = before_first is_equals entry
 -- The entry has an '=', and a name before it that is UTF-8.
 abbrev pub is_variable : Text → Bool
 is_variable entry =
-    nat_lt (position_or_len is_equals entry) (length entry) && (nat_lt 0 (length (name_of entry)) && is_utf8 (name_of entry))
+    nat_lt (position_or_len is_equals entry) (length entry)
+    && (nat_lt 0 (length (name_of entry)) && is_utf8 (name_of entry))
 
 -- the value that a variable reads as: none where it isn't UTF-8
 abbrev pub readable : Text → Option Text

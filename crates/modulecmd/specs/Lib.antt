@@ -3,7 +3,6 @@ pub mod Printing
 pub mod Writing
 pub mod Given
 pub mod Lines
-pub mod Messages
 pub mod Command
 pub mod Output
 pub mod Words

@@ -1,5 +1,6 @@
--- How shells read lines that set and unset variables. By cases, over whole texts; no shell's text says anything else here.
--- The sh family (sh, bash, ksh, zsh) is read by POSIX XCU 2.2.1 (a backslash outside quotes) and 2.2.2 (single quotes).
+-- How shells read lines that set and unset variables. By cases, over whole texts; no shell's text says anything else
+-- here. The sh family (sh, bash, ksh, zsh) is read by POSIX XCU 2.2.1 (a backslash outside quotes) and 2.2.2 (single
+-- quotes).
 use Rattle.std.specs.Prelude.{◌≡◌, ◌<◌, length, ℕ, List, [], ◌∷◌, ◌++◌, Bool, not, ◌||◌, true, ◌==◌, Option, Some, None, codes}
 use Rattle.std.specs.List.{flat_map, list_all}
 use Rattle.modules.specs.declared.requests.Shell.{Shell}
@@ -81,7 +82,9 @@ Says family line name (Some value) = (text : Text) × Spells family text value �
 -- The text is lines that say these settings, in order, each of a variable's name.
 abbrev pub AreLines : Family → Text → List Edit → Type 0
 AreLines family text [] = text ≡ []
-AreLines family text (s ∷ ss) = (line : Text) × (rest : Text) × (is_variable_name s.0 ≡ true) × Says family line s.0 s.1 × AreLines family rest ss × (text ≡ line ++ rest)
+AreLines family text (s ∷ ss) =
+    (line : Text) × (rest : Text) × (is_variable_name s.0 ≡ true) × Says family line s.0 s.1 × AreLines family rest ss
+    × (text ≡ line ++ rest)
 
 -- The shell reads the text as exactly these settings, in order.
 abbrev pub IsText : Shell → Text → List Edit → Type 0
@@ -93,8 +96,8 @@ pub record MakesOf (shell : Shell) (text : Text) (old new : Environment) : Type 
   pub says : IsText shell text settings
   pub made : new ≡ applied settings old
 
--- The shell reads the text as the difference of two environments, exactly: a setting for each variable that differs, once, in
--- the order of bytes, and nothing else.
+-- The shell reads the text as the difference of two environments, exactly: a setting for each variable that differs,
+-- once, in the order of bytes, and nothing else.
 pub record SaysDifference (shell : Shell) (text : Text) (old new : Environment) : Type 0 where
   pub settings : List Edit
   pub exact : AreChanges old new settings
@@ -106,8 +109,12 @@ OneReading = (shell : Shell) (text : Text) (ss rs : List Edit) → IsText shell 
 
 -- a text makes one thing of an environment
 abbrev pub OneEffect : Type 0
-OneEffect = (shell : Shell) (text : Text) (old new other : Environment) → MakesOf shell text old new → MakesOf shell text old other → new ≡ other
+OneEffect =
+    (shell : Shell) (text : Text) (old new other : Environment) → MakesOf shell text old new
+    → MakesOf shell text old other → new ≡ other
 
 -- a text that says the difference of two environments makes the second of the first
 abbrev pub DifferenceMakes : Type 0
-DifferenceMakes = (shell : Shell) (text : Text) (old new : Environment) → SaysDifference shell text old new → MakesOf shell text old new
+DifferenceMakes =
+    (shell : Shell) (text : Text) (old new : Environment) → SaysDifference shell text old new
+    → MakesOf shell text old new

@@ -36,7 +36,8 @@ fn entries_of(alloc: Global, block: &[u8]) -> Result<Vec<&[u8]>, AllocError>
 
 /// The place of the first `=`.
 fn place_of_equals(entry: &[u8]) -> Option<usize>
-    ensures { result ≡ if nat_lt (position_or_len is_equals entry.now) (length entry.now) then Some (position_or_len is_equals entry.now) else None }
+    ensures { result ≡ if nat_lt (position_or_len is_equals entry.now) (length entry.now)
+        then Some (position_or_len is_equals entry.now) else None }
 {
     entry.iter().position(|b| *b == b'=')
 }

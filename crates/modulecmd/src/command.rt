@@ -1,7 +1,7 @@
 //! One command: the words in, the text and the messages out.
 ghost use Rattle.std.specs.Prelude.{◌≡◌, ◌<◌, ◌≤◌, ◌⊎◌, [], map, Ok, Err, IfOk, IfErr, OnOk, OnErr, string_bytes};
 ghost use Rattle.std.specs.Io.KnownBytes.{Keeps, Appends};
-ghost use Rattle.lookup.specs.Agreement.{Files, Folders, Shows};
+ghost use Rattle.lookup.specs.Agreement.{Shows, Narrows};
 ghost use Rattle.modules.specs.Requests.{asked};
 ghost use Rattle.modulecmd.specs.declared.ends.Exit.{Exit};
 ghost use Rattle.modulecmd.specs.Command as spec;
@@ -51,7 +51,8 @@ fn shell_named(word: &str) -> Option<Shell>
 /// The request that the arguments make: the name of a shell, and then the words of the request.
 fn command_of(alloc: Global, args: &[String]) -> Result<Request, CommandFault>
     ensures made { IfOk result (λ r. spec.command_of (map string_bytes args.now) ≡ Ok (r.shell, asked r.action)) }
-    ensures refused { IfErr result (λ fault. HasReason fault (λ o. spec.command_of (map string_bytes args.now) ≡ Err o) (λ name. ⊥) ⊥) }
+    ensures refused { IfErr result (λ fault.
+        HasReason fault (λ o. spec.command_of (map string_bytes args.now) ≡ Err o) (λ name. ⊥) ⊥) }
 {
     let [word, words @ ..] = args else {
         return Err(CommandFault::Refused(Refusal::BadArguments));
@@ -78,9 +79,9 @@ fn answer_of<T: Tree>(
     env: &Env,
     tree: &mut T,
 ) -> Result<Answer, CommandFault>
-    ensures before { Shows (T.agrees tree.new) (λ files folders. T.agrees tree.old files folders) }
+    ensures before { Narrows (T.agrees tree.old) (T.agrees tree.new) }
     ensures later { T.failures tree.old ≤ T.failures tree.new }
-    ensures answered { IfOk result (λ a. Shows (T.agrees tree.new) (λ files folders.
+    ensures answered { IfOk result (λ a. Shows (T.agrees tree.new) (λ files listings.
         IsAnswer env.now (effect (map string_bytes args.now) env.now files) (words_of a) (string_bytes a.text))) }
     ensures refused { IfErr result (IsRefused (T.agrees tree.new) (T.failures tree.old < T.failures tree.new)
         env.now (effect (map string_bytes args.now) env.now)) }
@@ -141,11 +142,11 @@ fn finish<W: Write, E: Write>(answer: &Answer, out: &mut W, err: &mut E) -> Exit
 /// the shell reads it, each variable that the request's step changes, once, in the order of bytes, and nothing else: it
 /// makes of the environment what the step makes of it.
 ///
-/// A refused command writes nothing but the line that tells why, to standard error. It is refused as the arguments or the
-/// step are, or by 1, 31, 41 or 61 for want of memory, by 43 where the device failed in this call, or by 62 where the
-/// changes have no text in the shell. Where a write fails, 64, on standard error a beginning of the messages and the report
-/// is there, not all, and nothing has gone to standard output; or on standard output a beginning of the text is there, not
-/// all. Then the line that tells of it follows on standard error.
+/// A refused command writes nothing but the line that tells why, to standard error. It is refused as the arguments or
+/// the step are, or by 1, 31, 41 or 61 for want of memory, by 43 where the device failed in this call, or by 62 where
+/// the changes have no text in the shell. Where a write fails, 64, on standard error a beginning of the messages and
+/// the report is there, not all, and nothing has gone to standard output; or on standard output a beginning of the text
+/// is there, not all. Then the line that tells of it follows on standard error.
 pub fn run_command<T: Tree, W: Write, E: Write>(
     alloc: Global,
     args: &[String],
@@ -154,7 +155,7 @@ pub fn run_command<T: Tree, W: Write, E: Write>(
     out: &mut W,
     err: &mut E,
 ) -> Exit
-    ensures before { Shows (T.agrees tree.new) (λ files folders. T.agrees tree.old files folders) }
+    ensures before { Narrows (T.agrees tree.old) (T.agrees tree.new) }
     ensures later { T.failures tree.old ≤ T.failures tree.new }
     ensures ended { Ends result (T.agrees tree.new) (T.failures tree.old < T.failures tree.new)
         env (effect (map string_bytes args.now) env)
@@ -175,7 +176,7 @@ pub fn modulecmd<T: Tree, W: Write, E: Write>(
     out: &mut W,
     err: &mut E,
 ) -> u8
-    ensures before { Shows (T.agrees tree.new) (λ files folders. T.agrees tree.old files folders) }
+    ensures before { Narrows (T.agrees tree.old) (T.agrees tree.new) }
     ensures later { T.failures tree.old ≤ T.failures tree.new }
     ensures ended { (exit : Exit) × (result ≡ status_of exit)
         × Ends exit (T.agrees tree.new) (T.failures tree.old < T.failures tree.new)

@@ -1,6 +1,8 @@
 //! Changes of an environment as a text for a shell.
-ghost use Rattle.std.specs.Prelude.{◌≡◌, ◌++◌, map, IfOk, IfErr, OnOk, string_bytes};
+ghost use Rattle.std.specs.Prelude.{◌≡◌, ◌++◌, map, Some, IfOk, IfErr, OnOk, string_bytes};
 ghost use Rattle.envstate.specs.Changes.{edit_of};
+ghost use Rattle.message.specs.Messages.{text_of};
+ghost use Rattle.modulecmd.specs.Lines.{print_message};
 ghost use Rattle.modulecmd.specs.Shells.{IsText};
 ghost use Rattle.modulecmd.specs.Printing as printing;
 ghost use Rattle.modulecmd.specs.Printing.{printed_line, IsPrintFault, print_fault_number};
@@ -8,18 +10,19 @@ ghost use Rattle.modulecmd.specs.declared.print.PrintFault.TheVariants.{OutOfMem
 
 use crate::shells::{Family, are_sayable, family_of, push_set, push_unset};
 use envstate::{Change, is_variable_name};
+use message::Message;
 use modules::Shell;
 use std::alloc::{AllocError, Global};
-use thiserror::Error;
+use std::error::Error;
+use std::fmt;
+use std::fmt::Display;
 
 /// Why changes have no text.
-#[derive(Debug, Drop, Error)]
+#[derive(Debug, Drop)]
 pub enum PrintFault {
     /// Memory was refused.
-    #[error("Out of memory")]
     OutOfMemory,
     /// The value of this variable, or its name, can't be written for the shell.
-    #[error("Value of '{0}' can't be said in this shell")]
     NotSayable(String),
 }
 
@@ -33,7 +36,31 @@ impl PrintFault {
             PrintFault::NotSayable(_) => 62,
         }
     }
+
+    /// What the fault says.
+    pub fn message(&self) -> Message<'_>
+        ensures { text_of result ≡ print_message self.now }
+    {
+        match self {
+            PrintFault::OutOfMemory => Message::plain("Out of memory"),
+            PrintFault::NotSayable(name) => Message::around(
+                "Value of '",
+                name.as_str(),
+                "' can't be said in this shell",
+            ),
+        }
+    }
 }
+
+impl fmt::Display for PrintFault {
+    ghost output = { λ fault. Some (print_message fault) };
+
+    fn fmt<W: fmt::Write>(&self, f: &mut fmt::Formatter<W>) -> fmt::Result {
+        self.message().fmt(f)
+    }
+}
+
+impl Error for PrintFault {}
 
 impl From<AllocError> for PrintFault {
     ghost from_gives = { λ _ e. e ≡ OutOfMemory };

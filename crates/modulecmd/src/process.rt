@@ -1,22 +1,24 @@
 //! What the process was given: its arguments and its environment.
-ghost use Rattle.std.specs.Prelude.{◌≡◌, ◌≤◌, IfOk, IfSome, vec_len};
+ghost use Rattle.std.specs.Prelude.{◌≡◌, ◌≤◌, Some, IfOk, IfSome, vec_len};
+ghost use Rattle.message.specs.Messages.{text_of};
 ghost use Rattle.modulecmd.specs.Command.{number_of, of_arguments};
+ghost use Rattle.modulecmd.specs.Lines.{message_of};
 
+use message::Message;
 use std::alloc::AllocError;
 use std::env::FillError;
+use std::error::Error;
+use std::fmt::Display;
 use std::io::ErrorKind;
 use std::rt::{Env, Files};
-use std::{env, fs};
-use thiserror::Error;
+use std::{env, fmt, fs};
 
 /// Why the arguments can't be handed on.
-#[derive(Clone, Copy, Debug, PartialEq, Eq, Error)]
+#[derive(Clone, Copy, Debug, PartialEq, Eq)]
 pub enum ArgumentsFault {
     /// Memory was refused.
-    #[error("Out of memory")]
     OutOfMemory,
     /// An argument isn't UTF-8.
-    #[error("Bad arguments")]
     NotUtf8,
 }
 
@@ -30,7 +32,27 @@ impl ArgumentsFault {
             ArgumentsFault::NotUtf8 => 56,
         }
     }
+
+    /// What the fault says: as the refusal that it becomes.
+    pub fn message(&self) -> Message<'static>
+        ensures { text_of result ≡ message_of (of_arguments self.now) }
+    {
+        match self {
+            ArgumentsFault::OutOfMemory => Message::plain("Out of memory"),
+            ArgumentsFault::NotUtf8 => Message::plain("Bad arguments"),
+        }
+    }
 }
+
+impl fmt::Display for ArgumentsFault {
+    ghost output = { λ fault. Some (message_of (of_arguments fault)) };
+
+    fn fmt<W: fmt::Write>(&self, f: &mut fmt::Formatter<W>) -> fmt::Result {
+        self.message().fmt(f)
+    }
+}
+
+impl Error for ArgumentsFault {}
 
 const OWN_ENVIRONMENT: &str = "/proc/self/environ";
 

@@ -58,7 +58,8 @@ fn push_mark(out: &mut String, family: Family, mark: char) -> Result<(), AllocEr
 }
 
 fn push_char(out: &mut String, family: Family, c: char) -> Result<(), AllocError>
-    ensures { OnOk result (string_bytes out.new ≡ string_bytes out.old ++ flat_map (printing.spell family) (encode_utf8 c)) }
+    ensures { OnOk result (string_bytes out.new ≡ string_bytes out.old
+        ++ flat_map (printing.spell family) (encode_utf8 c)) }
 {
     if is_mark(family, c) {
         push_mark(out, family, c)
@@ -79,7 +80,8 @@ fn push_value(out: &mut String, family: Family, value: &str) -> Result<(), Alloc
 
 /// Writes the line that sets the name to the value.
 pub fn push_set(out: &mut String, family: Family, name: &str, value: &str) -> Result<(), AllocError>
-    ensures { OnOk result (string_bytes out.new ≡ string_bytes out.old ++ reading.set_line family name.now (printing.quoted family value.now)) }
+    ensures { OnOk result (string_bytes out.new ≡ string_bytes out.old
+        ++ reading.set_line family name.now (printing.quoted family value.now)) }
 {
     match family {
         Family::Posix => {

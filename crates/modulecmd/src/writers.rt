@@ -10,8 +10,8 @@ use std::io::Write;
 #[derive(Clone, Copy, Debug, PartialEq, Eq)]
 pub struct WriteFault;
 
-/// Writes the bytes until a write fails: one that answers 0, or any error, an interrupted one too. Then a beginning of the
-/// bytes is written, not all of them.
+/// Writes the bytes until a write fails: one that answers 0, or any error, an interrupted one too. Then a beginning of
+/// the bytes is written, not all of them.
 pub fn write_bytes<W: Write>(to: &mut W, bytes: &[u8]) -> Result<(), WriteFault>
     ensures whole { OnOk result (Appends (W.contents to.old) (W.contents to.new) bytes.now) }
     ensures cut { OnErr result (AppendsPart (W.contents to.old) (W.contents to.new) bytes.now) }
@@ -27,10 +27,13 @@ pub fn write_bytes<W: Write>(to: &mut W, bytes: &[u8]) -> Result<(), WriteFault>
     Ok(())
 }
 
-/// Writes the parts one after another, without memory, until a write fails. Then a beginning of them is written, not all.
+/// Writes the parts one after another, without memory, until a write fails. Then a beginning of them is written, not
+/// all.
 pub fn write_parts<W: Write>(to: &mut W, parts: &[&str]) -> Result<(), WriteFault>
-    ensures whole { OnOk result (Appends (W.contents to.old) (W.contents to.new) (flat_map (λ part. part.now) parts.now)) }
-    ensures cut { OnErr result (AppendsPart (W.contents to.old) (W.contents to.new) (flat_map (λ part. part.now) parts.now)) }
+    ensures whole { OnOk result (Appends (W.contents to.old) (W.contents to.new)
+        (flat_map (λ part. part.now) parts.now)) }
+    ensures cut { OnErr result (AppendsPart (W.contents to.old) (W.contents to.new)
+        (flat_map (λ part. part.now) parts.now)) }
 {
     for part in parts {
         write_bytes(to, part.as_bytes())?;

@@ -14,7 +14,7 @@ fn sample(alloc: Global) -> Result<MemoryTree, AllocError> {
     tree.put_file("/m/bytes/1", b"#%Module\n\xc3")?;
     tree.put_file("/m/junk/1", b"\xc3")?;
     tree.put_file("/m/empty/1", b"")?;
-    tree.put_folder("/m/foo", &["1.0"])?;
+    tree.put_directory("/m/foo", &["1.0"])?;
     Ok(tree)
 }
 
@@ -80,13 +80,13 @@ fn finds_by_the_exact_name(rt: HostRuntime) -> Result<(), Fail> {
 }
 
 #[test]
-fn keeps_files_and_folders_in_memory(rt: HostRuntime) -> Result<(), Fail> {
+fn keeps_files_and_directories_in_memory(rt: HostRuntime) -> Result<(), Fail> {
     let mut tree = sample(rt.alloc())?;
     let empty = tree.read("/m/empty/1")?.ok_or("no file")?;
     assert_eq!(rt; empty.len(), 0);
     assert!(rt; tree.read("/m/foo")?.is_none());
     assert!(rt; tree.entries("/m/foo/1.0")?.is_none());
-    let names = tree.entries("/m/foo")?.ok_or("no folder")?;
+    let names = tree.entries("/m/foo")?.ok_or("no directory")?;
     assert_eq!(rt; names.len(), 1);
     assert_eq!(rt; names[0].as_str(), "1.0");
     match read_modulefile(&mut tree, "/m/foo/1.0")? {

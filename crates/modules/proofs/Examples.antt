@@ -24,7 +24,7 @@ use Rattle.lookup.specs.Search.{found, not_found, modulefile}
 use Rattle.modules.specs.declared.evaluate.Mode.TheVariants.{Load, Unload}
 use Rattle.modules.specs.declared.running.Limits.{Limits}
 use Rattle.modules.specs.Then.{◌>>=◌, refused_as}
-use Rattle.modules.specs.Reasons.{Reason, bad_edit, missed, bad_arguments}
+use Rattle.modules.specs.Reasons.{Reason, bad_edit, bad_search, bad_arguments}
 use Rattle.modules.specs.Records.{Front, effect}
 use Rattle.modules.specs.Requests.{load, unload}
 use Rattle.modules.specs.Steps.{Loads, step, done, move_at, entries_in, modulepath, consistent}
@@ -161,11 +161,11 @@ load-foo e s =
     ∙ ap (λ x. refused_as bad_edit x >>= (λ t. Ok (record { env = t; loaded = foo ∷ []; messages = []; report = [] }))) (foo_added e s)))
 
 -- a module that isn't there
-pub load-nope : (e : Environment) → Start e → step standard files e (load (codes "nope" ∷ [])) ≡ Err (missed (not_found (codes "nope")))
+pub load-nope : (e : Environment) → Start e → step standard files e (load (codes "nope" ∷ [])) ≡ Err (bad_search (not_found (codes "nope")))
 unfolding files foo_path
 load-nope e s =
     step-load standard files e (codes "nope" ∷ []) (codes "nope") [] refl (none_listed e s)
-    ∙ ap (λ m. refused_as missed (found files (unwrap_or m []) (codes "nope")) >>= (λ p. move_at Loads Load standard files e (codes "nope") p) >>= done e) s.search_path
+    ∙ ap (λ m. refused_as bad_search (found files (unwrap_or m []) (codes "nope")) >>= (λ p. move_at Loads Load standard files e (codes "nope") p) >>= done e) s.search_path
 
 -- the variables that matter, once it is loaded
 pub record Loaded (e : Environment) : Type 0 where

@@ -13,7 +13,7 @@ use Rattle.modules.specs.declared.running.Limits.{Limits}
 use Rattle.modules.specs.Then.{◌>>=◌, refused_as}
 use Rattle.modules.specs.Reasons.{Reason, bad_edit, bad_text, value_too_long, too_deep, too_many_commands}
 use Rattle.modules.specs.Records.{Record, Set, Unset, Push, Front, Back, Remove, Conflict, Prereq, Whatis, effect, effects, conflict_names, prereq_groups}
-use Rattle.modules.specs.Commands.{Call, setenv, prepend_path, call_of, record_of, is_left_out, objection, unless}
+use Rattle.modules.specs.Commands.{Call, setenv, prepend_path, call_of, record_of, is_left_out, edit_reason, unless}
 use Rattle.modules.specs.Literals.{texts_of, commands_in}
 use Rattle.modules.specs.Evaluation.{answer, records_from, limited, records_of, evaluated}
 use Rattle.modules.specs.Running.{run_command, run_commands, run_limited}
@@ -56,9 +56,9 @@ plain_if true x reason r h e = absurd (cc)
 plain_if false x reason r h e = h e
 
 plain_record : (mode : Mode) (e : Environment) (call : Call) (r : Record) → record_of mode e call ≡ Ok r → IsPlain r
-plain_record mode e (setenv var value) r h = plain_unless (objection var value) (Set var value) r tt h
+plain_record mode e (setenv var value) r h = plain_unless (edit_reason var value) (Set var value) r tt h
 plain_record mode e (prepend_path var value) r h =
-    plain_if (is_left_out mode e var value) (unless (objection var value) (Front var (value ∷ []))) _ r (plain_unless (objection var value) (Front var (value ∷ [])) r tt) h
+    plain_if (is_left_out mode e var value) (unless (edit_reason var value) (Front var (value ∷ []))) _ r (plain_unless (edit_reason var value) (Front var (value ∷ [])) r tt) h
 
 plain_call : (mode : Mode) (e : Environment) (x : Result Call Reason) (r : Record) → (x >>= record_of mode e) ≡ Ok r → IsPlain r
 plain_call mode e (Err reason) r h = absurd (cc)

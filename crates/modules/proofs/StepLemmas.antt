@@ -15,19 +15,19 @@ use Rattle.modules.specs.declared.evaluate.Mode.{Mode}
 use Rattle.modules.specs.declared.evaluate.Mode.TheVariants.{Load, Unload}
 use Rattle.modules.specs.declared.running.Limits.{Limits}
 use Rattle.modules.specs.Then.{◌>>=◌, refused_as}
-use Rattle.modules.specs.Reasons.{Reason, bad_edit, bad_text, missed, too_deep}
+use Rattle.modules.specs.Reasons.{Reason, bad_edit, bad_text, bad_search, too_deep}
 use Rattle.modules.specs.Records.{Record, effects, prereq_groups}
 use Rattle.modules.specs.Requests.{load, unload, only}
 use Rattle.modules.specs.Evaluation.{limited, records_of, evaluated}
 use Rattle.modules.specs.Steps.{Module, Move, Loads, Unloads, done, entry_of, move_by, move_at, load_move, unload_move, unload_meant, script_at, modulepath, entries_in, step}
 use Rattle.modules.specs.Running.{run_limited, left_by, left_loaded, left_unloaded}
-use Rattle.modules.specs.Answers.{Stands, edit_cause}
+use Rattle.modules.specs.Answers.{IsOrigin, edit_origin}
 use Rattle.modules.proofs.RunLemmas.{Both, Makes, limited_together}
 
 -- the refusal of an edit is that of the step, where the edit's outcome decides it
-pub edit_stands : {A : Type 0} (refused : Option EnvReason) (x : Result A EnvReason) (P : Reason → Type 0) → IfSome refused (λ r. x ≡ Err r) → ((r : EnvReason) → x ≡ Err r → P (bad_edit r)) → Stands (edit_cause refused) P ⊥
-edit_stands None x P h step_of = tt
-edit_stands (Some r) x P h step_of = step_of r h
+pub edit_origin_of : {A : Type 0} (refused : Option EnvReason) (x : Result A EnvReason) (P : Reason → Type 0) → IfSome refused (λ r. x ≡ Err r) → ((r : EnvReason) → x ≡ Err r → P (bad_edit r)) → IsOrigin (edit_origin refused) P ⊥
+edit_origin_of None x P h step_of = tt
+edit_origin_of (Some r) x P h step_of = step_of r h
 
 -- a text's records, and what they make of the environment
 pub record Recorded (mode : Mode) (owner : Text) (limits : Limits) (e : Environment) (outcome : Result (List Record) Reason) (d : Environment) : Type 0 where
@@ -104,15 +104,15 @@ unloaded_left limits e d name path text h =
 pub load_left : (limits : Limits) (files : Files) (e : Environment) (xs : List Entry) (name path text : Text) → has name (names_of xs) ≡ false → found files (modulepath e) name ≡ Ok path → script_at path (modulefile (files path)) ≡ Ok text
     → left_loaded limits e xs name files ≡ left_by Loads Load limits e name path text
 load_left limits files e xs name path text apart at is =
-    ap (λ b. cond b (Ok None) (refused_as missed (found files (modulepath e) name) >>= (λ p. move_at Loads Load limits files e name p)) >>= done e) apart
-    ∙ (ap (λ x. refused_as missed x >>= (λ p. move_at Loads Load limits files e name p) >>= done e) at
+    ap (λ b. cond b (Ok None) (refused_as bad_search (found files (modulepath e) name) >>= (λ p. move_at Loads Load limits files e name p)) >>= done e) apart
+    ∙ (ap (λ x. refused_as bad_search x >>= (λ p. move_at Loads Load limits files e name p) >>= done e) at
     ∙ ap (λ x. x >>= move_by Loads Load limits e name path >>= done e) is)
 
 -- an unload of a loaded module
 pub unload_left : (limits : Limits) (files : Files) (e : Environment) (xs : List Entry) (name : Text) (x : Entry) (text : Text) → is_module_name name ≡ true → find (λ y. means name y.name) (reverse xs) ≡ Some x → script_at x.path (modulefile (files x.path)) ≡ Ok text
     → left_unloaded limits e xs name files ≡ left_by Unloads Unload limits e x.name x.path text
 unload_left limits files e xs name x text spelled last is =
-    ap (λ b. cond (not b) (Err (missed (bad_name name))) (unload_meant limits files e (find (λ y. means name y.name) (reverse xs))) >>= done e) spelled
+    ap (λ b. cond (not b) (Err (bad_search (bad_name name))) (unload_meant limits files e (find (λ y. means name y.name) (reverse xs))) >>= done e) spelled
     ∙ (ap (λ o. unload_meant limits files e o >>= done e) last
     ∙ ap (λ z. z >>= move_by Unloads Unload limits e x.name x.path >>= done e) is)
 

@@ -39,8 +39,8 @@ call_of (name ∷ words) =
     else Err (left_out name)
 
 -- what forbids a modulefile to give the variable this value
-abbrev pub objection : Text → Text → Option Reason
-objection var value =
+abbrev pub edit_reason : Text → Text → Option Reason
+edit_reason var value =
     if not (is_variable_name var) then Some (bad_edit (bad_variable var))
     else if is_protected var then Some (bad_edit (protected var))
     else if not (is_plain_value value) then Some (bad_edit (bad_value var))
@@ -68,6 +68,6 @@ is_left_out mode e var value =
 
 -- what the command records, in an environment
 abbrev pub record_of : Mode → Environment → Call → Result Record Reason
-record_of mode e (setenv var value) = unless (objection var value) (Set var value)
+record_of mode e (setenv var value) = unless (edit_reason var value) (Set var value)
 record_of mode e (prepend_path var value) =
-    if is_left_out mode e var value then Err bad_arguments else unless (objection var value) (Front var (value ∷ []))
+    if is_left_out mode e var value then Err bad_arguments else unless (edit_reason var value) (Front var (value ∷ []))

@@ -37,7 +37,8 @@ within most source (Some t) = if nat_le (length t) most then Ok t else Err value
 -- the texts of a command's words, of which the first that is none refuses
 abbrev pub texts_of : ℕ → Text → Words → Result (List Text) Reason
 texts_of most source no_words = Ok []
-texts_of most source (word w ws) = within most source (word_text w) >>= (λ t. texts_of most source ws >>= (λ ts. Ok (t ∷ ts)))
+texts_of most source (word w ws) =
+    within most source (word_text w) >>= (λ t. texts_of most source ws >>= (λ ts. Ok (t ∷ ts)))
 
 -- a script's commands
 abbrev pub commands_in : Commands → List Command

@@ -1,7 +1,7 @@
 -- Why a request is refused, apart from want of memory and a failed device.
 use Rattle.envstate.specs.Texts.{Text}
 use Rattle.envstate.specs.Reasons.{EnvReason}
-use Rattle.lookup.specs.Search.{Missed}
+use Rattle.lookup.specs.Search.{FindReason}
 use Rattle.tclchars.specs.declared.fault.TextFault.{TextFault}
 
 pub data Reason : Type 0 where
@@ -15,7 +15,7 @@ pub data Reason : Type 0 where
   -- an edit of the environment is refused
   bad_edit : EnvReason → Reason
   -- no modulefile is found
-  missed : Missed → Reason
+  bad_search : FindReason → Reason
   -- no file is at a loaded module's path
   file_gone : Text → Reason
   -- the file at a loaded module's path is no modulefile

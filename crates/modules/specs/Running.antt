@@ -13,15 +13,15 @@ use Rattle.modules.specs.Records.{effect}
 use Rattle.modules.specs.Commands.{Call, setenv, prepend_path, record_of}
 use Rattle.tclscript.specs.Tree.{Command}
 use Rattle.modules.specs.Evaluation.{answer}
-use Rattle.modules.specs.Answers.{cause_of, Stands}
+use Rattle.modules.specs.Answers.{origin_of, IsOrigin}
 use Rattle.modules.specs.Steps.{Module, Move, Done, done, move_by, load_move, unload_move}
 use Rattle.envstate.specs.Loaded.{Entry}
 use Rattle.lookup.specs.Agreement.{Files}
 
--- Nothing is objected to, or a call refuses by the objection, or for want of memory.
-abbrev pub Objects : Result (Unit {0}) Refusal → Option Reason → Type 0
-Objects (Ok u) objection = objection ≡ None
-Objects (Err e) objection = Stands (cause_of e) (λ r. objection ≡ Some r) ⊥
+-- A judgment ends well where there is no reason against it, and else for that reason, or out of memory.
+abbrev pub Judges : Result (Unit {0}) Refusal → Option Reason → Type 0
+Judges (Ok u) against = against ≡ None
+Judges (Err e) against = IsOrigin (origin_of e) (λ r. against ≡ Some r) ⊥
 
 -- the command that a value of the program stands for
 abbrev pub call_view : rust.Call → Call

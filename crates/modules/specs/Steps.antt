@@ -10,7 +10,7 @@ use Rattle.lookup.specs.Search.{Held, absent, no_cookie, not_utf8, script, modul
 use Rattle.lookup.specs.Search as search
 use Rattle.modules.specs.declared.running.Limits.{Limits}
 use Rattle.modules.specs.Then.{◌>>=◌, refused_as}
-use Rattle.modules.specs.Reasons.{Reason, bad_arguments, bad_edit, missed, file_gone, not_a_modulefile}
+use Rattle.modules.specs.Reasons.{Reason, bad_arguments, bad_edit, bad_search, file_gone, not_a_modulefile}
 use Rattle.modules.specs.declared.evaluate.Mode.{Mode}
 use Rattle.modules.specs.declared.evaluate.Mode.TheVariants.{Load, Unload}
 use Rattle.modules.specs.Records.{Record, effects, conflict_names, prereq_groups}
@@ -57,7 +57,7 @@ modulepath e = unwrap_or (lookup e (codes "MODULEPATH")) []
 abbrev pub script_at : Text → Held → Result Text Reason
 script_at path absent = Err (file_gone path)
 script_at path no_cookie = Err (not_a_modulefile path)
-script_at path not_utf8 = Err (missed (search.not_utf8_at path))
+script_at path not_utf8 = Err (bad_search (search.not_utf8_at path))
 script_at path (script text) = Ok text
 
 -- the move of a module, by the records of its text
@@ -74,7 +74,7 @@ move_at make mode limits files e name path =
 abbrev pub load_move : Limits → Files → Environment → List Entry → Text → Result (Option Move) Reason
 load_move limits files e xs name =
     if has name (names_of xs) then Ok None
-    else refused_as missed (found files (modulepath e) name) >>= (λ path.
+    else refused_as bad_search (found files (modulepath e) name) >>= (λ path.
     move_at Loads Load limits files e name path)
 
 -- the last loaded module that the name means, by its path in the loaded list
@@ -84,7 +84,7 @@ unload_meant limits files e (Some x) = move_at Unloads Unload limits files e x.n
 
 abbrev pub unload_move : Limits → Files → Environment → List Entry → Text → Result (Option Move) Reason
 unload_move limits files e xs name =
-    if not (is_module_name name) then Err (missed (bad_name name))
+    if not (is_module_name name) then Err (bad_search (bad_name name))
     else unload_meant limits files e (find (λ x. means name x.name) (reverse xs))
 
 -- a list that can be read
@@ -95,7 +95,8 @@ consistent (Some xs) = Ok xs
 -- the loaded modules, as long as no conflicts and prereqs are kept in the environment
 abbrev pub entries_in : Environment → Result (List Entry) Reason
 entries_in e =
-    if is_some (lookup e (codes "__MODULES_LMCONFLICT")) || is_some (lookup e (codes "__MODULES_LMPREREQ")) then Err bad_arguments
+    if is_some (lookup e (codes "__MODULES_LMCONFLICT")) || is_some (lookup e (codes "__MODULES_LMPREREQ"))
+    then Err bad_arguments
     else consistent (loaded_in e)
 
 -- what an accepted request leaves

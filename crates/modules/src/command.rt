@@ -4,9 +4,9 @@ ghost use Rattle.std.specs.List.{list_any};
 ghost use Rattle.envstate.specs.Texts.{Text};
 ghost use Rattle.envstate.specs.Environment.{lookup};
 ghost use Rattle.envstate.specs.Names.{share_name};
-ghost use Rattle.modules.specs.Commands.{is_one_element, is_left_out, objection, setenv, prepend_path};
+ghost use Rattle.modules.specs.Commands.{edit_reason, is_one_element, is_left_out, setenv, prepend_path};
 ghost use Rattle.modules.specs.Answers.{Leaves};
-ghost use Rattle.modules.specs.Running.{Objects, call_view, run_call, uncounted};
+ghost use Rattle.modules.specs.Running.{Judges, call_view, run_call, uncounted};
 
 use crate::call::Call;
 use crate::evaluate::Mode;
@@ -19,7 +19,7 @@ use std::alloc::{AllocError, Global};
 
 /// Refuses a variable that no modulefile may change, and a value that no variable can hold.
 fn permit(alloc: Global, var: &str, value: &str) -> Result<(), Refusal>
-    ensures { Objects result (objection var.now value.now) }
+    ensures { Judges result (edit_reason var.now value.now) }
 {
     if !is_variable_name(var) {
         let name = String::from_str(alloc, var)?;

@@ -1,7 +1,7 @@
 //! Makes a request of the words of a command line.
 ghost use Rattle.std.specs.Prelude.{◌≡◌, map, IfOk, IfErr, Ok, Err, string_bytes};
 ghost use Rattle.modules.specs.Requests.{asked, request_of};
-ghost use Rattle.modules.specs.Answers.{Gives, cause_of, Stands};
+ghost use Rattle.modules.specs.Answers.{Gives, origin_of, IsOrigin};
 ghost use Rattle.modules.specs.Subcommands.{subcommand_of};
 
 use crate::refusal::Refusal;
@@ -30,8 +30,10 @@ fn subcommand_of(alloc: Global, word: &str) -> Result<Subcommand, Refusal>
 ///
 /// 57 where there is no such subcommand; 56 without a subcommand, or with no name or several.
 pub fn request(alloc: Global, shell: Shell, words: &[String]) -> Result<Request, Refusal>
-    ensures made { IfOk result (λ r. (request_of (map string_bytes words.now) ≡ Ok (asked r.action)) × (r.shell ≡ shell)) }
-    ensures refused { IfErr result (λ e. Stands (cause_of e) (λ r. request_of (map string_bytes words.now) ≡ Err r) ⊥) }
+    ensures made { IfOk result (λ r. (request_of (map string_bytes words.now) ≡ Ok (asked r.action))
+        × (r.shell ≡ shell)) }
+    ensures refused { IfErr result (λ e.
+        IsOrigin (origin_of e) (λ r. request_of (map string_bytes words.now) ≡ Err r) ⊥) }
 {
     let [word, names @ ..] = words else {
         return Err(Refusal::BadArguments);

@@ -25,7 +25,8 @@ pub enum Mode {
 
 /// Adds the text of a part that stands for itself; tells whether it does.
 fn push_part(text: &mut String, part: &Part<&str>) -> Result<bool, AllocError>
-    ensures { IfOk result (λ stands. option_map (λ more. string_bytes text.old ++ more) (part_text (part_view (λ piece. piece.now) part.now))
+    ensures { IfOk result (λ stands. option_map (λ more. string_bytes text.old ++ more)
+        (part_text (part_view (λ piece. piece.now) part.now))
         ≡ if stands then Some (string_bytes text.new) else None) }
 {
     match part {
@@ -60,7 +61,8 @@ fn word_within(
     source: &str,
     word: &Word<&str>,
 ) -> Result<String, Refusal>
-    ensures { Gives (λ text. string_bytes text) result (within most source.now (word_text (word_view (λ piece. piece.now) word.now))) }
+    ensures { Gives (λ text. string_bytes text) result
+        (within most source.now (word_text (word_view (λ piece. piece.now) word.now))) }
 {
     let Some(text) = word_text(alloc, word)? else {
         return Err(Refusal::LeftOut(String::from_str(alloc, source)?));
@@ -77,7 +79,9 @@ fn command_words(
     command: &Command<&str>,
     most: usize,
 ) -> Result<Vec<String>, Refusal>
-    ensures { Gives (λ words. map string_bytes words.items) result (texts_of most (command_view (λ piece. piece.now) command.now).source (command_view (λ piece. piece.now) command.now).words) }
+    ensures { Gives (λ words. map string_bytes words.items) result
+        (texts_of most (command_view (λ piece. piece.now) command.now).source
+        (command_view (λ piece. piece.now) command.now).words) }
 {
     let mut words = Vec::new(alloc);
     for word in &command.words {
@@ -97,7 +101,9 @@ pub(crate) struct Evaluation {
 impl Evaluation {
     /// Runs one command: 16 where a word is too long, then what the command refuses.
     fn run_command(self, command: &Command<&str>, env: &mut Env) -> Result<(), Refusal>
-        ensures { (owner : Text) → Leaves result env.new (run_command self.mode owner self.limits.value_bytes env.old (command_view (λ piece. piece.now) command.now)) }
+        ensures { (owner : Text) → Leaves result env.new
+            (run_command self.mode owner self.limits.value_bytes env.old
+            (command_view (λ piece. piece.now) command.now)) }
     {
         let words = command_words(self.alloc, command, self.limits.value_bytes)?;
         let call = call_of(self.alloc, words.as_slice())?;
@@ -105,7 +111,9 @@ impl Evaluation {
     }
 
     fn run_commands(self, commands: &[Command<&str>], env: &mut Env) -> Result<(), Refusal>
-        ensures { (owner : Text) → Leaves result env.new (run_commands self.mode owner self.limits.value_bytes env.old (map (command_view (λ piece. piece.now)) commands.now)) }
+        ensures { (owner : Text) → Leaves result env.new
+            (run_commands self.mode owner self.limits.value_bytes env.old
+            (map (command_view (λ piece. piece.now)) commands.now)) }
     {
         for command in commands {
             self.run_command(command, env)?;
@@ -115,7 +123,8 @@ impl Evaluation {
 
     /// Runs as many commands as the limit allows: 14 where there is one more.
     fn run_limited(self, commands: &[Command<&str>], env: &mut Env) -> Result<(), Refusal>
-        ensures { (owner : Text) → Leaves result env.new (run_limited self.mode owner self.limits env.old (map (command_view (λ piece. piece.now)) commands.now)) }
+        ensures { (owner : Text) → Leaves result env.new
+            (run_limited self.mode owner self.limits env.old (map (command_view (λ piece. piece.now)) commands.now)) }
     {
         let most = self.limits.commands as usize;
         if commands.len() <= most {

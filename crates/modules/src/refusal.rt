@@ -1,52 +1,44 @@
 //! Why a request is refused.
-ghost use Rattle.std.specs.Prelude.{◌≡◌};
+ghost use Rattle.std.specs.Prelude.{◌≡◌, Some};
+ghost use Rattle.message.specs.Messages.{text_of};
 ghost use Rattle.modules.specs.declared.refusal.Refusal.TheVariants as refusals;
-ghost use Rattle.modules.specs.Answers.{number_of, refused_read};
+ghost use Rattle.modules.specs.Answers.{number_of, refusal_message, refused_read};
 
 use envstate::EnvFault;
 use lookup::{FindFault, TreeFault};
+use message::Message;
 use std::alloc::{AllocError, AllocFailed};
+use std::error::Error;
+use std::fmt;
+use std::fmt::Display;
 use tclchars::TextFault;
-use thiserror::Error;
 
 /// Why a request is refused. Its `Display` is what follows `ERROR: `.
-#[derive(Debug, Drop, Error)]
+#[derive(Debug, Drop)]
 pub enum Refusal {
     /// 31: a growth of memory was refused.
-    #[error("Out of memory")]
     OutOfMemory,
     /// 1 to 9: a modulefile's text has no tree.
-    #[error(transparent)]
     Text(TextFault),
     /// 14: a modulefile runs more commands than the limit.
-    #[error("Too many commands")]
     TooManyCommands,
     /// 15: more evaluations stand in one another than the limit.
-    #[error("Too many nested evaluations")]
     TooDeep,
     /// 16: a word is longer than the limit.
-    #[error("A value is too long")]
     ValueTooLong,
     /// 19: a command of this name is left out.
-    #[error("'{0}' is left out")]
     LeftOut(String),
     /// 31 to 37: an edit of the environment is refused.
-    #[error(transparent)]
     Env(EnvFault),
     /// 41 to 46: no modulefile is found, or it can't be read.
-    #[error(transparent)]
     Find(FindFault),
     /// 54: no file is at the path of a loaded module.
-    #[error("No file at '{0}'")]
     FileGone(String),
     /// 55: the file at the path of a loaded module is no modulefile.
-    #[error("Not a modulefile: '{0}'")]
     NotAModulefile(String),
     /// 56: the words of a request or of a command don't fit.
-    #[error("Bad arguments")]
     BadArguments,
     /// 57: no subcommand has this name.
-    #[error("Unknown subcommand '{0}'")]
     UnknownSubcommand(String),
 }
 
@@ -70,7 +62,39 @@ impl Refusal {
             Refusal::UnknownSubcommand(_) => 57,
         }
     }
+
+    /// What the refusal says.
+    pub fn message(&self) -> Message<'_>
+        ensures { text_of result ≡ refusal_message self.now }
+    {
+        match self {
+            Refusal::OutOfMemory => Message::plain("Out of memory"),
+            Refusal::Text(fault) => fault.message(),
+            Refusal::TooManyCommands => Message::plain("Too many commands"),
+            Refusal::TooDeep => Message::plain("Too many nested evaluations"),
+            Refusal::ValueTooLong => Message::plain("A value is too long"),
+            Refusal::LeftOut(name) => Message::around("'", name.as_str(), "' is left out"),
+            Refusal::Env(fault) => fault.message(),
+            Refusal::Find(fault) => fault.message(),
+            Refusal::FileGone(path) => Message::quoting("No file at '", path.as_str()),
+            Refusal::NotAModulefile(path) => Message::quoting("Not a modulefile: '", path.as_str()),
+            Refusal::BadArguments => Message::plain("Bad arguments"),
+            Refusal::UnknownSubcommand(word) => {
+                Message::quoting("Unknown subcommand '", word.as_str())
+            }
+        }
+    }
 }
+
+impl fmt::Display for Refusal {
+    ghost output = { λ refusal. Some (refusal_message refusal) };
+
+    fn fmt<W: fmt::Write>(&self, f: &mut fmt::Formatter<W>) -> fmt::Result {
+        self.message().fmt(f)
+    }
+}
+
+impl Error for Refusal {}
 
 impl From<AllocError> for Refusal {
     ghost from_gives = { λ _ e. e ≡ refusals.OutOfMemory };

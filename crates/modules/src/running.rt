@@ -5,7 +5,7 @@ ghost use Rattle.modulename.specs.ModuleName.{means};
 ghost use Rattle.envstate.specs.Texts.{has};
 ghost use Rattle.envstate.specs.Loaded as list;
 ghost use Rattle.envstate.specs.LoadedEntries.{entry_of};
-ghost use Rattle.lookup.specs.Agreement.{Files, Folders, Shows};
+ghost use Rattle.lookup.specs.Agreement.{Narrows};
 ghost use Rattle.lookup.specs.Search.{modulefile};
 ghost use Rattle.modules.specs.declared.evaluate.Mode.TheVariants as modes;
 ghost use Rattle.modules.specs.Running.{left_by, left_loaded, left_unloaded};
@@ -84,7 +84,8 @@ fn is_loaded(entries: &[Loaded], name: &str) -> bool
 
 /// The last loaded module that the name means.
 fn last_meant<'a>(entries: &'a [Loaded], name: &str) -> Option<&'a Loaded>
-    ensures { option_map (λ x. entry_of x.now) result ≡ find (λ x. means name.now x.name) (reverse (map entry_of entries.entry.now)) }
+    ensures { option_map (λ x. entry_of x.now) result
+        ≡ find (λ x. means name.now x.name) (reverse (map entry_of entries.entry.now)) }
 {
     entries
         .iter()
@@ -106,9 +107,10 @@ fn unchanged(alloc: Global, env: &Env) -> Result<Reply, Refusal>
 
 /// The script in the file of a module: 54 where no file is there, 55 where it has no cookie, 46 where it isn't UTF-8.
 fn script_at<T: Tree>(alloc: Global, tree: &mut T, path: &str) -> Result<String, Refusal>
-    ensures before { Shows (T.agrees tree.new) (λ files folders. T.agrees tree.old files folders) }
+    ensures before { Narrows (T.agrees tree.old) (T.agrees tree.new) }
     ensures later { T.failures tree.old ≤ T.failures tree.new }
-    ensures answer { Tells (T.agrees tree.new) (T.failures tree.old < T.failures tree.new) (λ text. string_bytes text) result
+    ensures answer { Tells (T.agrees tree.new) (T.failures tree.old < T.failures tree.new)
+        (λ text. string_bytes text) result
         (λ files. script_at path.now (modulefile (files path.now))) }
 {
     match read_modulefile(tree, path)? {
@@ -129,7 +131,8 @@ fn load_text(
     env: &Env,
     limits: Limits,
 ) -> Result<Reply, Refusal>
-    ensures { Gives done_of result (left_by Loads modes.Load limits env.now (string_bytes found.name) (string_bytes found.path) text.now) }
+    ensures { Gives done_of result (left_by Loads modes.Load limits env.now (string_bytes found.name)
+        (string_bytes found.path) text.now) }
 {
     let mut after = env.copy()?;
     let evaluation = Evaluation {
@@ -162,7 +165,8 @@ fn unload_text(
     env: &Env,
     limits: Limits,
 ) -> Result<Reply, Refusal>
-    ensures { Gives done_of result (left_by Unloads modes.Unload limits env.now (string_bytes entry.now.name) (string_bytes entry.now.path) text.now) }
+    ensures { Gives done_of result (left_by Unloads modes.Unload limits env.now (string_bytes entry.now.name)
+        (string_bytes entry.now.path) text.now) }
 {
     let mut after = env.copy()?;
     let evaluation = Evaluation {
@@ -189,7 +193,7 @@ fn load<T: Tree>(
     tree: &mut T,
     limits: Limits,
 ) -> Result<Reply, Refusal>
-    ensures before { Shows (T.agrees tree.new) (λ files folders. T.agrees tree.old files folders) }
+    ensures before { Narrows (T.agrees tree.old) (T.agrees tree.new) }
     ensures later { T.failures tree.old ≤ T.failures tree.new }
     ensures answer { Tells (T.agrees tree.new) (T.failures tree.old < T.failures tree.new) done_of result
         (left_loaded limits env.now (map entry_of entries.now) name.now) }
@@ -211,7 +215,7 @@ fn unload<T: Tree>(
     tree: &mut T,
     limits: Limits,
 ) -> Result<Reply, Refusal>
-    ensures before { Shows (T.agrees tree.new) (λ files folders. T.agrees tree.old files folders) }
+    ensures before { Narrows (T.agrees tree.old) (T.agrees tree.new) }
     ensures later { T.failures tree.old ≤ T.failures tree.new }
     ensures answer { Tells (T.agrees tree.new) (T.failures tree.old < T.failures tree.new) done_of result
         (left_unloaded limits env.now (map entry_of entries.now) name.now) }
@@ -228,8 +232,8 @@ fn unload<T: Tree>(
 
 /// Runs a request over an environment, which stays as it is, and a tree of modulefiles.
 ///
-/// It is refused as the request's step over the tree is, or for want of memory (1, 31 or 41), or by 43 where the device failed
-/// in this call.
+/// It is refused as the request's step over the tree is, or for want of memory (1, 31 or 41), or by 43 where the device
+/// failed in this call.
 pub fn run<T: Tree>(
     alloc: Global,
     request: &Request,
@@ -237,7 +241,7 @@ pub fn run<T: Tree>(
     tree: &mut T,
     limits: Limits,
 ) -> Result<Reply, Refusal>
-    ensures before { Shows (T.agrees tree.new) (λ files folders. T.agrees tree.old files folders) }
+    ensures before { Narrows (T.agrees tree.old) (T.agrees tree.new) }
     ensures later { T.failures tree.old ≤ T.failures tree.new }
     ensures answer { Tells (T.agrees tree.new) (T.failures tree.old < T.failures tree.new) done_of result
         (λ files. step limits files env.now (asked request.now.action)) }

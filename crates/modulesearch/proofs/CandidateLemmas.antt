@@ -5,7 +5,7 @@ use Rattle.std.specs.List.{list_any}
 use Rattle.std.proofs.lemmas.Bool.{or_cases, or_left, or_right, and_parts, and_from}
 use Rattle.std.proofs.lemmas.Slice.Eq.{bytes_eq-Decides}
 use Rattle.modulename.specs.ModuleName.{Text, is_module_name}
-use Rattle.lookup.specs.Agreement.{Files, Folders}
+use Rattle.lookup.specs.Agreement.{Files, Listings}
 use Rattle.lookup.specs.Search.{modulefile, is_module, path_of}
 use Rattle.modulesearch.specs.Fitting.{is_single, is_fitting}
 use Rattle.modulesearch.specs.Found.{IsCandidate, AreCandidates}
@@ -38,30 +38,30 @@ filter_has p v (x ∷ xs) h k = found_step (p x) p v x (filter p xs) xs refl h k
 same_entries : (entries others : List Text) (o : Option (List Text)) → o ≡ Some entries → o ≡ Some others → others ≡ entries
 same_entries entries others o e f = cc
 
-pub candidates_are : (files : Files) (folders : Folders) (dir name path : Text) (entries vs : List Text) → path ≡ path_of dir name → folders path ≡ Some entries
-    → vs ≡ filter (is_fitting files dir name) entries → AreCandidates files folders dir name vs
-candidates_are files folders dir name path entries vs at listed made v = (there, back)
+pub candidates_are : (files : Files) (listings : Listings) (dir name path : Text) (entries vs : List Text) → path ≡ path_of dir name → listings path ≡ Some entries
+    → vs ≡ filter (is_fitting files dir name) entries → AreCandidates files listings dir name vs
+candidates_are files listings dir name path entries vs at listed made v = (there, back)
   where
-    here : folders (path_of dir name) ≡ Some entries
-    here = ap folders (sym at) ∙ listed
+    here : listings (path_of dir name) ≡ Some entries
+    here = ap listings (sym at) ∙ listed
 
-    there : has v vs ≡ true → IsCandidate files folders dir name v
+    there : has v vs ≡ true → IsCandidate files listings dir name v
     there h =
         let k = in_filter (is_fitting files dir name) v entries (ap (has v) (sym made) ∙ h) in
         let p = and_parts (is_single v) (is_module_name (path_of name v) && is_module (modulefile (files (path_of dir (path_of name v))))) k.1 in
         let q = and_parts (is_module_name (path_of name v)) (is_module (modulefile (files (path_of dir (path_of name v))))) p.1 in
         record { entry = (entries, here, k.0); single = p.0; spelled = q.0; file = q.1 }
 
-    back : IsCandidate files folders dir name v → has v vs ≡ true
+    back : IsCandidate files listings dir name v → has v vs ≡ true
     back c =
-        let in_entries : has v entries ≡ true = ap (has v) (sym (same_entries entries c.entry.0 (folders (path_of dir name)) here c.entry.1)) ∙ c.entry.2 in
+        let in_entries : has v entries ≡ true = ap (has v) (sym (same_entries entries c.entry.0 (listings (path_of dir name)) here c.entry.1)) ∙ c.entry.2 in
         let inner = and_from (is_module_name (path_of name v)) (is_module (modulefile (files (path_of dir (path_of name v))))) c.spelled c.file in
         let all = and_from (is_single v) (is_module_name (path_of name v) && is_module (modulefile (files (path_of dir (path_of name v))))) c.single inner in
         ap (has v) made ∙ filter_has (is_fitting files dir name) v entries in_entries all
 
-pub none_there : (files : Files) (folders : Folders) (dir name path : Text) → path ≡ path_of dir name → folders path ≡ None → AreCandidates files folders dir name []
-none_there files folders dir name path at none v =
-    (λ h. absurd (cc), λ c. absurd (let e : None ≡ Some c.entry.0 = sym none ∙ ap folders at ∙ c.entry.1 in cc))
+pub none_there : (files : Files) (listings : Listings) (dir name path : Text) → path ≡ path_of dir name → listings path ≡ None → AreCandidates files listings dir name []
+none_there files listings dir name path at none v =
+    (λ h. absurd (cc), λ c. absurd (let e : None ≡ Some c.entry.0 = sym none ∙ ap listings at ∙ c.entry.1 in cc))
 
 pub if_ok : {T E : Type 0} {P Q : T → Type 0} (r : Result T E) → IfOk r P → ((x : T) → P x → Q x) → IfOk r Q
 if_ok (Ok x) h f = f x h

@@ -1,7 +1,7 @@
 -- A name means one module at most, since an evaluation leaves one thing and a set has one greatest member.
 use Rattle.std.proofs.Common.{◌≡◌, List, [], ◌∷◌, Option, Some, None, Ok, Err, ap, sym, ◌∙◌}
 use Rattle.modulename.specs.ModuleName.{Text, is_module_name}
-use Rattle.lookup.specs.Agreement.{Files, Folders}
+use Rattle.lookup.specs.Agreement.{Files, Listings}
 use Rattle.lookup.specs.Search.{Held, absent, no_cookie, not_utf8, script, modulefile, path_of, directories}
 use Rattle.relations.specs.Relations.{IsOne}
 use Rattle.relations.proofs.One.{one_is, one_then, one_if, one_where}
@@ -22,34 +22,34 @@ one_names : (leaves : Text → Text → Option Left → Type 0) → ((path text 
 one_names leaves law files says path = one_names_in leaves law says path (modulefile (files path))
 
 one_named : (leaves : Text → Text → Option Left → Type 0) → ((path text : Text) (o p : Option Left) → leaves path text o → leaves path text p → o ≡ p)
-    → (files : Files) (folders : Folders) (dir name : Text) → IsOne (NamedDefault leaves files folders dir name)
-one_named leaves law files folders dir name =
+    → (files : Files) (listings : Listings) (dir name : Text) → IsOne (NamedDefault leaves files listings dir name)
+one_named leaves law files listings dir name =
     one_then (one_names leaves law files _ _) (λ first.
     one_where (one_is (Ok first)) (
     one_then (one_names leaves law files _ _) (λ second.
     one_where (one_is (Ok second)) (one_is (Ok None)))))
 
-one_largest : (files : Files) (folders : Folders) (dir name : Text) → IsOne (Greatest files folders dir name)
-one_largest files folders dir name o p (v, g, e) (w, h, k) =
-    e ∙ (ap Ok (one_greatest (IsCandidate files folders dir name) v w g h) ∙ sym k)
+one_largest : (files : Files) (listings : Listings) (dir name : Text) → IsOne (Greatest files listings dir name)
+one_largest files listings dir name o p (v, g, e) (w, h, k) =
+    e ∙ (ap Ok (one_greatest (IsCandidate files listings dir name) v w g h) ∙ sym k)
 
-one_or_largest : (files : Files) (folders : Folders) (dir name : Text) (named : Option Text) → IsOne (NamedOrGreatest files folders dir name named)
-one_or_largest files folders dir name (Some v) = one_is (Ok v)
-one_or_largest files folders dir name None = one_largest files folders dir name
+one_or_largest : (files : Files) (listings : Listings) (dir name : Text) (named : Option Text) → IsOne (NamedOrGreatest files listings dir name named)
+one_or_largest files listings dir name (Some v) = one_is (Ok v)
+one_or_largest files listings dir name None = one_largest files listings dir name
 
 one_default : (leaves : Text → Text → Option Left → Type 0) → ((path text : Text) (o p : Option Left) → leaves path text o → leaves path text p → o ≡ p)
-    → (files : Files) (folders : Folders) (dir name : Text) → IsOne (Default leaves files folders dir name)
-one_default leaves law files folders dir name = one_then (one_named leaves law files folders dir name) (one_or_largest files folders dir name)
+    → (files : Files) (listings : Listings) (dir name : Text) → IsOne (Default leaves files listings dir name)
+one_default leaves law files listings dir name = one_then (one_named leaves law files listings dir name) (one_or_largest files listings dir name)
 
 one_along : (leaves : Text → Text → Option Left → Type 0) → ((path text : Text) (o p : Option Left) → leaves path text o → leaves path text p → o ≡ p)
-    → (files : Files) (folders : Folders) (name : Text) (dirs : List Text) → IsOne (FoundAlong leaves files folders name dirs)
-one_along leaves law files folders name [] = one_is (Err (not_found name))
-one_along leaves law files folders name (dir ∷ dirs) =
+    → (files : Files) (listings : Listings) (name : Text) (dirs : List Text) → IsOne (FoundAlong leaves files listings name dirs)
+one_along leaves law files listings name [] = one_is (Err (not_found name))
+one_along leaves law files listings name (dir ∷ dirs) =
     one_where (one_is (read name (path_of dir name) (modulefile (files (path_of dir name))))) (
-    one_where (one_then (one_default leaves law files folders dir name) (λ v. one_is (read (path_of name v) (path_of dir (path_of name v)) (modulefile (files (path_of dir (path_of name v))))))) (
-    one_along leaves law files folders name dirs))
+    one_where (one_then (one_default leaves law files listings dir name) (λ v. one_is (read (path_of name v) (path_of dir (path_of name v)) (modulefile (files (path_of dir (path_of name v))))))) (
+    one_along leaves law files listings name dirs))
 
 pub one_module : (leaves : Text → Text → Option Left → Type 0) → ((path text : Text) (o p : Option Left) → leaves path text o → leaves path text p → o ≡ p)
-    → (files : Files) (folders : Folders) (modulepath name : Text) → IsOne (Found leaves files folders modulepath name)
-one_module leaves law files folders modulepath name =
-    one_if (is_module_name name) (one_along leaves law files folders name (directories modulepath)) (one_is (Err (bad_name name)))
+    → (files : Files) (listings : Listings) (modulepath name : Text) → IsOne (Found leaves files listings modulepath name)
+one_module leaves law files listings modulepath name =
+    one_if (is_module_name name) (one_along leaves law files listings name (directories modulepath)) (one_is (Err (bad_name name)))

@@ -7,7 +7,7 @@ use Rattle.std.proofs.lemmas.Bool.{or_cases, or_left, or_right, and_parts, and_f
 use Rattle.std.proofs.lemmas.Cmp.{tied_itself}
 use Rattle.std.proofs.lemmas.Slice.Eq.{bytes_eq-Decides}
 use Rattle.modulename.specs.ModuleName.{Text}
-use Rattle.lookup.specs.Agreement.{Files, Folders}
+use Rattle.lookup.specs.Agreement.{Files, Listings}
 use Rattle.lookup.specs.Search.{directories}
 use Rattle.modulesearch.specs.DefaultFiles.{Left}
 use Rattle.moduleversion.specs.Versions.{version_order}
@@ -108,23 +108,23 @@ one_rows ((n, b) ∷ rs) ((k, c) ∷ qs) s t e m =
     let r : rs ≡ qs = one_rows rs qs s.1 t'.1 g (λ v. (rest_mark n b c rs qs s (λ w. (m' w).0) v, rest_mark n c b qs rs t' (λ w. (m' w).1) v)) in
     ap (λ z. (z, b) ∷ rs) h ∙ (ap (λ z. (k, z) ∷ rs) f ∙ ap (λ z. (k, c) ∷ z) r)
 
-one_listing : (leaves : Text → Text → Option Left → Type 0) (files : Files) (folders : Folders) (dir : Text) (rs qs : List Row) → IsListing leaves files folders dir rs → IsListing leaves files folders dir qs → rs ≡ qs
-one_listing leaves files folders dir rs qs h k =
+one_listing : (leaves : Text → Text → Option Left → Type 0) (files : Files) (listings : Listings) (dir : Text) (rs qs : List Row) → IsListing leaves files listings dir rs → IsListing leaves files listings dir qs → rs ≡ qs
+one_listing leaves files listings dir rs qs h k =
     one_rows rs qs h.order k.order
     (one_names (names_of rs) (names_of qs) h.order k.order (λ v. (λ e. (k.names v).1 ((h.names v).0 e), λ e. (h.names v).1 ((k.names v).0 e))))
     (λ v. (λ e. (k.marks v).1 ((h.marks v).0 e), λ e. (h.marks v).1 ((k.marks v).0 e)))
 
-one_listings : (leaves : Text → Text → Option Left → Type 0) (files : Files) (folders : Folders) (dirs : List Text) (ls ks : List Listing) → AreListings leaves files folders dirs ls → AreListings leaves files folders dirs ks → ls ≡ ks
-one_listings leaves files folders [] [] [] h k = refl
-one_listings leaves files folders [] [] (y ∷ ys) h k = absurd k
-one_listings leaves files folders [] (x ∷ xs) ks h k = absurd h
-one_listings leaves files folders (dir ∷ dirs) [] ks h k = absurd h
-one_listings leaves files folders (dir ∷ dirs) (x ∷ xs) [] h k = absurd k
-one_listings leaves files folders (dir ∷ dirs) ((d, rs) ∷ xs) ((c, qs) ∷ ys) h k =
+one_listings : (leaves : Text → Text → Option Left → Type 0) (files : Files) (listings : Listings) (dirs : List Text) (ls ks : List Listing) → AreListings leaves files listings dirs ls → AreListings leaves files listings dirs ks → ls ≡ ks
+one_listings leaves files listings [] [] [] h k = refl
+one_listings leaves files listings [] [] (y ∷ ys) h k = absurd k
+one_listings leaves files listings [] (x ∷ xs) ks h k = absurd h
+one_listings leaves files listings (dir ∷ dirs) [] ks h k = absurd h
+one_listings leaves files listings (dir ∷ dirs) (x ∷ xs) [] h k = absurd k
+one_listings leaves files listings (dir ∷ dirs) ((d, rs) ∷ xs) ((c, qs) ∷ ys) h k =
     let e : d ≡ c = h.0 ∙ sym k.0 in
-    let r : rs ≡ qs = one_listing leaves files folders dir rs qs h.1 k.1 in
-    let m : xs ≡ ys = one_listings leaves files folders dirs xs ys h.2 k.2 in
+    let r : rs ≡ qs = one_listing leaves files listings dir rs qs h.1 k.1 in
+    let m : xs ≡ ys = one_listings leaves files listings dirs xs ys h.2 k.2 in
     ap (λ z. (z, rs) ∷ xs) e ∙ (ap (λ z. (c, z) ∷ xs) r ∙ ap (λ z. (c, qs) ∷ z) m)
 
-pub one_listed : (leaves : Text → Text → Option Left → Type 0) (files : Files) (folders : Folders) (modulepath : Text) (ls ks : List Listing) → Listed leaves files folders modulepath ls → Listed leaves files folders modulepath ks → ls ≡ ks
-one_listed leaves files folders modulepath ls ks h k = one_listings leaves files folders (directories modulepath) ls ks h k
+pub one_listed : (leaves : Text → Text → Option Left → Type 0) (files : Files) (listings : Listings) (modulepath : Text) (ls ks : List Listing) → Listed leaves files listings modulepath ls → Listed leaves files listings modulepath ks → ls ≡ ks
+one_listed leaves files listings modulepath ls ks h k = one_listings leaves files listings (directories modulepath) ls ks h k

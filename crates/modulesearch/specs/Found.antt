@@ -3,7 +3,7 @@
 use Rattle.std.specs.Prelude.{◌≡◌, ◌↔◌, true, List, [], ◌∷◌, bytes_eq, codes, Option, Some, None, Result, Ok, Err}
 use Rattle.std.specs.List.{list_any}
 use Rattle.modulename.specs.ModuleName.{Text, is_module_name}
-use Rattle.lookup.specs.Agreement.{Files, Folders}
+use Rattle.lookup.specs.Agreement.{Files, Listings}
 use Rattle.lookup.specs.Search.{Held, absent, no_cookie, not_utf8, script, modulefile, is_module, directories, path_of}
 use Rattle.relations.specs.Relations.{Is, If, Where, ◌>>◌}
 use Rattle.moduleversion.specs.Versions.{IsGreatest}
@@ -16,25 +16,25 @@ abbrev pub IsModuleAt : Files → Text → Type 0
 IsModuleAt files path = is_module (modulefile (files path)) ≡ true
 
 -- the folder at the path has an entry of this name
-abbrev pub HasEntry : Folders → Text → Text → Type 0
-HasEntry folders path name =
-    (entries : List Text) × (folders path ≡ Some entries) × (list_any (bytes_eq name) entries ≡ true)
+abbrev pub HasEntry : Listings → Text → Text → Type 0
+HasEntry listings path name =
+    (entries : List Text) × (listings path ≡ Some entries) × (list_any (bytes_eq name) entries ≡ true)
 
 -- A candidate of a name below a directory: a file with the cookie directly in its folder, whose own name is one part
 -- and well spelled.
-pub record IsCandidate (files : Files) (folders : Folders) (dir name v : Text) : Type 0 where
-  pub entry : HasEntry folders (path_of dir name) v
+pub record IsCandidate (files : Files) (listings : Listings) (dir name v : Text) : Type 0 where
+  pub entry : HasEntry listings (path_of dir name) v
   pub single : is_single v ≡ true
   pub spelled : is_module_name (path_of name v) ≡ true
   pub file : IsModuleAt files (path_of dir (path_of name v))
 
-abbrev pub HasCandidates : Files → Folders → Text → Text → Type 0
-HasCandidates files folders dir name = (v : Text) × IsCandidate files folders dir name v
+abbrev pub HasCandidates : Files → Listings → Text → Text → Type 0
+HasCandidates files listings dir name = (v : Text) × IsCandidate files listings dir name v
 
 -- these are the candidates
-abbrev pub AreCandidates : Files → Folders → Text → Text → List Text → Type 0
-AreCandidates files folders dir name vs =
-    (v : Text) → (list_any (bytes_eq v) vs ≡ true) ↔ IsCandidate files folders dir name v
+abbrev pub AreCandidates : Files → Listings → Text → Text → List Text → Type 0
+AreCandidates files listings dir name vs =
+    (v : Text) → (list_any (bytes_eq v) vs ≡ true) ↔ IsCandidate files listings dir name v
 
 -- a default file names this candidate, or names none
 abbrev pub IsOneOf : (Text → Type 0) → Option Text → Type 0
@@ -46,26 +46,26 @@ default_file dir name file = path_of (path_of dir name) file
 
 -- The candidate that the default files of a folder name, if they name one: `.modulerc`, or else `.version`, which isn't
 -- asked where `.modulerc` names a candidate.
-abbrev pub NamedDefault : (Text → Text → Option Left → Type 0) → Files → Folders → Text → Text
+abbrev pub NamedDefault : (Text → Text → Option Left → Type 0) → Files → Listings → Text → Text
     → Result (Option Text) Reason → Type 0
-NamedDefault leaves files folders dir name =
+NamedDefault leaves files listings dir name =
     Names leaves files (by_command name) (default_file dir name (codes ".modulerc")) >> (λ first.
-    Where (IsOneOf (IsCandidate files folders dir name) first) (Is (Ok first)) (
+    Where (IsOneOf (IsCandidate files listings dir name) first) (Is (Ok first)) (
     Names leaves files by_variable (default_file dir name (codes ".version")) >> (λ second.
-    Where (IsOneOf (IsCandidate files folders dir name) second) (Is (Ok second)) (Is (Ok None)))))
+    Where (IsOneOf (IsCandidate files listings dir name) second) (Is (Ok second)) (Is (Ok None)))))
 
 -- the greatest candidate
-abbrev pub Greatest : Files → Folders → Text → Text → Result Text Reason → Type 0
-Greatest files folders dir name o = (v : Text) × IsGreatest (IsCandidate files folders dir name) v × (o ≡ Ok v)
+abbrev pub Greatest : Files → Listings → Text → Text → Result Text Reason → Type 0
+Greatest files listings dir name o = (v : Text) × IsGreatest (IsCandidate files listings dir name) v × (o ≡ Ok v)
 
-abbrev pub NamedOrGreatest : Files → Folders → Text → Text → Option Text → Result Text Reason → Type 0
-NamedOrGreatest files folders dir name (Some v) = Is (Ok v)
-NamedOrGreatest files folders dir name None = Greatest files folders dir name
+abbrev pub NamedOrGreatest : Files → Listings → Text → Text → Option Text → Result Text Reason → Type 0
+NamedOrGreatest files listings dir name (Some v) = Is (Ok v)
+NamedOrGreatest files listings dir name None = Greatest files listings dir name
 
 -- the default candidate of a folder: the one that its default files name, or else the greatest
-abbrev pub Default : (Text → Text → Option Left → Type 0) → Files → Folders → Text → Text → Result Text Reason → Type 0
-Default leaves files folders dir name =
-    NamedDefault leaves files folders dir name >> NamedOrGreatest files folders dir name
+abbrev pub Default : (Text → Text → Option Left → Type 0) → Files → Listings → Text → Text → Result Text Reason → Type 0
+Default leaves files listings dir name =
+    NamedDefault leaves files listings dir name >> NamedOrGreatest files listings dir name
 
 -- a module that was found: its full name, its path and its text
 pub record Module : Type 0 where
@@ -84,16 +84,16 @@ abbrev pub At : Files → Text → Text → Result Module Reason → Type 0
 At files dir name = Is (read name (path_of dir name) (modulefile (files (path_of dir name))))
 
 -- The first directory that gives one: the file of this name, or else the default candidate of the folder of this name.
-abbrev pub FoundAlong : (Text → Text → Option Left → Type 0) → Files → Folders → Text → List Text
+abbrev pub FoundAlong : (Text → Text → Option Left → Type 0) → Files → Listings → Text → List Text
     → Result Module Reason → Type 0
-FoundAlong leaves files folders name [] = Is (Err (not_found name))
-FoundAlong leaves files folders name (dir ∷ dirs) =
+FoundAlong leaves files listings name [] = Is (Err (not_found name))
+FoundAlong leaves files listings name (dir ∷ dirs) =
     Where (IsModuleAt files (path_of dir name)) (At files dir name) (
-    Where (HasCandidates files folders dir name)
-    (Default leaves files folders dir name >> (λ v. At files dir (path_of name v))) (
-    FoundAlong leaves files folders name dirs))
+    Where (HasCandidates files listings dir name)
+    (Default leaves files listings dir name >> (λ v. At files dir (path_of name v))) (
+    FoundAlong leaves files listings name dirs))
 
 -- What a name means along a MODULEPATH.
-abbrev pub Found : (Text → Text → Option Left → Type 0) → Files → Folders → Text → Text → Result Module Reason → Type 0
-Found leaves files folders modulepath name =
-    If (is_module_name name) (FoundAlong leaves files folders name (directories modulepath)) (Is (Err (bad_name name)))
+abbrev pub Found : (Text → Text → Option Left → Type 0) → Files → Listings → Text → Text → Result Module Reason → Type 0
+Found leaves files listings modulepath name =
+    If (is_module_name name) (FoundAlong leaves files listings name (directories modulepath)) (Is (Err (bad_name name)))

@@ -4,32 +4,32 @@ use Rattle.std.specs.Prelude.{◌≡◌, ◌↔◌, Bool, true, ◌&&◌, List, 
 use Rattle.std.specs.List.{list_any}
 use Rattle.std.specs.List.Sorted.{IsStrictlySortedBy}
 use Rattle.modulename.specs.ModuleName.{Text, parts, is_module_name}
-use Rattle.lookup.specs.Agreement.{Files, Folders}
+use Rattle.lookup.specs.Agreement.{Files, Listings}
 use Rattle.lookup.specs.Search.{directories, path_of}
 use Rattle.moduleversion.specs.Versions.{version_order}
 use Rattle.modulesearch.specs.DefaultFiles.{Left}
 use Rattle.modulesearch.specs.Found.{IsModuleAt, HasEntry, NamedDefault}
 
 -- each part is an entry of the folder that the parts before it lead to
-abbrev pub Leads : Folders → Text → List Text → Type 0
-Leads folders path [] = Unit {0}
-Leads folders path (part ∷ rest) = HasEntry folders path part × Leads folders (path_of path part) rest
+abbrev pub Leads : Listings → Text → List Text → Type 0
+Leads listings path [] = Unit {0}
+Leads listings path (part ∷ rest) = HasEntry listings path part × Leads listings (path_of path part) rest
 
 -- a well-spelled name of one to four parts of a file with the cookie below the directory
-pub record IsBelow (files : Files) (folders : Folders) (dir name : Text) : Type 0 where
+pub record IsBelow (files : Files) (listings : Listings) (dir name : Text) : Type 0 where
   pub spelled : is_module_name name ≡ true
-  pub leads : Leads folders dir (parts name)
+  pub leads : Leads listings dir (parts name)
   pub file : IsModuleAt files (path_of dir name)
 
 -- A default file of the folder that the module stands in names it. Where a default file has a fault nothing of the
 -- folder is named.
-pub record IsNamed (leaves : Text → Text → Option Left → Type 0) (files : Files) (folders : Folders) (dir name : Text)
+pub record IsNamed (leaves : Text → Text → Option Left → Type 0) (files : Files) (listings : Listings) (dir name : Text)
     : Type 0 where
   pub folder : Text
   pub version : Text
   pub joined : name ≡ path_of folder version
   pub last : parts name ≡ parts folder ++ version ∷ []
-  pub named : NamedDefault leaves files folders dir folder (Ok (Some version))
+  pub named : NamedDefault leaves files listings dir folder (Ok (Some version))
 
 -- a name, and whether it is marked
 abbrev pub Row : Type 0
@@ -42,24 +42,24 @@ abbrev pub is_marked : Text → List Row → Bool
 is_marked name rows = list_any (λ row. bytes_eq name row.0 && row.1) rows
 
 -- the rows of a directory
-pub record IsListing (leaves : Text → Text → Option Left → Type 0) (files : Files) (folders : Folders) (dir : Text)
+pub record IsListing (leaves : Text → Text → Option Left → Type 0) (files : Files) (listings : Listings) (dir : Text)
     (rows : List Row) : Type 0 where
   pub order : IsStrictlySortedBy version_order (names_of rows)
-  pub names : (name : Text) → (list_any (bytes_eq name) (names_of rows) ≡ true) ↔ IsBelow files folders dir name
+  pub names : (name : Text) → (list_any (bytes_eq name) (names_of rows) ≡ true) ↔ IsBelow files listings dir name
   pub marks : (name : Text)
-      → (is_marked name rows ≡ true) ↔ (IsBelow files folders dir name × IsNamed leaves files folders dir name)
+      → (is_marked name rows ≡ true) ↔ (IsBelow files listings dir name × IsNamed leaves files listings dir name)
 
 -- a directory with its rows
 abbrev pub Listing : Type 0
 Listing = Text × List Row
 
-abbrev pub AreListings : (Text → Text → Option Left → Type 0) → Files → Folders → List Text → List Listing → Type 0
-AreListings leaves files folders [] [] = Unit {0}
-AreListings leaves files folders [] (l ∷ ls) = ⊥
-AreListings leaves files folders (dir ∷ dirs) [] = ⊥
-AreListings leaves files folders (dir ∷ dirs) (l ∷ ls) =
-    (l.0 ≡ dir) × IsListing leaves files folders dir l.1 × AreListings leaves files folders dirs ls
+abbrev pub AreListings : (Text → Text → Option Left → Type 0) → Files → Listings → List Text → List Listing → Type 0
+AreListings leaves files listings [] [] = Unit {0}
+AreListings leaves files listings [] (l ∷ ls) = ⊥
+AreListings leaves files listings (dir ∷ dirs) [] = ⊥
+AreListings leaves files listings (dir ∷ dirs) (l ∷ ls) =
+    (l.0 ≡ dir) × IsListing leaves files listings dir l.1 × AreListings leaves files listings dirs ls
 
 -- each directory of the MODULEPATH in turn, a repeated one again
-abbrev pub Listed : (Text → Text → Option Left → Type 0) → Files → Folders → Text → List Listing → Type 0
-Listed leaves files folders modulepath listings = AreListings leaves files folders (directories modulepath) listings
+abbrev pub Listed : (Text → Text → Option Left → Type 0) → Files → Listings → Text → List Listing → Type 0
+Listed leaves files listings modulepath listings = AreListings leaves files listings (directories modulepath) listings

@@ -1,6 +1,6 @@
 //! The candidates of a folder.
 ghost use Rattle.std.specs.Prelude.{◌≡◌, filter, map, string_bytes, IfOk};
-ghost use Rattle.lookup.specs.Agreement.{Files, Folders, Shows, HasCause};
+ghost use Rattle.lookup.specs.Agreement.{Shows, HasCause, Narrows};
 ghost use Rattle.lookup.specs.Search.{modulefile, is_module, path_of};
 ghost use Rattle.modulesearch.specs.Found.{AreCandidates};
 ghost use Rattle.modulesearch.specs.Fitting.{is_single, is_fitting};
@@ -27,8 +27,8 @@ fn is_single(name: &str) -> bool
 
 /// Whether a file with the cookie is at the path.
 fn holds_module<T: Tree>(tree: &mut T, path: &str) -> Result<bool, TreeFault>
-    ensures before { Shows (T.agrees tree.new) (λ files folders. T.agrees tree.old files folders) }
-    ensures answer { IfOk result (λ r. Shows (T.agrees tree.new) (λ files folders.
+    ensures before { Narrows (T.agrees tree.old) (T.agrees tree.new) }
+    ensures answer { IfOk result (λ r. Shows (T.agrees tree.new) (λ files listings.
         is_module (modulefile (files path.now)) ≡ r)) }
     ensures cause { HasCause (T.failures tree.old) (T.failures tree.new) result }
 {
@@ -48,8 +48,8 @@ fn is_fitting<T: Tree>(
     name: &str,
     entry: &str,
 ) -> Result<bool, TreeFault>
-    ensures before { Shows (T.agrees tree.new) (λ files folders. T.agrees tree.old files folders) }
-    ensures answer { IfOk result (λ r. Shows (T.agrees tree.new) (λ files folders.
+    ensures before { Narrows (T.agrees tree.old) (T.agrees tree.new) }
+    ensures answer { IfOk result (λ r. Shows (T.agrees tree.new) (λ files listings.
         is_fitting files dir.now name.now entry.now ≡ r)) }
     ensures cause { HasCause (T.failures tree.old) (T.failures tree.new) result }
 {
@@ -72,8 +72,8 @@ fn fitting<T: Tree>(
     name: &str,
     entries: &[String],
 ) -> Result<Vec<String>, TreeFault>
-    ensures before { Shows (T.agrees tree.new) (λ files folders. T.agrees tree.old files folders) }
-    ensures answer { IfOk result (λ vs. Shows (T.agrees tree.new) (λ files folders.
+    ensures before { Narrows (T.agrees tree.old) (T.agrees tree.new) }
+    ensures answer { IfOk result (λ vs. Shows (T.agrees tree.new) (λ files listings.
         map string_bytes vs.items ≡ filter (is_fitting files dir.now name.now) (map string_bytes entries.now))) }
     ensures cause { HasCause (T.failures tree.old) (T.failures tree.new) result }
 {
@@ -99,9 +99,9 @@ pub fn candidates_of<T: Tree>(
     dir: &str,
     name: &str,
 ) -> Result<Vec<String>, TreeFault>
-    ensures before { Shows (T.agrees tree.new) (λ files folders. T.agrees tree.old files folders) }
-    ensures answer { IfOk result (λ vs. Shows (T.agrees tree.new) (λ files folders.
-        AreCandidates files folders dir.now name.now (map string_bytes vs.items))) }
+    ensures before { Narrows (T.agrees tree.old) (T.agrees tree.new) }
+    ensures answer { IfOk result (λ vs. Shows (T.agrees tree.new) (λ files listings.
+        AreCandidates files listings dir.now name.now (map string_bytes vs.items))) }
     ensures cause { HasCause (T.failures tree.old) (T.failures tree.new) result }
 {
     let folder = path_of(alloc, dir, name)?;

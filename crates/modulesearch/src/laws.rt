@@ -1,7 +1,7 @@
 //! What holds of the definitions that the contracts cite.
 ghost use Rattle.std.specs.Prelude.{◌≡◌, [], ◌∷◌, List, Result, codes, Some, None};
 ghost use Rattle.modulename.specs.ModuleName.{Text};
-ghost use Rattle.lookup.specs.Agreement.{Files, Folders};
+ghost use Rattle.lookup.specs.Agreement.{Files, Listings};
 ghost use Rattle.modulesearch.specs.Reasons.{Reason};
 ghost use Rattle.modulesearch.specs.DefaultFiles.{last_default};
 ghost use Rattle.modulesearch.specs.Found.{Module, Found};
@@ -11,14 +11,14 @@ use crate::default_files::DefaultFiles;
 
 /// A name means one module at most, or there is one reason that it means none.
 pub fn one_found<D: DefaultFiles>()
-    ensures { (files : Files) (folders : Folders) (modulepath name : Text) (o p : Result Module Reason)
-        → Found D.leaves files folders modulepath name o → Found D.leaves files folders modulepath name p → o ≡ p }
+    ensures { (files : Files) (listings : Listings) (modulepath name : Text) (o p : Result Module Reason)
+        → Found D.leaves files listings modulepath name o → Found D.leaves files listings modulepath name p → o ≡ p }
 {}
 
 /// A MODULEPATH has one listing at most.
 pub fn one_listed<D: DefaultFiles>()
-    ensures { (files : Files) (folders : Folders) (modulepath : Text) (ls ks : List Listing)
-        → Listed D.leaves files folders modulepath ls → Listed D.leaves files folders modulepath ks → ls ≡ ks }
+    ensures { (files : Files) (listings : Listings) (modulepath : Text) (ls ks : List Listing)
+        → Listed D.leaves files listings modulepath ls → Listed D.leaves files listings modulepath ks → ls ≡ ks }
 {}
 
 /// What `module-version` commands make the default of a folder.

@@ -1,4 +1,4 @@
-//! Which modulefile a name means, and all that there are: candidates of folders, default files, the greatest version.
+//! Which modulefile a name means, and all that there are: candidates of directories, default files, the greatest version.
 #![tactic(auto)]
 
 mod candidates;

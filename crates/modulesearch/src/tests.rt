@@ -10,7 +10,7 @@ const COOKIE: &[u8] = b"#%Module\n";
 fn candidates_of_a_folder(rt: HostRuntime) -> Result<(), Fail> {
     let alloc = rt.alloc();
     let mut tree = MemoryTree::new(alloc);
-    tree.put_folder(
+    tree.put_directory(
         "/n/ver",
         &[
             "1.9",
@@ -22,7 +22,7 @@ fn candidates_of_a_folder(rt: HostRuntime) -> Result<(), Fail> {
             "1.10-rc",
         ],
     )?;
-    tree.put_folder("/n/ver/old", &["1.8"])?;
+    tree.put_directory("/n/ver/old", &["1.8"])?;
     tree.put_file("/n/ver/1.9", COOKIE)?;
     tree.put_file("/n/ver/1.10", COOKIE)?;
     tree.put_file("/n/ver/1.10-rc", COOKIE)?;

@@ -1,5 +1,6 @@
 -- What is wrong with a text, by number, and the limits of a text that is parsed.
-use Rattle.std.specs.Prelude.{ℕ}
+use Rattle.std.specs.Prelude.{ℕ, codes}
+use Rattle.message.specs.Messages.{Text, at_byte}
 use Rattle.tclchars.specs.declared.fault.TextFault.{TextFault}
 use Rattle.tclchars.specs.declared.fault.TextFault.TheVariants.{OutOfMemory, OpenBrace, OpenQuote, OpenBracket, JoinedToClose, TooDeep, BadCharacter, BadExpression, TooLong}
 
@@ -22,3 +23,15 @@ fault_number TooDeep = 6
 fault_number (BadCharacter at) = 7
 fault_number (BadExpression at) = 8
 fault_number TooLong = 9
+
+-- what a fault says, with its place in bytes
+abbrev pub fault_message : TextFault → Text
+fault_message OutOfMemory = codes "Out of memory"
+fault_message (OpenBrace at) = at_byte (codes "Missing close-brace at byte ") at
+fault_message (OpenQuote at) = at_byte (codes "Missing close-quote at byte ") at
+fault_message (OpenBracket at) = at_byte (codes "Missing close-bracket at byte ") at
+fault_message (JoinedToClose at) = at_byte (codes "Extra characters after a close at byte ") at
+fault_message TooDeep = codes "Text is nested too deeply"
+fault_message (BadCharacter at) = at_byte (codes "Bad character at byte ") at
+fault_message (BadExpression at) = at_byte (codes "Bad expression at byte ") at
+fault_message TooLong = codes "Text is too long"

@@ -1,40 +1,35 @@
-ghost use Rattle.std.specs.Prelude.{◌≡◌, ◌≤◌};
-ghost use Rattle.tclchars.specs.Faults.{fault_number};
+ghost use Rattle.std.specs.Prelude.{◌≡◌, ◌≤◌, Some};
+ghost use Rattle.message.specs.Messages.{text_of};
+ghost use Rattle.tclchars.specs.Faults.{fault_message, fault_number};
 ghost use Rattle.tclchars.specs.Reading.{left_of, placed};
 ghost use Rattle.tclchars.specs.declared.fault.ReadError.TheVariants.{Memory};
 
+use message::Message;
 use std::alloc::{AllocError, AllocFailed};
-use thiserror::Error;
+use std::error::Error;
+use std::fmt;
+use std::fmt::Display;
 
 /// What is wrong with a text. A place is in bytes, from 0.
-#[derive(Debug, Drop, Error)]
+#[derive(Debug, Drop)]
 pub enum TextFault {
     /// Memory ran out.
-    #[error("Out of memory")]
     OutOfMemory,
     /// No brace closes the one at this place.
-    #[error("Missing close-brace at byte {0}")]
     OpenBrace(usize),
     /// No quote closes the one at this place.
-    #[error("Missing close-quote at byte {0}")]
     OpenQuote(usize),
     /// No bracket closes the one at this place.
-    #[error("Missing close-bracket at byte {0}")]
     OpenBracket(usize),
     /// The character at this place follows a closing quote or brace directly.
-    #[error("Extra characters after a close at byte {0}")]
     JoinedToClose(usize),
     /// Substitutions, parentheses and operators nest past the limit.
-    #[error("Text is nested too deeply")]
     TooDeep,
     /// The character at this place can't stand there.
-    #[error("Bad character at byte {0}")]
     BadCharacter(usize),
     /// The expression is wrong at this place.
-    #[error("Bad expression at byte {0}")]
     BadExpression(usize),
     /// The text has more than 1,048,576 bytes.
-    #[error("Text is too long")]
     TooLong,
 }
 
@@ -55,7 +50,36 @@ impl TextFault {
             TextFault::TooLong => 9,
         }
     }
+
+    /// What the fault says.
+    pub fn message(&self) -> Message<'static>
+        ensures { text_of result ≡ fault_message self.now }
+    {
+        match self {
+            TextFault::OutOfMemory => Message::plain("Out of memory"),
+            TextFault::OpenBrace(at) => Message::at_byte("Missing close-brace at byte ", *at),
+            TextFault::OpenQuote(at) => Message::at_byte("Missing close-quote at byte ", *at),
+            TextFault::OpenBracket(at) => Message::at_byte("Missing close-bracket at byte ", *at),
+            TextFault::JoinedToClose(at) => {
+                Message::at_byte("Extra characters after a close at byte ", *at)
+            }
+            TextFault::TooDeep => Message::plain("Text is nested too deeply"),
+            TextFault::BadCharacter(at) => Message::at_byte("Bad character at byte ", *at),
+            TextFault::BadExpression(at) => Message::at_byte("Bad expression at byte ", *at),
+            TextFault::TooLong => Message::plain("Text is too long"),
+        }
+    }
 }
+
+impl fmt::Display for TextFault {
+    ghost output = { λ fault. Some (fault_message fault) };
+
+    fn fmt<W: fmt::Write>(&self, f: &mut fmt::Formatter<W>) -> fmt::Result {
+        self.message().fmt(f)
+    }
+}
+
+impl Error for TextFault {}
 
 /// What stops a reader, with the number of bytes from the mark on to the text's end.
 #[derive(Clone, Copy, Debug, PartialEq, Eq)]

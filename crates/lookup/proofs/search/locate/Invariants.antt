@@ -7,8 +7,8 @@ use Rattle.lookup.proofs.search.locate.Given as goal
 
 abbrev pub invariant-loop-dir : goal.invariant-loop-dir
 invariant-loop-dir g l = record {
-  before : Shows (g.T.Tree.agrees l.tree) (λ files folders. g.T.Tree.agrees l.initial.tree files folders);
-  none_yet : Shows (g.T.Tree.agrees l.tree) (λ files folders.
+  before : Shows (g.T.Tree.agrees l.tree) (λ files listings. g.T.Tree.agrees l.initial.tree files listings);
+  none_yet : Shows (g.T.Tree.agrees l.tree) (λ files listings.
       found_along files l.name (slice_split (λ b. eqb b colon) l.modulepath) ≡ found_along files l.name (drop (length l.yielded) (slice_split (λ b. eqb b colon) l.modulepath)));
   later : g.T.Tree.failures l.initial.tree ≤ g.T.Tree.failures l.tree;
 }

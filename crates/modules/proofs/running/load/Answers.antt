@@ -15,8 +15,8 @@ returns-clause-answer g c =
     let xs = map entry_of c.args.entries.now in
     tells_given (g.T.Tree.agrees c.script_at.new.tree) _ done_of c.load_text.result (left_loaded c.args.limits c.args.env.now xs c.args.name.now)
     (left_by Loads Load c.args.limits c.args.env.now c.args.name.now (string_bytes c.in_ok-found.found.path) (string_bytes c.in_ok-text.text))
-    (λ files folders agreed. load_left c.args.limits files c.args.env.now xs c.args.name.now (string_bytes c.in_ok-found.found.path) (string_bytes c.in_ok-text.text)
+    (λ files listings agreed. load_left c.args.limits files c.args.env.now xs c.args.name.now (string_bytes c.in_ok-found.found.path) (string_bytes c.in_ok-text.text)
     (sym c.is_loaded.ensures ∙ c.if-is_loaded.false)
-    (rw (← c.modulepath.ensures) (c.in_ok-found.ensures.found.1 files folders (c.in_ok-text.ensures.before files folders agreed)))
-    (is_at files folders agreed))
+    (rw (← c.modulepath.ensures) (c.in_ok-found.ensures.found.1 files listings (c.in_ok-text.ensures.before files listings agreed)))
+    (is_at files listings agreed))
     given

@@ -7,7 +7,7 @@ use Rattle.modules.specs.Then.{◌>>=◌, refused_as}
 use Rattle.modules.specs.Reasons.{bad_edit}
 use Rattle.modules.specs.Steps.{Loads}
 use Rattle.modules.specs.Running.{left_by}
-use Rattle.modules.proofs.StepLemmas.{recorded, loaded_left, edit_stands, bare_entry}
+use Rattle.modules.proofs.StepLemmas.{recorded, loaded_left, edit_origin_of, bare_entry}
 use Rattle.modules.proofs.running.load_text.Goals as goal
 
 pub returns-in_err-add_loaded : goal.returns-in_err-add_loaded
@@ -18,7 +18,7 @@ returns-in_err-add_loaded c =
     let made = rw c.in_ok-after.ensures.ok at (c.in_ok-run.ensures name) in
     let left = loaded_left c.args.limits c.args.env.now c.run.new.env name path c.args.text.now (recorded Load name c.args.limits c.args.env.now c.run.new.env c.args.text.now made) in
     let outcome = rw (c.new.ensures.items, c.new-2.ensures.items) at c.in_err-add_loaded.ensures.edits.1 in
-    rw (p.1, p.2) (edit_stands (reason_of c.in_err-add_loaded.field-0.0) (added_loaded c.run.new.env (bare_entry name path)) (λ r. left_by Loads Load c.args.limits c.args.env.now name path c.args.text.now ≡ Err r) outcome
+    rw (p.1, p.2) (edit_origin_of (reason_of c.in_err-add_loaded.field-0.0) (added_loaded c.run.new.env (bare_entry name path)) (λ r. left_by Loads Load c.args.limits c.args.env.now name path c.args.text.now ≡ Err r) outcome
     (λ r h. left ∙ ap (λ x. refused_as bad_edit x >>= (λ t. Ok (record { env = t; loaded = name ∷ []; messages = []; report = [] }))) h))
 
 pub returns : goal.returns

@@ -16,8 +16,8 @@ returns-clause-answer g c =
     let x = entry_of c.in-Some.entry.now in
     tells_given (g.T.Tree.agrees c.script_at.new.tree) _ done_of c.unload_text.result (left_unloaded c.args.limits c.args.env.now xs c.args.name.now)
     (left_by Unloads Unload c.args.limits c.args.env.now x.name x.path (string_bytes c.in_ok-text.text))
-    (λ files folders agreed. unload_left c.args.limits files c.args.env.now xs c.args.name.now x (string_bytes c.in_ok-text.text)
+    (λ files listings agreed. unload_left c.args.limits files c.args.env.now xs c.args.name.now x (string_bytes c.in_ok-text.text)
     (search rules)
     (sym c.in-Some.ensures)
-    (is_at files folders agreed))
+    (is_at files listings agreed))
     given

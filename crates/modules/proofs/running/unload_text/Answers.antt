@@ -7,7 +7,7 @@ use Rattle.modules.specs.Then.{◌>>=◌, refused_as}
 use Rattle.modules.specs.Reasons.{bad_edit}
 use Rattle.modules.specs.Steps.{Unloads}
 use Rattle.modules.specs.Running.{left_by}
-use Rattle.modules.proofs.StepLemmas.{recorded, unloaded_left, edit_stands}
+use Rattle.modules.proofs.StepLemmas.{recorded, unloaded_left, edit_origin_of}
 use Rattle.modules.proofs.running.unload_text.Goals as goal
 
 pub returns-in_err-drop_loaded : goal.returns-in_err-drop_loaded
@@ -18,5 +18,5 @@ returns-in_err-drop_loaded c =
     let made = rw c.in_ok-after.ensures.ok at (c.in_ok-run.ensures name) in
     let left = unloaded_left c.args.limits c.args.env.now c.run.new.env name path c.args.text.now (recorded Unload name c.args.limits c.args.env.now c.run.new.env c.args.text.now made) in
     let outcome = rw c.as_str.ensures.value at c.in_err-drop_loaded.ensures.edits.1 in
-    rw (p.1, p.2) (edit_stands (reason_of c.in_err-drop_loaded.field-0.0) (dropped_loaded c.run.new.env name) (λ r. left_by Unloads Unload c.args.limits c.args.env.now name path c.args.text.now ≡ Err r) outcome
+    rw (p.1, p.2) (edit_origin_of (reason_of c.in_err-drop_loaded.field-0.0) (dropped_loaded c.run.new.env name) (λ r. left_by Unloads Unload c.args.limits c.args.env.now name path c.args.text.now ≡ Err r) outcome
     (λ r h. left ∙ ap (λ x. refused_as bad_edit x >>= (λ t. Ok (record { env = t; loaded = []; messages = []; report = [] }))) h))

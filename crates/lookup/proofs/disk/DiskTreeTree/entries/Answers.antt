@@ -1,12 +1,12 @@
 use Rattle.std.proofs.Common.{sym, ◌∙◌, string_bytes}
-use Rattle.lookup.specs.Agreement.{folder_answer}
+use Rattle.lookup.specs.Agreement.{listing_answer}
 use Rattle.lookup.proofs.Kept.{has_before, has_answer}
 use Rattle.lookup.proofs.disk.DiskTreeTree.entries.Goals as goal
 
 pub returns-in_ok-insert-in-Ok-clause-before : goal.returns-in_ok-insert-in-Ok-clause-before
-returns-in_ok-insert-in-Ok-clause-before g c files folders h =
-    (h.0, has_before folder_answer c.args.self.now.folders c.insert.new.self c.args.dir.now (string_bytes c.in_ok-key.key) c.in-Ok.answer c.in_ok-key.ensures.ok (sym c.in_default.ensures.value) c.in_ok-insert-in-Ok.ensures.updates folders h.1)
+returns-in_ok-insert-in-Ok-clause-before g c files listings h =
+    (h.0, has_before listing_answer c.args.self.now.listings c.insert.new.self c.args.dir.now (string_bytes c.in_ok-key.key) c.in-Ok.answer c.in_ok-key.ensures.ok (sym c.in_default.ensures.value) c.in_ok-insert-in-Ok.ensures.updates listings h.1)
 
 pub returns-in_ok-insert-in-Ok-clause-answer : goal.returns-in_ok-insert-in-Ok-clause-answer
-returns-in_ok-insert-in-Ok-clause-answer g c files folders h =
-    has_answer folder_answer c.args.self.now.folders c.insert.new.self c.args.dir.now (string_bytes c.in_ok-key.key) c.in-Ok.answer c.in_ok-key.ensures.ok (sym c.in_default.ensures.value) c.in_ok-insert-in-Ok.ensures.updates folders h.1 ∙ sym c.in_ok-copy-in-Ok.ensures
+returns-in_ok-insert-in-Ok-clause-answer g c files listings h =
+    has_answer listing_answer c.args.self.now.listings c.insert.new.self c.args.dir.now (string_bytes c.in_ok-key.key) c.in-Ok.answer c.in_ok-key.ensures.ok (sym c.in_default.ensures.value) c.in_ok-insert-in-Ok.ensures.updates listings h.1 ∙ sym c.in_ok-copy-in-Ok.ensures

@@ -1,0 +1,30 @@
+-- The text of a message: a word between two texts.
+use Rattle.std.specs.Prelude.{ℕ, List, [], ◌++◌, codes, decimal}
+use Rattle.message.specs.declared.Word.{Word}
+use Rattle.message.specs.declared.Word.TheVariants.{Nothing, Name, Number}
+use Rattle.message.specs.declared.Message.{Message}
+
+abbrev pub Text : Type 0
+Text = List ℕ
+
+-- a word between two texts
+abbrev pub around : Text → Text → Text → Text
+around before word after = before ++ (word ++ after)
+
+-- a message that names a place in bytes
+abbrev pub at_byte : Text → ℕ → Text
+at_byte before at = around before (decimal at) []
+
+-- a message that ends with a quoted word
+abbrev pub quoting : Text → Text → Text
+quoting before word = around before word (codes "'")
+
+-- what a word shows
+abbrev pub word_text : Word → Text
+word_text Nothing = []
+word_text (Name name) = name.now
+word_text (Number n) = decimal n
+
+-- the whole text
+abbrev pub text_of : Message → Text
+text_of message = around message.before.now (word_text message.word) message.after.now

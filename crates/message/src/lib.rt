@@ -1,0 +1,103 @@
+//! Messages of faults, in parts, so that they are shown and written without taking memory.
+//!
+//! The fault of a layer has one function that makes its message, with a clause that names its text. Its `Display` and the
+//! error line of a command are both made from it.
+#![tactic(auto)]
+
+ghost use Rattle.std.specs.Prelude.{◌≡◌, Some};
+ghost use Rattle.message.specs.Messages as messages;
+ghost use Rattle.message.specs.Messages.{around, text_of, word_text};
+
+use itoa::Buffer;
+use std::fmt;
+
+/// The word that a message is about.
+#[derive(Clone, Copy, Debug, PartialEq, Eq)]
+pub enum Word<'a> {
+    /// None.
+    Nothing,
+    /// A name, a path or a word of a command line.
+    Name(&'a str),
+    /// A number, in decimal digits.
+    Number(usize),
+}
+
+impl<'a> Word<'a> {
+    /// The text of the word. A number's digits stand in the buffer.
+    pub fn text<'b>(&'b self, digits: &'b mut Buffer) -> &'b str
+        ensures { result.now ≡ word_text self.now }
+    {
+        match self {
+            Word::Nothing => "",
+            Word::Name(name) => name,
+            Word::Number(n) => digits.format(*n),
+        }
+    }
+}
+
+/// A message: a word between two texts.
+#[derive(Clone, Copy, Debug, PartialEq, Eq)]
+pub struct Message<'a> {
+    /// What stands before the word.
+    pub before: &'a str,
+    /// The word.
+    pub word: Word<'a>,
+    /// What stands behind the word.
+    pub after: &'a str,
+}
+
+impl<'a> Message<'a> {
+    /// This text.
+    pub fn plain(text: &'a str) -> Message<'a>
+        ensures { text_of result ≡ text.now }
+    {
+        Message {
+            before: text,
+            word: Word::Nothing,
+            after: "",
+        }
+    }
+
+    /// A name between two texts.
+    pub fn around(before: &'a str, name: &'a str, after: &'a str) -> Message<'a>
+        ensures { text_of result ≡ around before.now name.now after.now }
+    {
+        Message {
+            before,
+            word: Word::Name(name),
+            after,
+        }
+    }
+
+    /// A text, a name and a quote behind it.
+    pub fn quoting(before: &'a str, name: &'a str) -> Message<'a>
+        ensures { text_of result ≡ messages.quoting before.now name.now }
+    {
+        Message::around(before, name, "'")
+    }
+
+    /// A text and a place in bytes behind it.
+    pub fn at_byte(before: &'a str, at: usize) -> Message<'a>
+        ensures { text_of result ≡ messages.at_byte before.now at }
+    {
+        Message {
+            before,
+            word: Word::Number(at),
+            after: "",
+        }
+    }
+}
+
+impl<'a> fmt::Display for Message<'a> {
+    ghost output = { λ message. Some (text_of message) };
+
+    fn fmt<W: fmt::Write>(&self, f: &mut fmt::Formatter<W>) -> fmt::Result {
+        f.write_str(self.before)?;
+        match self.word {
+            Word::Nothing => {}
+            Word::Name(name) => f.write_str(name)?,
+            Word::Number(n) => write!(f, "{n}")?,
+        }
+        f.write_str(self.after)
+    }
+}
