@@ -19,6 +19,10 @@ message_of (Unprinted fault) = print_message fault
 message_of (UnknownShell word) = quoting (codes "Unknown shell '") (string_bytes word)
 message_of WriteFailed = codes "Writing failed"
 
+-- a line that says this
+abbrev pub error_line : Text → Text
+error_line message = codes "ERROR: " ++ (message ++ 10 ∷ [])
+
 -- the whole line
 abbrev pub line_of : CommandFault → Text
-line_of fault = codes "ERROR: " ++ (message_of fault ++ 10 ∷ [])
+line_of fault = error_line (message_of fault)

@@ -2,8 +2,8 @@
 ghost use Rattle.std.specs.Prelude.{◌≡◌, Some, OnOk, OnErr};
 ghost use Rattle.std.specs.Io.KnownBytes.{Appends};
 ghost use Rattle.modulecmd.specs.Writing.{AppendsPart};
-ghost use Rattle.message.specs.Messages.{text_of};
-ghost use Rattle.modulecmd.specs.Lines.{line_of, message_of};
+ghost use Rattle.message.specs.Messages.{around, text_of};
+ghost use Rattle.modulecmd.specs.Lines.{error_line, line_of, message_of};
 ghost use Rattle.modules.specs.declared.refusal.Refusal.TheVariants as refusals;
 ghost use Rattle.modulecmd.specs.declared.refuse.CommandFault.TheVariants.{Refused, Unprinted};
 ghost use Rattle.modulecmd.specs.Command.{number_of, of_arguments};
@@ -113,6 +113,21 @@ impl From<ArgumentsFault> for CommandFault {
     }
 }
 
+/// Writes a line of an error, of these parts.
+fn write_line<'a, E: Write>(
+    before: &'a str,
+    word: &'a str,
+    after: &'a str,
+    err: &mut E,
+) -> Result<(), WriteFault>
+    ensures whole { OnOk result (Appends (E.contents err.old) (E.contents err.new)
+        (error_line (around before.now word.now after.now))) }
+    ensures cut { OnErr result (AppendsPart (E.contents err.old) (E.contents err.new)
+        (error_line (around before.now word.now after.now))) }
+{
+    write_parts(err, &["ERROR: ", before, word, after, "\n"])
+}
+
 /// Writes the line that tells of a refusal, without taking memory. It is tried once: a write that fails ends it. Then a
 /// beginning of the line is written, not all.
 pub fn write_refusal<E: Write>(fault: &CommandFault, err: &mut E) -> Result<(), WriteFault>
@@ -121,6 +136,6 @@ pub fn write_refusal<E: Write>(fault: &CommandFault, err: &mut E) -> Result<(), 
 {
     let mut digits = Buffer::new();
     let message = fault.message();
-    let word = message.word.text(&mut digits);
-    write_parts(err, &["ERROR: ", message.before, word, message.after, "\n"])
+    let word = message.word;
+    write_line(message.before, word.text(&mut digits), message.after, err)
 }

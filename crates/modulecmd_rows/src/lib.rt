@@ -1,5 +1,5 @@
-//! Worked rows of searches, requests and commands, of the process that they run in, and of the lines that tell of faults, by
-//! the public calls of `lookup`, `modules` and `modulecmd` alone.
+//! Worked rows of searches, requests and commands, of the process that they run in, and of the lines that tell of
+//! faults, by the public calls of `lookup`, `modules` and `modulecmd` alone.
 #![tactic(auto)]
 
 #[cfg(test)]

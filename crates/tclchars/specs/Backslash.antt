@@ -62,9 +62,9 @@ abbrev pub begins_wide : Text → Bool
 begins_wide [] = false
 begins_wide (b ∷ bs) = nat_le 128 b
 
--- What a backslash and what is read behind it stand for, and what follows; None at the text's end, and where they stand for nothing.
--- A newline takes the blanks and tabs behind it along and stands for one space; a character of several bytes is its first byte and
--- those that go on with it
+-- What a backslash and what is read behind it stand for, and what follows; None at the text's end, and where they stand
+-- for nothing. A newline takes the blanks and tabs behind it along and stands for one space; a character of several
+-- bytes is its first byte and those that go on with it
 abbrev pub after_backslash : Text → Option (Text × Text)
 after_backslash [] = None
 after_backslash (b ∷ bs) =

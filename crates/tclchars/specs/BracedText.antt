@@ -1,5 +1,6 @@
--- What the text between the braces of a word stands for (Tcl(n), rules 6 and 9): itself, but that a backslash before a newline and
--- the blanks and tabs behind them are one space. A backslash and any other character are passed over together.
+-- What the text between the braces of a word stands for (Tcl(n), rules 6 and 9): itself, but that a backslash before a
+-- newline and the blanks and tabs behind them are one space. A backslash and any other character are passed over
+-- together.
 use Rattle.std.specs.Prelude.{[], ◌∷◌, ◌==◌, if◌then◌else◌}
 use Rattle.tclchars.specs.Bytes.{space, newline, backslash}
 use Rattle.tclchars.specs.Runs.{Text}
@@ -17,4 +18,6 @@ abbrev mutual
   pub behind_newline : Text → Text
   behind_newline [] = []
   behind_newline (b ∷ bs) =
-      if is_blank_or_tab b then behind_newline bs else if b == backslash then behind_backslash bs else b ∷ braced_text bs
+      if is_blank_or_tab b then behind_newline bs
+      else if b == backslash then behind_backslash bs
+      else b ∷ braced_text bs

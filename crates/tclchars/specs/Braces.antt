@@ -15,13 +15,20 @@ pub data Balanced : Text → Type 0 where
 abbrev pub behind : ℕ → Option (Text × Text) → Option (Text × Text)
 behind b found = option_map (λ p. (b ∷ p.0, p.1)) found
 
--- Inside braces, what one byte does: whether the next one is escaped, and how many braces are open inside. None: it closes
+-- Inside braces, what one byte does: whether the next one is escaped, and how many braces are open inside. None: it
+-- closes
 abbrev pub brace_step : Bool → ℕ → ℕ → Option (Bool × ℕ)
 brace_step true depth b = Some (false, depth)
 brace_step false zero b =
-    if b == backslash then Some (true, 0) else if b == left_brace then Some (false, 1) else if b == right_brace then None else Some (false, 0)
+    if b == backslash then Some (true, 0)
+    else if b == left_brace then Some (false, 1)
+    else if b == right_brace then None
+    else Some (false, 0)
 brace_step false (suc depth) b =
-    if b == backslash then Some (true, suc depth) else if b == left_brace then Some (false, suc (suc depth)) else if b == right_brace then Some (false, depth) else Some (false, suc depth)
+    if b == backslash then Some (true, suc depth)
+    else if b == left_brace then Some (false, suc (suc depth))
+    else if b == right_brace then Some (false, depth)
+    else Some (false, suc depth)
 
 abbrev pub after_step : ℕ → Text → (Bool → ℕ → Option (Text × Text)) → Option (Bool × ℕ) → Option (Text × Text)
 after_step b bs more None = Some ([], bs)

@@ -73,7 +73,8 @@ is_gap b = is_blank b || is_end b
 -- what has a meaning of its own somewhere in a script: " $ [ ] { } \
 abbrev pub is_special : ℕ → Bool
 is_special b =
-    b == quote || b == dollar || b == left_bracket || b == right_bracket || b == left_brace || b == right_brace || b == backslash
+    b == quote || b == dollar || b == left_bracket || b == right_bracket || b == left_brace || b == right_brace
+    || b == backslash
 
 -- what has none anywhere
 abbrev pub is_plain : ℕ → Bool

@@ -1,4 +1,5 @@
--- What a parser answers of a whole text within the limit of length: what is read of it, or its first fault with the place.
+-- What a parser answers of a whole text within the limit of length: what is read of it, or its first fault with the
+-- place.
 use Rattle.std.specs.Prelude.{◌≡◌, ◌≤◌, ◌<◌, ◌+◌, ℕ, length, nat_lt, if◌then◌else◌, Result, Ok, Err}
 use Rattle.tclchars.specs.Runs.{Text}
 use Rattle.tclchars.specs.Faults.{max_bytes}
@@ -14,8 +15,8 @@ use Rattle.tclchars.specs.declared.fault.TextFault.TheVariants as faults
 abbrev pub IsFaultAt : (Text → Fault → Type 0) → Text → ℕ → (ℕ → Fault) → Type 0
 IsFaultAt Is bs at mark = (length bs ≤ max_bytes) × (left : ℕ) × (at + left ≡ length bs) × Is bs (mark left)
 
--- What is wrong with a text, by the limit and the first fault: one past the limit is too long, whatever else is wrong. Want of
--- memory says nothing of the text.
+-- What is wrong with a text, by the limit and the first fault: one past the limit is too long, whatever else is wrong.
+-- Want of memory says nothing of the text.
 abbrev pub IsFaultOf : (Text → Fault → Type 0) → Text → TextFault → Type 0
 IsFaultOf Is bs faults.OutOfMemory = Unit {0}
 IsFaultOf Is bs (faults.OpenBrace at) = IsFaultAt Is bs at (λ left. OpenBrace left)

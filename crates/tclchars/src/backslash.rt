@@ -4,9 +4,9 @@ ghost use Rattle.tclchars.specs.Backslash.{after_backslash, letter_value, is_oct
 
 use crate::runs::{Class, split_front};
 
-/// The character that a backslash and what stands behind it stand for (Tcl(n), rule 9), and what follows, of a text behind a
-/// backslash. None at the text's end, at a code of half a pair of UTF-16, and at `U` before a hexadecimal digit. Takes no
-/// memory.
+/// The character that a backslash and what stands behind it stand for (Tcl(n), rule 9), and what follows, of a text
+/// behind a backslash. None at the text's end, at a code of half a pair of UTF-16, and at `U` before a hexadecimal
+/// digit. Takes no memory.
 pub fn read_backslash(text: &str) -> Option<(char, &str)>
     ensures { option_map (λ p. (encode_utf8 p.0, p.1.now)) result ≡ after_backslash text.now }
 {

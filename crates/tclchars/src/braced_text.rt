@@ -4,8 +4,8 @@ ghost use Rattle.tclchars.specs.BracedText.{braced_text, behind_backslash};
 use crate::runs::{Class, after_mark, split_front};
 use std::alloc::AllocError;
 
-/// Adds to `value` what the text between the braces of a word stands for: itself, but that a backslash before a newline and
-/// the blanks and tabs behind them are one space (Tcl(n), rules 6 and 9).
+/// Adds to `value` what the text between the braces of a word stands for: itself, but that a backslash before a newline
+/// and the blanks and tabs behind them are one space (Tcl(n), rules 6 and 9).
 pub fn push_braced_text(value: &mut String, inside: &str) -> Result<(), AllocError>
     ensures { OnOk result (string_bytes value.new ≡ string_bytes value.old ++ braced_text inside.now) }
 {
@@ -24,7 +24,8 @@ pub fn push_braced_text(value: &mut String, inside: &str) -> Result<(), AllocErr
 fn push_escape<'a>(value: &mut String, after: &'a str) -> Result<&'a str, AllocError>
     ensures shorter { IfOk result (λ rest. length rest.now ≤ length after.now) }
     ensures text { IfOk result
-        (λ rest. string_bytes value.new ++ braced_text rest.now ≡ string_bytes value.old ++ behind_backslash after.now) }
+        (λ rest. string_bytes value.new ++ braced_text rest.now
+        ≡ string_bytes value.old ++ behind_backslash after.now) }
 {
     if let Some(next) = after_mark(after, b'\n') {
         value.push(' ')?;

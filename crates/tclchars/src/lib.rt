@@ -1,5 +1,5 @@
-//! The characters of Tcl texts: which bytes mean something, what backslashes stand for, which braces match, and what can be
-//! wrong with a text.
+//! The characters of Tcl texts: which bytes mean something, what backslashes stand for, which braces match, and what
+//! can be wrong with a text.
 #![tactic(auto)]
 
 mod backslash;

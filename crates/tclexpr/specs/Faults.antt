@@ -1,4 +1,5 @@
--- What is wrong with a text that is no expression: the first mark or byte that can't stand there, or the text's end. By cases over texts.
+-- What is wrong with a text that is no expression: the first mark or byte that can't stand there, or the text's end. By
+-- cases over texts.
 use Rattle.std.specs.Prelude.{◌≡◌, ◌≢◌, ◌≤◌, ◌-◌, ℕ, suc, List, [], ◌∷◌, ◌++◌, length, Some, None, ◌⊎◌}
 use Rattle.tclchars.specs.Runs.{Text}
 use Rattle.tclchars.specs.declared.fault.Fault.{Fault}
@@ -37,35 +38,57 @@ Begins m = (m ≡ marks.Open) ⊎ ((u : UnaryOperator) × (sign_of m ≡ Some u)
 abbrev pub bad_next : Text → Fault
 bad_next bs = BadExpression (length (after_white bs))
 
--- OperandFault d bs f: the text can't begin with an operand in which brackets and parentheses nest no deeper than d, and f is why.
--- The number of a fault is how deep marks may still nest.
+-- OperandFault d bs f: the text can't begin with an operand in which brackets and parentheses nest no deeper than d,
+-- and f is why. The number of a fault is how deep marks may still nest.
 mutual
-  pub data ExprFault (O : Type 0) (IsOperand : Text → Text → O → ℕ → Type 0) (OperandFault : ℕ → Text → Fault → Type 0) : ℕ → Text → Fault → Type 0 where
-    in_condition : {d : ℕ} {bs : Text} {f : Fault} → ChainFault O IsOperand OperandFault d 13 bs f → ExprFault O IsOperand OperandFault d bs f
-    deep_choice : {d : ℕ} {bs : Text} (cs : List (Token O)) (c : Expr O) (after : Text) → IsChain O d 13 cs c → IsRow O IsOperand bs after (cs ++ mark marks.Question ∷ []) → ExprFault O IsOperand OperandFault d bs TooDeep
-    in_yes : {d : ℕ} {bs : Text} {f : Fault} (cs : List (Token O)) (c : Expr O) (h : ℕ) (after : Text) → IsChain O h 13 cs c → h ≤ d → IsRow O IsOperand bs after (cs ++ mark marks.Question ∷ [])
+  pub data ExprFault (O : Type 0) (IsOperand : Text → Text → O → ℕ → Type 0)
+      (OperandFault : ℕ → Text → Fault → Type 0) : ℕ → Text → Fault → Type 0 where
+    in_condition : {d : ℕ} {bs : Text} {f : Fault} → ChainFault O IsOperand OperandFault d 13 bs f
+        → ExprFault O IsOperand OperandFault d bs f
+    deep_choice : {d : ℕ} {bs : Text} (cs : List (Token O)) (c : Expr O) (after : Text) → IsChain O d 13 cs c
+        → IsRow O IsOperand bs after (cs ++ mark marks.Question ∷ []) → ExprFault O IsOperand OperandFault d bs TooDeep
+    in_yes : {d : ℕ} {bs : Text} {f : Fault} (cs : List (Token O)) (c : Expr O) (h : ℕ) (after : Text)
+        → IsChain O h 13 cs c → h ≤ d → IsRow O IsOperand bs after (cs ++ mark marks.Question ∷ [])
         → ExprFault O IsOperand OperandFault d after f → ExprFault O IsOperand OperandFault (suc d) bs f
-    no_colon : {d : ℕ} {bs : Text} (cs : List (Token O)) (c : Expr O) (h : ℕ) (ys : List (Token O)) (y : Expr O) (i : ℕ) (after : Text) → IsChain O h 13 cs c → h ≤ d → IsExpr O i ys y → i ≤ d
-        → IsRow O IsOperand bs after (cs ++ mark marks.Question ∷ ys) → NextIsNot (MayFollowOr marks.Colon) after → ExprFault O IsOperand OperandFault (suc d) bs (bad_next after)
-    in_no : {d : ℕ} {bs : Text} {f : Fault} (cs : List (Token O)) (c : Expr O) (h : ℕ) (ys : List (Token O)) (y : Expr O) (i : ℕ) (after : Text) → IsChain O h 13 cs c → h ≤ d → IsExpr O i ys y → i ≤ d
-        → IsRow O IsOperand bs after (cs ++ mark marks.Question ∷ (ys ++ mark marks.Colon ∷ [])) → ExprFault O IsOperand OperandFault d after f → ExprFault O IsOperand OperandFault (suc d) bs f
+    no_colon : {d : ℕ} {bs : Text} (cs : List (Token O)) (c : Expr O) (h : ℕ) (ys : List (Token O)) (y : Expr O) (i : ℕ)
+        (after : Text) → IsChain O h 13 cs c → h ≤ d → IsExpr O i ys y → i ≤ d
+        → IsRow O IsOperand bs after (cs ++ mark marks.Question ∷ ys) → NextIsNot (MayFollowOr marks.Colon) after
+        → ExprFault O IsOperand OperandFault (suc d) bs (bad_next after)
+    in_no : {d : ℕ} {bs : Text} {f : Fault} (cs : List (Token O)) (c : Expr O) (h : ℕ) (ys : List (Token O))
+        (y : Expr O) (i : ℕ) (after : Text) → IsChain O h 13 cs c → h ≤ d → IsExpr O i ys y → i ≤ d
+        → IsRow O IsOperand bs after (cs ++ mark marks.Question ∷ (ys ++ mark marks.Colon ∷ []))
+        → ExprFault O IsOperand OperandFault d after f → ExprFault O IsOperand OperandFault (suc d) bs f
 
-  pub data ChainFault (O : Type 0) (IsOperand : Text → Text → O → ℕ → Type 0) (OperandFault : ℕ → Text → Fault → Type 0) : ℕ → ℕ → Text → Fault → Type 0 where
-    in_operand : {d n : ℕ} {bs : Text} {f : Fault} → mark_at (after_white bs) ≡ None → OperandFault d (after_white bs) f → ChainFault O IsOperand OperandFault d n bs f
-    no_operand : {d n : ℕ} {bs : Text} (m : Mark) (after : Text) → mark_at (after_white bs) ≡ Some (m, after) → (Begins m → ⊥) → ChainFault O IsOperand OperandFault d n bs (bad_next bs)
-    deep_prefix : {n : ℕ} {bs : Text} (m : Mark) (after : Text) → mark_at (after_white bs) ≡ Some (m, after) → Begins m → ChainFault O IsOperand OperandFault 0 n bs TooDeep
-    in_signed : {d n : ℕ} {bs : Text} {f : Fault} (m : Mark) (u : UnaryOperator) (after : Text) → mark_at (after_white bs) ≡ Some (m, after) → sign_of m ≡ Some u
+  pub data ChainFault (O : Type 0) (IsOperand : Text → Text → O → ℕ → Type 0)
+      (OperandFault : ℕ → Text → Fault → Type 0) : ℕ → ℕ → Text → Fault → Type 0 where
+    in_operand : {d n : ℕ} {bs : Text} {f : Fault} → mark_at (after_white bs) ≡ None → OperandFault d (after_white bs) f
+        → ChainFault O IsOperand OperandFault d n bs f
+    no_operand : {d n : ℕ} {bs : Text} (m : Mark) (after : Text) → mark_at (after_white bs) ≡ Some (m, after)
+        → (Begins m → ⊥) → ChainFault O IsOperand OperandFault d n bs (bad_next bs)
+    deep_prefix : {n : ℕ} {bs : Text} (m : Mark) (after : Text) → mark_at (after_white bs) ≡ Some (m, after) → Begins m
+        → ChainFault O IsOperand OperandFault 0 n bs TooDeep
+    in_signed : {d n : ℕ} {bs : Text} {f : Fault} (m : Mark) (u : UnaryOperator) (after : Text)
+        → mark_at (after_white bs) ≡ Some (m, after) → sign_of m ≡ Some u
         → ChainFault O IsOperand OperandFault d 1 after f → ChainFault O IsOperand OperandFault (suc d) n bs f
-    in_open : {d n : ℕ} {bs : Text} {f : Fault} (after : Text) → mark_at (after_white bs) ≡ Some (marks.Open, after) → ExprFault O IsOperand OperandFault d after f → ChainFault O IsOperand OperandFault (suc d) n bs f
-    no_close : {d n : ℕ} {bs : Text} (ts : List (Token O)) (e : Expr O) (h : ℕ) (after : Text) → IsExpr O h ts e → h ≤ d → IsRow O IsOperand bs after (mark marks.Open ∷ ts) → NextIsNot (MayFollowOr marks.Close) after
+    in_open : {d n : ℕ} {bs : Text} {f : Fault} (after : Text) → mark_at (after_white bs) ≡ Some (marks.Open, after)
+        → ExprFault O IsOperand OperandFault d after f → ChainFault O IsOperand OperandFault (suc d) n bs f
+    no_close : {d n : ℕ} {bs : Text} (ts : List (Token O)) (e : Expr O) (h : ℕ) (after : Text) → IsExpr O h ts e → h ≤ d
+        → IsRow O IsOperand bs after (mark marks.Open ∷ ts) → NextIsNot (MayFollowOr marks.Close) after
         → ChainFault O IsOperand OperandFault (suc d) n bs (bad_next after)
-    deep_operator : {d n : ℕ} {bs : Text} (i : Infix) (ls : List (Token O)) (l : Expr O) (after : Text) → level i ≤ n → IsChain O d (level i) ls l → IsRow O IsOperand bs after (ls ++ mark (marks.Infix i) ∷ [])
+    deep_operator : {d n : ℕ} {bs : Text} (i : Infix) (ls : List (Token O)) (l : Expr O) (after : Text) → level i ≤ n
+        → IsChain O d (level i) ls l → IsRow O IsOperand bs after (ls ++ mark (marks.Infix i) ∷ [])
         → ChainFault O IsOperand OperandFault d n bs TooDeep
-    in_right : {d n : ℕ} {bs : Text} {f : Fault} (i : Infix) (ls : List (Token O)) (l : Expr O) (h : ℕ) (after : Text) → level i ≤ n → IsChain O h (level i) ls l → h ≤ d → IsRow O IsOperand bs after (ls ++ mark (marks.Infix i) ∷ [])
-        → ChainFault O IsOperand OperandFault d (level i - 1) after f → ChainFault O IsOperand OperandFault (suc d) n bs f
+    in_right : {d n : ℕ} {bs : Text} {f : Fault} (i : Infix) (ls : List (Token O)) (l : Expr O) (h : ℕ) (after : Text)
+        → level i ≤ n → IsChain O h (level i) ls l → h ≤ d
+        → IsRow O IsOperand bs after (ls ++ mark (marks.Infix i) ∷ [])
+        → ChainFault O IsOperand OperandFault d (level i - 1) after f
+        → ChainFault O IsOperand OperandFault (suc d) n bs f
 
 -- the first fault of a text
-pub data ExprTextFault (O : Type 0) (IsOperand : Text → Text → O → ℕ → Type 0) (OperandFault : ℕ → Text → Fault → Type 0) : ℕ → Text → Fault → Type 0 where
-  inside : {d : ℕ} {bs : Text} {f : Fault} → ExprFault O IsOperand OperandFault d bs f → ExprTextFault O IsOperand OperandFault d bs f
-  left_over : {d : ℕ} {bs : Text} (ts : List (Token O)) (e : Expr O) (h : ℕ) (after : Text) → IsExpr O h ts e → h ≤ d → IsRow O IsOperand bs after ts → NextIsNot MayFollow after → after_white after ≢ []
+pub data ExprTextFault (O : Type 0) (IsOperand : Text → Text → O → ℕ → Type 0)
+    (OperandFault : ℕ → Text → Fault → Type 0) : ℕ → Text → Fault → Type 0 where
+  inside : {d : ℕ} {bs : Text} {f : Fault} → ExprFault O IsOperand OperandFault d bs f
+      → ExprTextFault O IsOperand OperandFault d bs f
+  left_over : {d : ℕ} {bs : Text} (ts : List (Token O)) (e : Expr O) (h : ℕ) (after : Text) → IsExpr O h ts e → h ≤ d
+      → IsRow O IsOperand bs after ts → NextIsNot MayFollow after → after_white after ≢ []
       → ExprTextFault O IsOperand OperandFault d bs (bad_next after)

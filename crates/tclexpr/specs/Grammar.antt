@@ -50,13 +50,18 @@ sign_of m = None
 mutual
   pub data IsExpr (O : Type 0) : ℕ → List (Token O) → Expr O → Type 0 where
     simple : {h : ℕ} {ts : List (Token O)} {e : Expr O} → IsChain O h 13 ts e → IsExpr O h ts e
-    choosing : {h i j : ℕ} (cs ys ns : List (Token O)) {c y n : Expr O} → IsChain O h 13 cs c → IsExpr O i ys y → IsExpr O j ns n
+    choosing : {h i j : ℕ} (cs ys ns : List (Token O)) {c y n : Expr O} → IsChain O h 13 cs c → IsExpr O i ys y
+        → IsExpr O j ns n
         → IsExpr O (suc (max h (max i j))) (cs ++ mark marks.Question ∷ (ys ++ mark marks.Colon ∷ ns)) (choice c y n)
 
-  -- the same, where no operator between two operands, outside parentheses, is of a level above the second number; operators group to the left
+  -- the same, where no operator between two operands, outside parentheses, is of a level above the second number;
+  -- operators group to the left
   pub data IsChain (O : Type 0) : ℕ → ℕ → List (Token O) → Expr O → Type 0 where
     single : {h n : ℕ} (o : O) → IsChain O h n (value o h ∷ []) (operand o)
-    in_parentheses : {h n : ℕ} (ts : List (Token O)) {e : Expr O} → IsExpr O h ts e → IsChain O (suc h) n (mark marks.Open ∷ (ts ++ mark marks.Close ∷ [])) e
-    signed : {h n : ℕ} {m : Mark} (u : UnaryOperator) {ts : List (Token O)} {e : Expr O} → sign_of m ≡ Some u → IsChain O h 1 ts e → IsChain O (suc h) n (mark m ∷ ts) (unary u e)
-    joining : {h j n : ℕ} (i : Infix) (ls rs : List (Token O)) {l r : Expr O} → level i ≤ n → IsChain O h (level i) ls l → IsChain O j (level i - 1) rs r
+    in_parentheses : {h n : ℕ} (ts : List (Token O)) {e : Expr O} → IsExpr O h ts e
+        → IsChain O (suc h) n (mark marks.Open ∷ (ts ++ mark marks.Close ∷ [])) e
+    signed : {h n : ℕ} {m : Mark} (u : UnaryOperator) {ts : List (Token O)} {e : Expr O} → sign_of m ≡ Some u
+        → IsChain O h 1 ts e → IsChain O (suc h) n (mark m ∷ ts) (unary u e)
+    joining : {h j n : ℕ} (i : Infix) (ls rs : List (Token O)) {l r : Expr O} → level i ≤ n → IsChain O h (level i) ls l
+        → IsChain O j (level i - 1) rs r
         → IsChain O (suc (max h j)) n (ls ++ mark (marks.Infix i) ∷ rs) (joined i l r)

@@ -19,7 +19,9 @@ IsSubstitution bs rest p k = (t : Text) × (bs ≡ t ++ rest) × IsPart InQuotes
 
 -- a truth word: a longest run of letters, digits and underscores, before what is no parenthesis
 abbrev pub IsTruthWord : Text → Text → Type 0
-IsTruthWord t rest = AllPass is_name t × MayBegin (λ b. not (is_name b)) rest × (is_truth t ≡ true) × (begins left_parenthesis rest ≡ false)
+IsTruthWord t rest =
+    AllPass is_name t × MayBegin (λ b. not (is_name b)) rest × (is_truth t ≡ true)
+    × (begins left_parenthesis rest ≡ false)
 
 -- the text begins with this operand, in which brackets and parentheses nest so deep, and the rest follows it
 abbrev pub IsOperand : Text → Text → Operand → ℕ → Type 0
@@ -28,7 +30,9 @@ IsOperand bs rest (word t) k = (bs ≡ t ++ rest) × (after_number bs ≡ None) 
 IsOperand bs rest (variable name) k = IsSubstitution bs rest (tree.variable name) k
 IsOperand bs rest (indexed name ps) k = IsSubstitution bs rest (tree.indexed name ps) k
 IsOperand bs rest (bracket s) k = IsSubstitution bs rest (tree.bracket s) k
-IsOperand bs rest (quoted ps) k = (inside : Text) × (bs ≡ quote ∷ (inside ++ quote ∷ rest)) × IsParts InQuotes ps inside (quote ∷ rest) × (k ≡ parts_nesting ps)
+IsOperand bs rest (quoted ps) k =
+    (inside : Text) × (bs ≡ quote ∷ (inside ++ quote ∷ rest)) × IsParts InQuotes ps inside (quote ∷ rest)
+    × (k ≡ parts_nesting ps)
 IsOperand bs rest (braced t) k = (bs ≡ left_brace ∷ (t ++ right_brace ∷ rest)) × Balanced t × (k ≡ 0)
 
 -- a byte that begins an operand of a script: $ [ " {
@@ -37,9 +41,13 @@ is_opening b = b == dollar || b == left_bracket || b == quote || b == left_brace
 
 -- no operand begins the text, or the one that does is wrong; the number says how many brackets and parentheses may nest
 pub data OperandFault : ℕ → Text → Fault → Type 0 where
-  in_substitution : {d : ℕ} {bs : Text} {f : Fault} → DoesBegin (λ b. b == dollar || b == left_bracket) bs → PartFault d bs f → OperandFault d bs f
-  lone_dollar : {d : ℕ} {bs : Text} → IsDollar (dollar ∷ []) bs → OperandFault d (dollar ∷ bs) (BadExpression (suc (length bs)))
+  in_substitution : {d : ℕ} {bs : Text} {f : Fault} → DoesBegin (λ b. b == dollar || b == left_bracket) bs
+      → PartFault d bs f → OperandFault d bs f
+  lone_dollar : {d : ℕ} {bs : Text} → IsDollar (dollar ∷ []) bs
+      → OperandFault d (dollar ∷ bs) (BadExpression (suc (length bs)))
   open_brace : {d : ℕ} {bs : Text} → NeverCloses bs → OperandFault d (left_brace ∷ bs) (OpenBrace (suc (length bs)))
   in_quotes : {d : ℕ} {bs : Text} {f : Fault} → PartsFault d InQuotes bs f → OperandFault d (quote ∷ bs) f
-  open_quote : {d : ℕ} {bs : Text} (ps : Parts) → IsParts InQuotes ps bs [] → parts_nesting ps ≤ d → OperandFault d (quote ∷ bs) (OpenQuote (suc (length bs)))
-  no_operand : {d : ℕ} {bs : Text} → MayBegin (λ b. not (is_opening b)) bs → after_number bs ≡ None → ((t rest : Text) → bs ≡ t ++ rest → IsTruthWord t rest → ⊥) → OperandFault d bs (BadExpression (length bs))
+  open_quote : {d : ℕ} {bs : Text} (ps : Parts) → IsParts InQuotes ps bs [] → parts_nesting ps ≤ d
+      → OperandFault d (quote ∷ bs) (OpenQuote (suc (length bs)))
+  no_operand : {d : ℕ} {bs : Text} → MayBegin (λ b. not (is_opening b)) bs → after_number bs ≡ None
+      → ((t rest : Text) → bs ≡ t ++ rest → IsTruthWord t rest → ⊥) → OperandFault d bs (BadExpression (length bs))

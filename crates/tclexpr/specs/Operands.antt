@@ -67,7 +67,9 @@ after_sign (b ∷ bs) = if is_sign b then bs else b ∷ bs
 -- what follows an exponent, if there is one: e or E, a sign or none, and digits
 abbrev pub after_exponent : Text → Text
 after_exponent [] = []
-after_exponent (b ∷ bs) = if (b == 101 || b == 69) && begins_digit Decimal (after_sign bs) then after_digits Decimal (after_sign bs) else b ∷ bs
+after_exponent (b ∷ bs) =
+    if (b == 101 || b == 69) && begins_digit Decimal (after_sign bs) then after_digits Decimal (after_sign bs)
+    else b ∷ bs
 
 -- what follows a point and its digits, if there is a point
 abbrev pub after_fraction : Text → Text
@@ -82,7 +84,9 @@ begins_point (b ∷ bs) = (b == 46) && begins_digit Decimal bs
 -- what follows a decimal number: digits with a point or without one, with an exponent or without one
 abbrev pub after_decimal : Text → Option Text
 after_decimal bs =
-    if begins_digit Decimal bs || begins_point bs then Some (after_exponent (after_fraction (after_digits Decimal bs))) else None
+    if begins_digit Decimal bs || begins_point bs
+    then Some (after_exponent (after_fraction (after_digits Decimal bs)))
+    else None
 
 abbrev pub first_of_both : Option Text → Option Text → Option Text
 first_of_both None other = other
@@ -105,7 +109,8 @@ is_front (a ∷ xs) (b ∷ bs) = (lower a == b) && is_front xs bs
 
 abbrev pub begins_truth : Text → Bool
 begins_truth bs =
-    is_front bs (116 ∷ (114 ∷ (117 ∷ (101 ∷ [])))) || is_front bs (102 ∷ (97 ∷ (108 ∷ (115 ∷ (101 ∷ []))))) || is_front bs (121 ∷ (101 ∷ (115 ∷ []))) || is_front bs (110 ∷ (111 ∷ []))
+    is_front bs (116 ∷ (114 ∷ (117 ∷ (101 ∷ [])))) || is_front bs (102 ∷ (97 ∷ (108 ∷ (115 ∷ (101 ∷ [])))))
+    || is_front bs (121 ∷ (101 ∷ (115 ∷ []))) || is_front bs (110 ∷ (111 ∷ []))
 
 abbrev pub begins_switch : Text → Bool
 begins_switch bs = is_front bs (111 ∷ (110 ∷ [])) || is_front bs (111 ∷ (102 ∷ (102 ∷ [])))
@@ -147,7 +152,8 @@ braced_text_at bs = operand_in_braces (suc (length bs)) (braced_at false 0 bs)
 -- a word, where it is a truth word and no parenthesis follows it directly
 unfoldable pub word_at : Text → Read (Operand × ℕ)
 word_at bs =
-    if is_truth (front is_name bs) && not (begins left_parenthesis (back is_name bs)) then Ok ((word (front is_name bs), 0), back is_name bs)
+    if is_truth (front is_name bs) && not (begins left_parenthesis (back is_name bs))
+    then Ok ((word (front is_name bs), 0), back is_name bs)
     else Err (BadExpression (length bs))
 
 abbrev pub numeric : Text → Option Text → Read (Operand × ℕ)

@@ -92,19 +92,22 @@ module _ {O : Type 0} (read_operand : ℕ → Text → Read (O × ℕ)) where
   prefix_at d below bs = begun_at d below (after_white bs) (mark_at (after_white bs))
 
   -- behind an expression, an operator of that level at most and the rest of the chain, or the chain's end
-  abbrev pub next_at : ℕ → (Extent → Text → Read (WithHeight O)) → ℕ → (WithHeight O → Text → Read (WithHeight O)) → WithHeight O → Text → Text → Option Infix → Read (WithHeight O)
+  abbrev pub next_at : ℕ → (Extent → Text → Read (WithHeight O)) → ℕ → (WithHeight O → Text → Read (WithHeight O))
+      → WithHeight O → Text → Text → Option Infix → Read (WithHeight O)
   next_at d below n more x bs rest None = Ok (x, bs)
   next_at d below n more x bs rest (Some i) =
       if nat_le (level i) n then
       if nat_lt x.1 d then below (chain (level i - 1)) rest >>= (λ y. more (join i x y.0) y.1) else Err TooDeep
       else Ok (x, bs)
 
-  abbrev pub going_at : ℕ → (Extent → Text → Read (WithHeight O)) → ℕ → (WithHeight O → Text → Read (WithHeight O)) → WithHeight O → Text → Option (Mark × Text) → Read (WithHeight O)
+  abbrev pub going_at : ℕ → (Extent → Text → Read (WithHeight O)) → ℕ → (WithHeight O → Text → Read (WithHeight O))
+      → WithHeight O → Text → Option (Mark × Text) → Read (WithHeight O)
   going_at d below n more x bs None = Ok (x, bs)
   going_at d below n more x bs (Some p) = next_at d below n more x bs p.1 (infix_of p.0)
 
   -- the number bounds the turns: one more than the length is enough
-  unfoldable pub climb_at : ℕ → (Extent → Text → Read (WithHeight O)) → ℕ → ℕ → WithHeight O → Text → Read (WithHeight O)
+  unfoldable pub climb_at : ℕ → (Extent → Text → Read (WithHeight O)) → ℕ → ℕ → WithHeight O → Text
+      → Read (WithHeight O)
   climb_at d below n zero x bs = Err TooDeep
   climb_at d below n (suc turns) x bs = going_at d below n (climb_at d below n turns) x bs (mark_at (after_white bs))
 
@@ -119,7 +122,8 @@ module _ {O : Type 0} (read_operand : ℕ → Text → Read (O × ℕ)) where
     z ← below whole after
     Ok ((choice x.0 y.0.0 z.0.0, suc (max x.1 (max y.0.1 z.0.1))), z.1)
 
-  abbrev pub choosing_at : ℕ → (Extent → Text → Read (WithHeight O)) → WithHeight O → Text → Option (Mark × Text) → Read (WithHeight O)
+  abbrev pub choosing_at : ℕ → (Extent → Text → Read (WithHeight O)) → WithHeight O → Text → Option (Mark × Text)
+      → Read (WithHeight O)
   choosing_at d below x bs None = Ok (x, bs)
   choosing_at d below x bs (Some p) =
       if is_question p.0 then

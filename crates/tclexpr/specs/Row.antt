@@ -5,7 +5,8 @@ use Rattle.tclexpr.specs.Tree.{Expr, Token, value, mark}
 use Rattle.tclexpr.specs.Grammar.{IsExpr}
 use Rattle.tclexpr.specs.Marks.{after_white, mark_at}
 
--- IsOperand bs rest o k: the text bs begins with the operand o, in which brackets and parentheses nest k deep, and rest follows it
+-- IsOperand bs rest o k: the text bs begins with the operand o, in which brackets and parentheses nest k deep, and rest
+-- follows it
 module _ (O : Type 0) (IsOperand : Text → Text → O → ℕ → Type 0) where
   -- behind white space the text begins with this token, and rest follows it
   abbrev pub IsToken : Text → Text → Token O → Type 0
@@ -19,4 +20,5 @@ module _ (O : Type 0) (IsOperand : Text → Text → O → ℕ → Type 0) where
 
   -- the text is an expression with this tree, nested as deep as the number says
   abbrev pub IsExprText : ℕ → Text → Expr O → Type 0
-  IsExprText h bs e = (ts : List (Token O)) × (rest : Text) × IsExpr O h ts e × IsRow bs rest ts × (after_white rest ≡ [])
+  IsExprText h bs e =
+      (ts : List (Token O)) × (rest : Text) × IsExpr O h ts e × IsRow bs rest ts × (after_white rest ≡ [])

@@ -23,7 +23,8 @@ operand_view shown (rust_operand.Bracket s) = operands.bracket (script_view show
 operand_view shown (rust_operand.Quoted ps) = operands.quoted (parts_view shown ps.items)
 operand_view shown (rust_operand.Braced s) = operands.braced (shown s)
 
-abbrev pub expr_step : {P : Type 0} → (P → Text) → rust.Expr-F P (tree.Expr operands.Operand) → tree.Expr operands.Operand
+abbrev pub expr_step : {P : Type 0} → (P → Text) → rust.Expr-F P (tree.Expr operands.Operand)
+    → tree.Expr operands.Operand
 expr_step shown (rust.Expr-F.Operand o) = tree.operand (operand_view shown o)
 expr_step shown (rust.Expr-F.Unary u e) = tree.unary u e.value
 expr_step shown (rust.Expr-F.Binary b l r) = tree.binary b l.value r.value

@@ -19,8 +19,8 @@ pub fn one_fault()
         → IsWithin bs e → ⊥ }
 {}
 
-/// `expr_of` gives a tree exactly where the grammar has it within the limits, and a fault exactly where that is the text's; want of
-/// memory never.
+/// `expr_of` gives a tree exactly where the grammar has it within the limits, and a fault exactly where that is the
+/// text's; want of memory never.
 pub fn expr_of_grammar()
     ensures tree { (bs : Text) (e : Expr Operand) → (expr_of bs ≡ Ok e) ↔ IsWithin bs e }
     ensures fault { (bs : Text) (f : TextFault) → f ≢ OutOfMemory → (expr_of bs ≡ Err f) ↔ IsTextFault bs f }

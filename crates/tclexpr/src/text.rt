@@ -17,11 +17,11 @@ use std::alloc::Global;
 use tclchars::{Fault, MAX_BYTES, MAX_NESTING, ReadError, TextFault, place};
 use tclscript::Source;
 
-/// The tree of an expression (expr(n)), whose pieces are slices of the text. Takes memory in proportion to the text's length, time
-/// in proportion to that and, behind operands, to how deep they nest, and copies no text.
+/// The tree of an expression (expr(n)), whose pieces are slices of the text. Takes memory in proportion to the text's
+/// length, time in proportion to that and, behind operands, to how deep they nest, and copies no text.
 ///
-/// A text that is no expression is refused with the first fault in it and its place; a text of more than 1,048,576 bytes is
-/// `TooLong`, and `OutOfMemory` says nothing of the text.
+/// A text that is no expression is refused with the first fault in it and its place; a text of more than 1,048,576
+/// bytes is `TooLong`, and `OutOfMemory` says nothing of the text.
 pub fn parse_expr(alloc: Global, text: &str) -> Result<Expr<&str>, TextFault>
     // A tree that is returned is the text's, within the limits.
     ensures found { IfOk result (λ e. IsWithin text.now (expr_view (λ piece. piece.now) e)) }

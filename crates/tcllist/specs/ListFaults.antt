@@ -23,20 +23,27 @@ abbrev pub StandsForNothing : Text → Type 0
 StandsForNothing [] = ⊥
 StandsForNothing (b ∷ bs) = after_backslash (b ∷ bs) ≡ None
 
--- An element that is wrong stands in front of the text. A fault has the number of bytes from its mark on: from the mark that nothing
--- closes, the character that is joined to what closes, or the backslash that stands for nothing
+-- An element that is wrong stands in front of the text. A fault has the number of bytes from its mark on: from the mark
+-- that nothing closes, the character that is joined to what closes, or the backslash that stands for nothing
 pub data IsWrong : Text → Fault → Type 0 where
-  open_brace : {bs : Text} → ((inside rest : Text) → bs ≡ inside ++ right_brace ∷ rest → Balanced inside → ⊥) → IsWrong (left_brace ∷ bs) (marks.OpenBrace (suc (length bs)))
-  joined_to_brace : {bs : Text} (inside rest : Text) → bs ≡ inside ++ right_brace ∷ rest → Balanced inside → IsJoined rest → IsWrong (left_brace ∷ bs) (marks.JoinedToClose (length rest))
-  open_quote : {bs e rest : Text} → Piece is_quote bs e rest → IsLast rest → IsWrong (quote ∷ bs) (marks.OpenQuote (suc (length bs)))
-  joined_to_quote : {bs e rest : Text} → Piece is_quote bs e (quote ∷ rest) → IsJoined rest → IsWrong (quote ∷ bs) (marks.JoinedToClose (length rest))
-  bad_in_quotes : {bs e rest : Text} → Piece is_quote bs e (backslash ∷ rest) → StandsForNothing rest → IsWrong (quote ∷ bs) (marks.BadCharacter (suc (length rest)))
-  bad_in_bare : {bs e rest : Text} → DoesBegin begins_element bs → Piece is_space bs e (backslash ∷ rest) → StandsForNothing rest → IsWrong bs (marks.BadCharacter (suc (length rest)))
+  open_brace : {bs : Text} → ((inside rest : Text) → bs ≡ inside ++ right_brace ∷ rest → Balanced inside → ⊥)
+      → IsWrong (left_brace ∷ bs) (marks.OpenBrace (suc (length bs)))
+  joined_to_brace : {bs : Text} (inside rest : Text) → bs ≡ inside ++ right_brace ∷ rest → Balanced inside
+      → IsJoined rest → IsWrong (left_brace ∷ bs) (marks.JoinedToClose (length rest))
+  open_quote : {bs e rest : Text} → Piece is_quote bs e rest → IsLast rest
+      → IsWrong (quote ∷ bs) (marks.OpenQuote (suc (length bs)))
+  joined_to_quote : {bs e rest : Text} → Piece is_quote bs e (quote ∷ rest) → IsJoined rest
+      → IsWrong (quote ∷ bs) (marks.JoinedToClose (length rest))
+  bad_in_quotes : {bs e rest : Text} → Piece is_quote bs e (backslash ∷ rest) → StandsForNothing rest
+      → IsWrong (quote ∷ bs) (marks.BadCharacter (suc (length rest)))
+  bad_in_bare : {bs e rest : Text} → DoesBegin begins_element bs → Piece is_space bs e (backslash ∷ rest)
+      → StandsForNothing rest → IsWrong bs (marks.BadCharacter (suc (length rest)))
 
 -- white space and elements, as in a list, and then an element that is wrong
 pub data IsFaulty : Text → Fault → Type 0 where
   here : (spaces body : Text) {f : Fault} → AllPass is_space spaces → IsWrong body f → IsFaulty (spaces ++ body) f
-  behind : (spaces body : Text) {e rest : Text} {f : Fault} → AllPass is_space spaces → IsElement body e rest → MayBegin is_space rest → IsFaulty rest f → IsFaulty (spaces ++ body) f
+  behind : (spaces body : Text) {e rest : Text} {f : Fault} → AllPass is_space spaces → IsElement body e rest
+      → MayBegin is_space rest → IsFaulty rest f → IsFaulty (spaces ++ body) f
 
 -- what is wrong with a text: it is too long, or its fault
 abbrev pub IsListFault : Text → TextFault → Type 0

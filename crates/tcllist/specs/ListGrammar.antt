@@ -1,16 +1,19 @@
--- The grammar of lists: which texts are lists, with their elements (Tcl(n), list words as lindex(n) reads them), by cases on the elements.
+-- The grammar of lists: which texts are lists, with their elements (Tcl(n), list words as lindex(n) reads them), by
+-- cases on the elements.
 use Rattle.std.specs.Prelude.{◌≡◌, ℕ, List, [], ◌∷◌, ◌++◌, Bool, false, not, ◌||◌, ◌==◌, Some}
 use Rattle.tclchars.specs.Bytes.{backslash, is_space, AllPass, MayBegin, DoesBegin, quote, left_brace, right_brace}
 use Rattle.tclchars.specs.Runs.{Text}
 use Rattle.tclchars.specs.Backslash.{after_backslash}
 use Rattle.tclchars.specs.Braces.{Balanced}
 
--- A piece of an element that is bare or in quotes, with its value and what follows. A byte that neither ends the element nor is a
--- backslash stands for itself, and a backslash with what is read behind it for what Tcl(n) says
+-- A piece of an element that is bare or in quotes, with its value and what follows. A byte that neither ends the
+-- element nor is a backslash stands for itself, and a backslash with what is read behind it for what Tcl(n) says
 pub data Piece (ends : ℕ → Bool) : Text → Text → Text → Type 0 where
   nothing : {rest : Text} → Piece ends rest [] rest
-  plain : {b : ℕ} {bs ts rest : Text} → ends b ≡ false → (b == backslash) ≡ false → Piece ends bs ts rest → Piece ends (b ∷ bs) (b ∷ ts) rest
-  substituted : {bs ts rest : Text} (v r : Text) → after_backslash bs ≡ Some (v, r) → Piece ends r ts rest → Piece ends (backslash ∷ bs) (v ++ ts) rest
+  plain : {b : ℕ} {bs ts rest : Text} → ends b ≡ false → (b == backslash) ≡ false → Piece ends bs ts rest
+      → Piece ends (b ∷ bs) (b ∷ ts) rest
+  substituted : {bs ts rest : Text} (v r : Text) → after_backslash bs ≡ Some (v, r) → Piece ends r ts rest
+      → Piece ends (backslash ∷ bs) (v ++ ts) rest
 
 abbrev pub is_quote : ℕ → Bool
 is_quote b = b == quote
@@ -26,7 +29,8 @@ begins_element b = not (is_space b || b == quote || b == left_brace)
 
 -- an element stands in front of the text, with its value and what follows; in braces it is taken as it stands
 pub data IsElement : Text → Text → Text → Type 0 where
-  in_braces : {bs e : Text} (rest : Text) → bs ≡ e ++ right_brace ∷ rest → Balanced e → IsElement (left_brace ∷ bs) e rest
+  in_braces : {bs e : Text} (rest : Text) → bs ≡ e ++ right_brace ∷ rest → Balanced e
+      → IsElement (left_brace ∷ bs) e rest
   in_quotes : {bs e rest : Text} → Piece is_quote bs e (quote ∷ rest) → IsElement (quote ∷ bs) e rest
   bare : {bs e rest : Text} → DoesBegin begins_element bs → Bare bs e rest → IsElement bs e rest
 

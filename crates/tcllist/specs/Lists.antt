@@ -26,22 +26,30 @@ closed_one zero = None
 closed_one (suc depth) = Some depth
 
 abbrev pub depth_after : ℕ → ℕ → Option ℕ
-depth_after depth b = if b == backslash then None else if b == left_brace then Some (suc depth) else if b == right_brace then closed_one depth else Some depth
+depth_after depth b =
+    if b == backslash then None
+    else if b == left_brace then Some (suc depth)
+    else if b == right_brace then closed_one depth
+    else Some depth
 
 abbrev pub goes_on : (ℕ → Bool) → Option ℕ → Bool
 goes_on more None = false
 goes_on more (Some depth) = more depth
 
--- an element that may stand in braces, where so many are open in front: it has no backslash, no front of it closes more than are open,
--- and the whole leaves none open
+-- an element that may stand in braces, where so many are open in front: it has no backslash, no front of it closes more
+-- than are open, and the whole leaves none open
 abbrev pub balances : ℕ → Text → Bool
 balances depth [] = depth == 0
 balances depth (b ∷ bs) = goes_on (λ d. balances d bs) (depth_after depth b)
 
--- what stands behind a backslash for a marked byte: a letter for newline, tab, carriage return, vertical tab and form feed, else itself
+-- what stands behind a backslash for a marked byte: a letter for newline, tab, carriage return, vertical tab and form
+-- feed, else itself
 abbrev pub letter_of : ℕ → ℕ
 letter_of b =
-    if b == newline then 110 else if b == tab then 116 else if b == carriage_return then 114 else if b == vertical_tab then 118
+    if b == newline then 110
+    else if b == tab then 116
+    else if b == carriage_return then 114
+    else if b == vertical_tab then 118
     else if b == form_feed then 102 else b
 
 abbrev pub escape : ℕ → Text

@@ -23,8 +23,8 @@ pub fn one_list_fault()
         → IsListFault bs f → IsList bs es → ⊥ }
 {}
 
-/// Within the limit, `list_of` gives elements exactly where the grammar has them; it gives a fault exactly where that is the
-/// text's, want of memory never.
+/// Within the limit, `list_of` gives elements exactly where the grammar has them; it gives a fault exactly where that
+/// is the text's, want of memory never.
 pub fn list_of_grammar()
     ensures elements { (bs : Text) (es : List Text) → length bs ≤ max_bytes → (list_of bs ≡ Ok es) ↔ IsList bs es }
     ensures fault { (bs : Text) (f : TextFault) → f ≢ OutOfMemory → (list_of bs ≡ Err f) ↔ IsListFault bs f }
@@ -37,8 +37,8 @@ pub fn before_list_fault()
         → BeginsList before }
 {}
 
-/// No list begins with a text up to and with the character that is joined to a closing brace or quote, and none with a text
-/// that has a backslash that stands for nothing.
+/// No list begins with a text up to and with the character that is joined to a closing brace or quote, and none with a
+/// text that has a backslash that stands for nothing.
 pub fn no_list_begins_so()
     ensures joined { (bs more : Text) (at : ℕ) (es : List Text) → IsListFault bs (JoinedToClose at)
         → IsList (take (at + 1) bs ++ more) es → ⊥ }

@@ -16,14 +16,14 @@ use tclchars::{
     split_close, split_front,
 };
 
-/// The elements of a list (Tcl(n), lindex(n)): they are parted by white space. One in braces is taken as it stands; in one that
-/// is bare or in quotes, backslashes stand for characters.
+/// The elements of a list (Tcl(n), lindex(n)): they are parted by white space. One in braces is taken as it stands; in
+/// one that is bare or in quotes, backslashes stand for characters.
 ///
 /// - `TooLong`: the text has more than 1,048,576 bytes, whatever else is wrong.
 /// - `OpenBrace`, `OpenQuote`: nothing closes the brace or the quote at this place.
 /// - `JoinedToClose`: the character at this place follows a closing brace or quote and is no white space.
-/// - `BadCharacter`: the backslash at this place stands for no character: `\U` and a hexadecimal digit, or a code from D800 to
-///   DFFF.
+/// - `BadCharacter`: the backslash at this place stands for no character: `\U` and a hexadecimal digit, or a code from
+///   D800 to DFFF.
 /// - `OutOfMemory`: a growth was refused.
 pub fn parse_list(alloc: Global, text: &str) -> Result<Vec<String>, TextFault>
     // Elements that are returned are the text's.

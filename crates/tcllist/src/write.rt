@@ -7,7 +7,8 @@ ghost use Rattle.tcllist.specs.Lists.{is_marked, begins_marked, begins_bare, is_
 use std::alloc::{AllocError, Global};
 use tclchars::{Class, after_mark, split_front};
 
-/// The text of a list with these elements: they are parted by one space, and stand as they are, in braces, or with backslashes.
+/// The text of a list with these elements: they are parted by one space, and stand as they are, in braces, or with
+/// backslashes.
 pub fn write_list(alloc: Global, elements: &[&str]) -> Result<String, AllocError>
     ensures text { IfOk result (λ text. string_bytes text ≡ list_text (map (λ e. e.now) elements.now)) }
     ensures read { IfOk result (λ text. IsList (string_bytes text) (map (λ e. e.now) elements.now)) }

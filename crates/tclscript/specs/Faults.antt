@@ -1,5 +1,6 @@
--- What is wrong with a text that is no script: the first mark or character that a reader from left to right can't go past. By
--- cases over the whole text from somewhere in it to the source's end, with the number of bytes from the mark on.
+-- What is wrong with a text that is no script: the first mark or character that a reader from left to right can't go
+-- past. By cases over the whole text from somewhere in it to the source's end, with the number of bytes from the mark
+-- on.
 use Rattle.std.specs.Prelude.{◌≡◌, ◌≢◌, ℕ, zero, suc, ◌≤◌, ◌<◌, ◌+◌, [], ◌∷◌, ◌++◌, length, Bool, true, false, not, ◌||◌, ◌==◌, None}
 use Rattle.tclchars.specs.Runs.{Text}
 use Rattle.tclchars.specs.Bytes.{hash, backslash, AllPass, DoesBegin, dollar, left_brace, left_bracket, left_parenthesis, quote, right_brace, star}
@@ -30,52 +31,70 @@ Expands nested bs = (rest : Text) × (bs ≡ left_brace ∷ (star ∷ (right_bra
 mutual
   -- of commands, in the first of them or a later one
   pub data CommandsFault : ℕ → Bool → Text → Fault → Type 0 where
-    first_command : {d : ℕ} {nested : Bool} (gap : Text) {body : Text} {f : Fault} → IsGap gap body → DoesBegin (λ b. not (b == hash)) body
+    first_command : {d : ℕ} {nested : Bool} (gap : Text) {body : Text} {f : Fault} → IsGap gap body
+        → DoesBegin (λ b. not (b == hash)) body
         → CommandFault d nested body f → CommandsFault d nested (gap ++ body) f
-    later_command : {d : ℕ} {nested : Bool} (gap source body : Text) (ws : Words) {rest : Text} {f : Fault} → IsGap gap (body ++ rest) → DoesBegin (λ b. not (b == hash)) body
-        → IsCommand nested source ws body rest → words_nesting ws ≤ d → CommandsFault d nested rest f → CommandsFault d nested (gap ++ (body ++ rest)) f
+    later_command : {d : ℕ} {nested : Bool} (gap source body : Text) (ws : Words) {rest : Text} {f : Fault}
+        → IsGap gap (body ++ rest) → DoesBegin (λ b. not (b == hash)) body
+        → IsCommand nested source ws body rest → words_nesting ws ≤ d → CommandsFault d nested rest f
+        → CommandsFault d nested (gap ++ (body ++ rest)) f
 
   -- of a command, in its first word or a later one
   pub data CommandFault : ℕ → Bool → Text → Fault → Type 0 where
     first_word : {d : ℕ} {nested : Bool} {bs : Text} {f : Fault} → WordFault d nested bs f → CommandFault d nested bs f
-    later_word : {d : ℕ} {nested : Bool} (body : Text) (w : Word) {rest : Text} {f : Fault} → IsWord nested w body rest → word_nesting w ≤ d
+    later_word : {d : ℕ} {nested : Bool} (body : Text) (w : Word) {rest : Text} {f : Fault} → IsWord nested w body rest
+        → word_nesting w ≤ d
         → WordsFault d nested rest f → CommandFault d nested (body ++ rest) f
 
   pub data WordsFault : ℕ → Bool → Text → Fault → Type 0 where
-    next_word : {d : ℕ} {nested : Bool} (blanks : Text) {body : Text} {f : Fault} → IsBlanks blanks → WordFault d nested body f → WordsFault d nested (blanks ++ body) f
-    word_after : {d : ℕ} {nested : Bool} (blanks body : Text) (w : Word) {rest : Text} {f : Fault} → IsBlanks blanks → IsWord nested w body rest → word_nesting w ≤ d
+    next_word : {d : ℕ} {nested : Bool} (blanks : Text) {body : Text} {f : Fault} → IsBlanks blanks
+        → WordFault d nested body f → WordsFault d nested (blanks ++ body) f
+    word_after : {d : ℕ} {nested : Bool} (blanks body : Text) (w : Word) {rest : Text} {f : Fault} → IsBlanks blanks
+        → IsWord nested w body rest → word_nesting w ≤ d
         → WordsFault d nested rest f → WordsFault d nested (blanks ++ (body ++ rest)) f
 
   pub data WordFault : ℕ → Bool → Text → Fault → Type 0 where
-    plain : {d : ℕ} {nested : Bool} {bs : Text} {f : Fault} → (Expands nested bs → ⊥) → PlainFault d nested bs f → WordFault d nested bs f
-    expanding : {d : ℕ} {nested : Bool} {body : Text} {f : Fault} → word_ends nested body ≡ false → PlainFault d nested body f
+    plain : {d : ℕ} {nested : Bool} {bs : Text} {f : Fault} → (Expands nested bs → ⊥) → PlainFault d nested bs f
+        → WordFault d nested bs f
+    expanding : {d : ℕ} {nested : Bool} {body : Text} {f : Fault} → word_ends nested body ≡ false
+        → PlainFault d nested body f
         → WordFault d nested (left_brace ∷ (star ∷ (right_brace ∷ body))) f
 
   -- of a word in braces, in quotes or bare
   pub data PlainFault : ℕ → Bool → Text → Fault → Type 0 where
-    open_brace : {d : ℕ} {nested : Bool} {bs : Text} → NeverCloses bs → PlainFault d nested (left_brace ∷ bs) (OpenBrace (suc (length bs)))
+    open_brace : {d : ℕ} {nested : Bool} {bs : Text} → NeverCloses bs
+        → PlainFault d nested (left_brace ∷ bs) (OpenBrace (suc (length bs)))
     joined_brace : {d : ℕ} {nested : Bool} (inside rest : Text) → Balanced inside → word_ends nested rest ≡ false
         → PlainFault d nested (left_brace ∷ (inside ++ right_brace ∷ rest)) (JoinedToClose (length rest))
-    in_quotes : {d : ℕ} {nested : Bool} {bs : Text} {f : Fault} → PartsFault d InQuotes bs f → PlainFault d nested (quote ∷ bs) f
-    open_quote : {d : ℕ} {nested : Bool} {bs : Text} (ps : Parts) → IsParts InQuotes ps bs [] → parts_nesting ps ≤ d → PlainFault d nested (quote ∷ bs) (OpenQuote (suc (length bs)))
-    joined_quote : {d : ℕ} {nested : Bool} (inside rest : Text) (ps : Parts) → IsParts InQuotes ps inside (quote ∷ rest) → parts_nesting ps ≤ d → word_ends nested rest ≡ false
+    in_quotes : {d : ℕ} {nested : Bool} {bs : Text} {f : Fault} → PartsFault d InQuotes bs f
+        → PlainFault d nested (quote ∷ bs) f
+    open_quote : {d : ℕ} {nested : Bool} {bs : Text} (ps : Parts) → IsParts InQuotes ps bs [] → parts_nesting ps ≤ d
+        → PlainFault d nested (quote ∷ bs) (OpenQuote (suc (length bs)))
+    joined_quote : {d : ℕ} {nested : Bool} (inside rest : Text) (ps : Parts) → IsParts InQuotes ps inside (quote ∷ rest)
+        → parts_nesting ps ≤ d → word_ends nested rest ≡ false
         → PlainFault d nested (quote ∷ (inside ++ quote ∷ rest)) (JoinedToClose (length rest))
-    in_bare : {d : ℕ} {nested : Bool} {bs : Text} {f : Fault} → DoesBegin (λ b. not (b == left_brace || b == quote)) bs → PartsFault d (bare nested) bs f → PlainFault d nested bs f
+    in_bare : {d : ℕ} {nested : Bool} {bs : Text} {f : Fault} → DoesBegin (λ b. not (b == left_brace || b == quote)) bs
+        → PartsFault d (bare nested) bs f → PlainFault d nested bs f
 
   -- of parts, in the first of them or a later one
   pub data PartsFault : ℕ → Context → Text → Fault → Type 0 where
     first_part : {d : ℕ} {c : Context} {bs : Text} {f : Fault} → PartFault d bs f → PartsFault d c bs f
-    later_part : {d : ℕ} {c : Context} (body : Text) (p : Part) {rest : Text} {f : Fault} → parts_end c (body ++ rest) ≡ false → IsPart c p body rest → part_nesting p ≤ d
+    later_part : {d : ℕ} {c : Context} (body : Text) (p : Part) {rest : Text} {f : Fault}
+        → parts_end c (body ++ rest) ≡ false → IsPart c p body rest → part_nesting p ≤ d
         → PartsFault d c rest f → PartsFault d c (body ++ rest) f
 
   pub data PartFault : ℕ → Text → Fault → Type 0 where
-    open_name : {d : ℕ} {bs : Text} → AllPass (in_class InName) bs → PartFault d (dollar ∷ (left_brace ∷ bs)) (OpenBrace (suc (length bs)))
-    bad_character : {d : ℕ} {bs : Text} → bs ≢ [] → after_backslash bs ≡ None → PartFault d (backslash ∷ bs) (BadCharacter (suc (length bs)))
+    open_name : {d : ℕ} {bs : Text} → AllPass (in_class InName) bs
+        → PartFault d (dollar ∷ (left_brace ∷ bs)) (OpenBrace (suc (length bs)))
+    bad_character : {d : ℕ} {bs : Text} → bs ≢ [] → after_backslash bs ≡ None
+        → PartFault d (backslash ∷ bs) (BadCharacter (suc (length bs)))
     bracket_too_deep : {bs : Text} → PartFault zero (left_bracket ∷ bs) TooDeep
     in_bracket : {d : ℕ} {bs : Text} {f : Fault} → CommandsFault d true bs f → PartFault (suc d) (left_bracket ∷ bs) f
-    open_bracket : {d : ℕ} {bs : Text} (s : Commands) → IsCommands (length bs) true s bs [] → nesting s ≤ d → PartFault (suc d) (left_bracket ∷ bs) (OpenBracket (suc (length bs)))
+    open_bracket : {d : ℕ} {bs : Text} (s : Commands) → IsCommands (length bs) true s bs [] → nesting s ≤ d
+        → PartFault (suc d) (left_bracket ∷ bs) (OpenBracket (suc (length bs)))
     index_too_deep : (name bs : Text) → IsName name → PartFault zero (dollar ∷ (name ++ left_parenthesis ∷ bs)) TooDeep
-    in_index : {d : ℕ} (name bs : Text) {f : Fault} → IsName name → PartsFault d InIndex bs f → PartFault (suc d) (dollar ∷ (name ++ left_parenthesis ∷ bs)) f
+    in_index : {d : ℕ} (name bs : Text) {f : Fault} → IsName name → PartsFault d InIndex bs f
+        → PartFault (suc d) (dollar ∷ (name ++ left_parenthesis ∷ bs)) f
     open_index : {d : ℕ} (name bs : Text) (ps : Parts) → IsName name → IsParts InIndex ps bs [] → parts_nesting ps ≤ d
         → PartFault (suc d) (dollar ∷ (name ++ left_parenthesis ∷ bs)) (BadCharacter (suc (length bs)))
 

@@ -1,5 +1,5 @@
--- The grammar: which texts are scripts, with their trees (Tcl(n)), by cases on the tree over whole texts. A text stands before
--- what follows it in the source, since what follows says where it ends.
+-- The grammar: which texts are scripts, with their trees (Tcl(n)), by cases on the tree over whole texts. A text stands
+-- before what follows it in the source, since what follows says where it ends.
 use Rattle.std.specs.Prelude.{◌≡◌, ◌≢◌, ◌⊎◌, ℕ, ◌+◌, [], ◌∷◌, ◌++◌, length, Bool, true, false, not, ◌||◌, ◌==◌, Some}
 use Rattle.tclchars.specs.Runs.{Text}
 use Rattle.tclchars.specs.Bytes.{newline, hash, backslash, is_blank, is_gap, AllPass, MayBegin, DoesBegin, colon, dollar, left_brace, left_bracket, left_parenthesis, quote, right_brace, right_bracket, right_parenthesis, star}
@@ -25,8 +25,8 @@ pub data IsComment : Text → Type 0 where
   other : {b : ℕ} {bs : Text} → b ≢ backslash → b ≢ newline → IsComment bs → IsComment (b ∷ bs)
   escaped : {b : ℕ} {bs : Text} → IsComment bs → IsComment (backslash ∷ (b ∷ bs))
 
--- What stands between commands, before what follows: white space, ends of commands, newlines behind backslashes, and comments
--- up to a newline or to the source's end, where a backslash may be the last byte.
+-- What stands between commands, before what follows: white space, ends of commands, newlines behind backslashes, and
+-- comments up to a newline or to the source's end, where a backslash may be the last byte.
 pub data IsGap : Text → Text → Type 0 where
   nothing : {after : Text} → IsGap [] after
   space : {b : ℕ} {bs after : Text} → is_gap b ≡ true → IsGap bs after → IsGap (b ∷ bs) after
@@ -48,12 +48,16 @@ pub data IsName : Text → Type 0 where
 abbrev pub IsLongestName : Text → Text → Type 0
 IsLongestName name after = IsName name × ((more rest : Text) → after ≡ more ++ rest → IsName (name ++ more) → more ≡ [])
 
--- what stands for itself, before what follows: a longest run; a dollar sign that begins no variable; a backslash at the end
+-- what stands for itself, before what follows: a longest run; a dollar sign that begins no variable; a backslash at the
+-- end
 abbrev pub IsRun : Context → Text → Text → Type 0
-IsRun c t after = DoesBegin (in_class (class_of c)) t × AllPass (in_class (class_of c)) t × MayBegin (λ b. not (in_class (class_of c) b)) after
+IsRun c t after =
+    DoesBegin (in_class (class_of c)) t × AllPass (in_class (class_of c)) t
+    × MayBegin (λ b. not (in_class (class_of c) b)) after
 
 abbrev pub IsDollar : Text → Text → Type 0
-IsDollar t after = (t ≡ dollar ∷ []) × IsLongestName [] after × MayBegin (λ b. not (b == left_parenthesis || b == left_brace)) after
+IsDollar t after =
+    (t ≡ dollar ∷ []) × IsLongestName [] after × MayBegin (λ b. not (b == left_parenthesis || b == left_brace)) after
 
 abbrev pub IsLastBackslash : Text → Text → Type 0
 IsLastBackslash t after = (t ≡ backslash ∷ []) × (after ≡ [])
@@ -63,7 +67,8 @@ IsLiteral c t after = IsRun c t after ⊎ (IsDollar t after ⊎ IsLastBackslash 
 
 -- $name, not before a parenthesis
 abbrev pub IsPlainVariable : Text → Text → Text → Type 0
-IsPlainVariable name bs after = (bs ≡ dollar ∷ name) × (name ≢ []) × IsLongestName name after × MayBegin (λ b. not (b == left_parenthesis)) after
+IsPlainVariable name bs after =
+    (bs ≡ dollar ∷ name) × (name ≢ []) × IsLongestName name after × MayBegin (λ b. not (b == left_parenthesis)) after
 
 -- ${name}
 abbrev pub IsBracedVariable : Text → Text → Type 0
@@ -77,37 +82,48 @@ pub record Split (bs : Text) (First : Text → Text → Type 0) (Second : Text �
   pub is_first : First first second
   pub is_second : Second second
 
--- A word in braces, in quotes or bare, of these parts: Stands says of which texts they are the parts. A word ends behind it.
+-- A word in braces, in quotes or bare, of these parts: Stands says of which texts they are the parts. A word ends
+-- behind it.
 abbrev pub IsBracedWord : Parts → Text → Type 0
-IsBracedWord ps bs = (inside : Text) × (ps ≡ part (braced inside) no_parts) × (bs ≡ left_brace ∷ (inside ++ right_brace ∷ [])) × Balanced inside
+IsBracedWord ps bs =
+    (inside : Text) × (ps ≡ part (braced inside) no_parts) × (bs ≡ left_brace ∷ (inside ++ right_brace ∷ []))
+    × Balanced inside
 
 abbrev pub IsQuotedWord : (Context → Text → Text → Type 0) → Text → Text → Type 0
-IsQuotedWord Stands bs after = (inside : Text) × (bs ≡ quote ∷ (inside ++ quote ∷ [])) × Stands InQuotes inside (quote ∷ after)
+IsQuotedWord Stands bs after =
+    (inside : Text) × (bs ≡ quote ∷ (inside ++ quote ∷ [])) × Stands InQuotes inside (quote ∷ after)
 
 abbrev pub IsBareWord : Bool → (Context → Text → Text → Type 0) → Text → Text → Type 0
-IsBareWord nested Stands bs after = DoesBegin (λ b. not (b == left_brace || b == quote)) bs × Stands (bare nested) bs after
+IsBareWord nested Stands bs after =
+    DoesBegin (λ b. not (b == left_brace || b == quote)) bs × Stands (bare nested) bs after
 
 abbrev pub IsPlainWord : Bool → Parts → (Context → Text → Text → Type 0) → Text → Text → Type 0
-IsPlainWord nested ps Stands bs after = (word_ends nested after ≡ true) × (IsBracedWord ps bs ⊎ (IsQuotedWord Stands bs after ⊎ IsBareWord nested Stands bs after))
+IsPlainWord nested ps Stands bs after =
+    (word_ends nested after ≡ true) × (IsBracedWord ps bs
+    ⊎ (IsQuotedWord Stands bs after ⊎ IsBareWord nested Stands bs after))
 
 -- the mark {*} and a text, where the word doesn't end between them
 abbrev pub IsExpanding : Bool → (Text → Type 0) → Text → Text → Type 0
-IsExpanding nested Is bs after = (body : Text) × (bs ≡ left_brace ∷ (star ∷ (right_brace ∷ body))) × (word_ends nested (body ++ after) ≡ false) × Is body
+IsExpanding nested Is bs after =
+    (body : Text) × (bs ≡ left_brace ∷ (star ∷ (right_brace ∷ body))) × (word_ends nested (body ++ after) ≡ false)
+    × Is body
 
 -- The flag says that the text stands in brackets.
 abbrev mutual
-  -- commands, with gaps before them and behind the last; a command doesn't begin as a comment does. The number is how many bytes
-  -- the script has: those before a command's place and those from there on.
+  -- commands, with gaps before them and behind the last; a command doesn't begin as a comment does. The number is how
+  -- many bytes the script has: those before a command's place and those from there on.
   pub IsCommands : ℕ → Bool → Commands → Text → Text → Type 0
   IsCommands size nested no_commands bs after = IsGap bs after × (script_ends nested after ≡ true)
   IsCommands size nested (command place source ws cs) bs after =
       Split bs (λ gap more. IsGap gap (more ++ after) × (place + length more ≡ size))
-      (λ more. Split more (λ body rest. DoesBegin (λ b. not (b == hash)) body × IsCommand nested source ws body (rest ++ after)) (λ rest. IsCommands size nested cs rest after))
+      (λ more. Split more (λ body rest. DoesBegin (λ b. not (b == hash)) body
+      × IsCommand nested source ws body (rest ++ after)) (λ rest. IsCommands size nested cs rest after))
 
   -- the words of a command, and the source of the first
   pub IsCommand : Bool → Text → Words → Text → Text → Type 0
   IsCommand nested source no_words bs after = ⊥
-  IsCommand nested source (word w ws) bs after = (rest : Text) × (bs ≡ source ++ rest) × IsWord nested w source (rest ++ after) × IsWords nested ws rest after
+  IsCommand nested source (word w ws) bs after =
+      (rest : Text) × (bs ≡ source ++ rest) × IsWord nested w source (rest ++ after) × IsWords nested ws rest after
 
   -- more words of a command, behind blanks, up to its end
   pub IsWords : Bool → Words → Text → Text → Type 0
@@ -118,21 +134,28 @@ abbrev mutual
 
   pub IsWord : Bool → Word → Text → Text → Type 0
   IsWord nested (word_of false ps) bs after = IsPlainWord nested ps (λ c inside more. IsParts c ps inside more) bs after
-  IsWord nested (word_of true ps) bs after = IsExpanding nested (λ body. IsPlainWord nested ps (λ c inside more. IsParts c ps inside more) body after) bs after
+  IsWord nested (word_of true ps) bs after =
+      IsExpanding nested (λ body. IsPlainWord nested ps (λ c inside more. IsParts c ps inside more) body after) bs after
 
   -- parts, up to where no more can follow
   pub IsParts : Context → Parts → Text → Text → Type 0
   IsParts c no_parts bs after = (bs ≡ []) × (parts_end c after ≡ true)
   IsParts c (part p ps) bs after =
-      Split bs (λ body rest. (parts_end c (body ++ (rest ++ after)) ≡ false) × IsPart c p body (rest ++ after)) (λ rest. IsParts c ps rest after)
+      Split bs (λ body rest. (parts_end c (body ++ (rest ++ after)) ≡ false)
+      × IsPart c p body (rest ++ after)) (λ rest. IsParts c ps rest after)
 
   pub IsPart : Context → Part → Text → Text → Type 0
   IsPart c (literal t) bs after = (bs ≡ t) × IsLiteral c t after
   IsPart c (braced t) bs after = ⊥
-  IsPart c (tree.backslash value) bs after = (escape : Text) × (bs ≡ backslash ∷ escape) × (after_backslash (escape ++ after) ≡ Some (value, after))
+  IsPart c (tree.backslash value) bs after =
+      (escape : Text) × (bs ≡ backslash ∷ escape) × (after_backslash (escape ++ after) ≡ Some (value, after))
   IsPart c (variable name) bs after = IsPlainVariable name bs after ⊎ IsBracedVariable name bs
-  IsPart c (indexed name ps) bs after = (inside : Text) × (bs ≡ dollar ∷ (name ++ left_parenthesis ∷ (inside ++ right_parenthesis ∷ []))) × IsName name × IsParts InIndex ps inside (right_parenthesis ∷ after)
-  IsPart c (bracket s) bs after = (inside : Text) × (bs ≡ left_bracket ∷ (inside ++ right_bracket ∷ [])) × IsCommands (length inside) true s inside (right_bracket ∷ after)
+  IsPart c (indexed name ps) bs after =
+      (inside : Text) × (bs ≡ dollar ∷ (name ++ left_parenthesis ∷ (inside ++ right_parenthesis ∷ []))) × IsName name
+      × IsParts InIndex ps inside (right_parenthesis ∷ after)
+  IsPart c (bracket s) bs after =
+      (inside : Text) × (bs ≡ left_bracket ∷ (inside ++ right_bracket ∷ []))
+      × IsCommands (length inside) true s inside (right_bracket ∷ after)
 
 -- the text is a script with this tree
 abbrev pub IsScript : Text → Commands → Type 0

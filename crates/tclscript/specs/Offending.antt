@@ -1,5 +1,5 @@
--- Which texts a script begins with, and what offends: a script begins with the text before it, and none with the text up to
--- and with it.
+-- Which texts a script begins with, and what offends: a script begins with the text before it, and none with the text
+-- up to and with it.
 use Rattle.std.specs.Prelude.{◌≡◌, ◌≢◌, [], ◌∷◌, ◌++◌, None}
 use Rattle.tclchars.specs.Runs.{Text}
 use Rattle.tclchars.specs.Bytes.{backslash}
@@ -13,8 +13,8 @@ use Rattle.tclscript.specs.Grammar.{IsScript}
 abbrev pub GoesOn : Text → Type 0
 GoesOn bs = (more : Text) × (s : Commands) × IsScript (bs ++ more) s
 
--- A front of what stands behind a closing brace or quote: a byte, and behind a backslash another one, as a backslash before a
--- newline may stand there.
+-- A front of what stands behind a closing brace or quote: a byte, and behind a backslash another one, as a backslash
+-- before a newline may stand there.
 abbrev pub IsOffender : Text → Type 0
 IsOffender [] = ⊥
 IsOffender (b ∷ []) = b ≢ backslash

@@ -8,14 +8,16 @@ use Rattle.tclscript.specs.declared.runs.Passing.TheVariants.{Blanks, Joined, Ga
 
 -- between the words of a command: blanks, and backslashes before newlines
 abbrev pub step_blanks : ℕ → Text → Option Passing
-step_blanks b after = if is_blank b then Some Blanks else if b == backslash && begins newline after then Some Joined else None
+step_blanks b after =
+    if is_blank b then Some Blanks else if b == backslash && begins newline after then Some Joined else None
 
 abbrev pub step_joined : ℕ → Option Passing
 step_joined b = if b == newline then Some Blanks else None
 
 -- between commands: white space, semicolons, backslashes before newlines, and comments
 abbrev pub step_gap : ℕ → Text → Option Passing
-step_gap b after = if is_gap b || (b == backslash && begins newline after) then Some Gap else if b == hash then Some Comment else None
+step_gap b after =
+    if is_gap b || (b == backslash && begins newline after) then Some Gap else if b == hash then Some Comment else None
 
 -- a comment ends at a newline; a backslash takes the next byte along
 abbrev pub step_comment : ℕ → Passing
@@ -23,7 +25,8 @@ step_comment b = if b == newline then Gap else if b == backslash then Escaped el
 
 -- letters, digits, underscores, and runs of two or more colons
 abbrev pub step_name : Bool → ℕ → Text → Option Passing
-step_name colons b after = if is_name b then Some Name else if b == colon && (colons || begins colon after) then Some Colons else None
+step_name colons b after =
+    if is_name b then Some Name else if b == colon && (colons || begins colon after) then Some Colons else None
 
 -- what a byte before others makes of what is passed over; None: it isn't passed
 abbrev pub step : Passing → ℕ → Text → Option Passing

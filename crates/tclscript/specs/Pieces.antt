@@ -10,8 +10,10 @@ IsFrontOf whole piece = (after : Text) × (whole ≡ piece ++ after)
 
 -- a character begins there, or the text ends
 abbrev pub is_boundary : Text → ℕ → Bool
-is_boundary bs i = nat_le i (length bs) && (nat_le (length bs) i || nat_lt (slice_index bs i) 128 || nat_le 192 (slice_index bs i))
+is_boundary bs i =
+    nat_le i (length bs) && (nat_le (length bs) i || nat_lt (slice_index bs i) 128 || nat_le 192 (slice_index bs i))
 
 -- what stands between two places, or nothing where they cut a character
 abbrev pub between : Text → ℕ → ℕ → Text
-between bs start end = if nat_le start end && (is_boundary bs start && is_boundary bs end) then take (end - start) (drop start bs) else []
+between bs start end =
+    if nat_le start end && (is_boundary bs start && is_boundary bs end) then take (end - start) (drop start bs) else []

@@ -1,4 +1,5 @@
--- Reading a script from left to right, with the first fault that is met. A fault has the number of bytes from its mark on.
+-- Reading a script from left to right, with the first fault that is met. A fault has the number of bytes from its mark
+-- on.
 use Rattle.std.specs.Prelude.{ℕ, zero, suc, ◌-◌, List, [], ◌∷◌, length, take, Bool, true, false, ◌==◌, if◌then◌else◌, Option, Some, None, Result, Ok, Err}
 use Rattle.tclchars.specs.Runs.{Text, front, back}
 use Rattle.tclchars.specs.Bytes as bytes
@@ -66,7 +67,8 @@ plain_variable (b ∷ bs) = variable (b ∷ bs)
 
 -- behind a name
 abbrev pub after_name : Inner → Text × Text → Read Part
-after_name inner p = on_mark left_parenthesis p.1 (λ bs. read_map (indexed p.0) (index_at inner bs)) (Ok (plain_variable p.0, p.1))
+after_name inner p =
+    on_mark left_parenthesis p.1 (λ bs. read_map (indexed p.0) (index_at inner bs)) (Ok (plain_variable p.0, p.1))
 
 -- behind a dollar
 unfoldable pub dollar_at : Inner → Text → Read Part
@@ -88,10 +90,13 @@ literal_at context bs = Ok (literal (front (in_class (class_of context)) bs), ba
 
 -- one part, where parts don't end
 unfoldable pub part_at : Context → Inner → Text → Read Part
-part_at context inner bs = on_mark dollar bs (dollar_at inner) (on_mark left_bracket bs (bracket_at inner) (on_mark bytes.backslash bs backslash_at (literal_at context bs)))
+part_at context inner bs =
+    on_mark dollar bs (dollar_at inner) (on_mark left_bracket bs (bracket_at inner)
+    (on_mark bytes.backslash bs backslash_at (literal_at context bs)))
 
 unfoldable pub parts_with : Context → Inner → Text → Read Parts
-parts_with context inner bs = read_map parts_of (items_at (λ bs. bs) (parts_end context) (part_at context inner) (suc (length bs)) bs)
+parts_with context inner bs =
+    read_map parts_of (items_at (λ bs. bs) (parts_end context) (part_at context inner) (suc (length bs)) bs)
 
 -- Words
 
@@ -120,14 +125,18 @@ quoted_word_at nested inner bs = do
 
 -- a word that doesn't expand
 unfoldable pub plain_word_at : Bool → Inner → Text → Read Parts
-plain_word_at nested inner bs = on_mark left_brace bs (braced_word_at nested) (on_mark quote bs (quoted_word_at nested inner) (parts_with (bare nested) inner bs))
+plain_word_at nested inner bs =
+    on_mark left_brace bs (braced_word_at nested)
+    (on_mark quote bs (quoted_word_at nested inner) (parts_with (bare nested) inner bs))
 
 abbrev pub unless_word_ends : Bool → Text → Option Text
 unless_word_ends nested bs = if word_ends nested bs then None else Some bs
 
 -- what follows the mark {*}, unless a word ends there
 unfoldable pub after_expansion : Bool → Text → Option Text
-after_expansion nested bs = on_mark left_brace bs (λ xs. on_mark star xs (λ ys. on_mark right_brace ys (unless_word_ends nested) None) None) None
+after_expansion nested bs =
+    on_mark left_brace bs (λ xs. on_mark star xs
+    (λ ys. on_mark right_brace ys (unless_word_ends nested) None) None) None
 
 abbrev pub word_from : Bool → Inner → Text → Option Text → Read Word
 word_from nested inner bs None = read_map (word_of false) (plain_word_at nested inner bs)
@@ -150,19 +159,23 @@ words_at nested inner bs = items_at skip_blanks (command_ends nested) (word_at n
 unfoldable pub command_at : ℕ → Bool → Inner → Text → Read Command
 command_at place nested inner bs = do
   w ← word_at nested inner bs
-  read_map (λ ws. record { place = place; source = taken bs w.1; words = word w.0 (words_of ws) }) (words_at nested inner w.1)
+  read_map (λ ws. record { place = place; source = taken bs w.1; words = word w.0 (words_of ws) })
+      (words_at nested inner w.1)
 
 -- a command of a script that has so many bytes, with what follows it
 abbrev pub command_in : ℕ → Bool → Inner → Text → Read Command
 command_in size nested inner bs = command_at (size - length bs) nested inner bs
 
 unfoldable pub script_with : Bool → Inner → Text → Read Commands
-script_with nested inner bs = read_map commands_of (items_at skip_gap (script_ends nested) (command_in (length bs) nested inner) (suc (length bs)) bs)
+script_with nested inner bs =
+    read_map commands_of (items_at skip_gap (script_ends nested) (command_in (length bs) nested inner)
+    (suc (length bs)) bs)
 
 -- the readers of what may nest no deeper than the number
 unfoldable pub inner_at : ℕ → Inner
 inner_at zero = record { script = λ bs. Err TooDeep; index = λ bs. Err TooDeep }
-inner_at (suc depth) = record { script = script_with true (inner_at depth); index = parts_with InIndex (inner_at depth) }
+inner_at (suc depth) =
+    record { script = script_with true (inner_at depth); index = parts_with InIndex (inner_at depth) }
 
 unfoldable pub script_at : ℕ → Text → Result Commands Fault
 script_at depth bs = script_with false (inner_at depth) bs >>= (λ x. Ok x.0)

@@ -4,7 +4,8 @@ use Rattle.std.specs.Prelude.{ℕ, List, [], ◌∷◌, Bool, max, suc}
 use Rattle.tclchars.specs.Runs.{Text}
 
 mutual
-  -- commands, each with the place of its first word, in bytes from the front of the script, and with that word's source text
+  -- commands, each with the place of its first word, in bytes from the front of the script, and with that word's source
+  -- text
   pub data Commands : Type 0 where
     no_commands : Commands
     command : ℕ → Text → Words → Commands → Commands
@@ -21,9 +22,9 @@ mutual
     no_parts : Parts
     part : Part → Parts → Parts
 
-  -- Literal is a text that stands for itself; braced is what stands between the braces of a word, as it is; backslash is what
-  -- a backslash stands for; variable and indexed have the variable's name, and the parts of an index; bracket is a script
-  -- that stands for its result.
+  -- Literal is a text that stands for itself; braced is what stands between the braces of a word, as it is; backslash
+  -- is what a backslash stands for; variable and indexed have the variable's name, and the parts of an index; bracket
+  -- is a script that stands for its result.
   pub data Part : Type 0 where
     literal : Text → Part
     braced : Text → Part

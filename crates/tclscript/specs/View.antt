@@ -28,16 +28,20 @@ abbrev pub script_step : {P : Type 0} → Script-F P Part tree.Command Commands 
 script_step s = commands_of s.commands.items
 
 abbrev pub part_view : {P : Type 0} → (P → Text) → rust_part.Part P → Part
-part_view {P} shown = rust_part.fold-Part P Part tree.Command Commands Word (part_step shown) (command_step shown) script_step word_step
+part_view {P} shown =
+    rust_part.fold-Part P Part tree.Command Commands Word (part_step shown) (command_step shown) script_step word_step
 
 abbrev pub word_view : {P : Type 0} → (P → Text) → rust_word.Word P → Word
-word_view {P} shown = rust_word.fold-Word P Part tree.Command Commands Word (part_step shown) (command_step shown) script_step word_step
+word_view {P} shown =
+    rust_word.fold-Word P Part tree.Command Commands Word (part_step shown) (command_step shown) script_step word_step
 
 abbrev pub command_view : {P : Type 0} → (P → Text) → Command P → tree.Command
-command_view {P} shown = fold-Command P Part tree.Command Commands Word (part_step shown) (command_step shown) script_step word_step
+command_view {P} shown =
+    fold-Command P Part tree.Command Commands Word (part_step shown) (command_step shown) script_step word_step
 
 abbrev pub script_view : {P : Type 0} → (P → Text) → Script P → Commands
-script_view {P} shown = fold-Script P Part tree.Command Commands Word (part_step shown) (command_step shown) script_step word_step
+script_view {P} shown =
+    fold-Script P Part tree.Command Commands Word (part_step shown) (command_step shown) script_step word_step
 
 abbrev pub parts_view : {P : Type 0} → (P → Text) → List (rust_part.Part P) → Parts
 parts_view shown ps = parts_of (map (part_view shown) ps)

@@ -39,7 +39,8 @@ pub(crate) fn bare(nested: bool) -> Context
     }
 }
 
-/// Whether a word ends before the text: nothing follows it, or white space, an end of the command, or the bracket that closes.
+/// Whether a word ends before the text: nothing follows it, or white space, an end of the command, or the bracket that
+/// closes.
 pub(crate) fn word_ends(text: &str, nested: bool) -> bool
     ensures { result ≡ word_ends nested text.now }
 {

@@ -25,8 +25,8 @@ pub fn one_fault()
         → f ≡ g }
 {}
 
-/// `script_of` gives a tree exactly where the grammar has it within the limits, and a fault exactly where that is the text's,
-/// want of memory never; and a text with a fault has no tree within the limits.
+/// `script_of` gives a tree exactly where the grammar has it within the limits, and a fault exactly where that is the
+/// text's, want of memory never; and a text with a fault has no tree within the limits.
 pub fn script_of_grammar()
     ensures tree { (bs : Text) (s : Commands) → (script_of bs ≡ Ok s) ↔ IsWithin bs s }
     ensures fault { (bs : Text) (f : TextFault) → f ≢ OutOfMemory → (script_of bs ≡ Err f) ↔ IsTextFault bs f }
@@ -35,9 +35,10 @@ pub fn script_of_grammar()
         → ⊥ }
 {}
 
-/// Where a text that isn't nested too deeply is wrong, a script begins with the text before that place. What follows a closing
-/// brace or quote, or what a backslash begins, offends: no script begins with the text up to and with it, however deep that
-/// nests; of what a backslash begins five bytes show it at most. Where a mark is open, a script begins with the whole text.
+/// Where a text that isn't nested too deeply is wrong, a script begins with the text before that place. What follows a
+/// closing brace or quote, or what a backslash begins, offends: no script begins with the text up to and with it,
+/// however deep that nests; of what a backslash begins five bytes show it at most. Where a mark is open, a script
+/// begins with the whole text.
 pub fn first_offending()
     ensures before_mark { (before rest : Text) (f : Fault) → IsFault max_nesting (before ++ rest) f → f ≢ TooDeep
         → left_of f ≡ length rest → GoesOn before }

@@ -2,8 +2,8 @@ ghost use Rattle.std.specs.Prelude.{◌≡◌, ◌+◌, ℕ, length};
 ghost use Rattle.tclchars.specs.Runs.{Text};
 ghost use Rattle.tclscript.specs.Pieces.{IsEndOf, IsFrontOf, between};
 
-/// A source text, of which a `P` stands for a piece: `text` is the whole, `shown` the text that a piece stands for, and `stands`
-/// where it stands, by the places of its first byte and of the one behind its last.
+/// A source text, of which a `P` stands for a piece: `text` is the whole, `shown` the text that a piece stands for, and
+/// `stands` where it stands, by the places of its first byte and of the one behind its last.
 pub trait Source<P> {
     ghost text: { Self → Text };
 
@@ -51,7 +51,8 @@ pub struct ByteRange {
 }
 
 impl ByteRange {
-    /// What stands there in the text; nothing where the range cuts a character, ends before it starts, or ends past the text.
+    /// What stands there in the text; nothing where the range cuts a character, ends before it starts, or ends past the
+    /// text.
     pub fn of(self, text: &str) -> &str
         ensures { result.now ≡ between text.now self.start self.end }
     {

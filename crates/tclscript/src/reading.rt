@@ -142,7 +142,8 @@ fn read_braced<'a, S: Source<P>, P: Drop>(
     nested: bool,
 ) -> Result<(Vec<Part<P>>, &'a str), ReadError>
     requires { IsEndOf (S.text source.now) text.now }
-    ensures { Gives (λ x. (parts_view (S.shown source.now) x.0.items, x.1.now)) result (braced_word_at nested text.now) }
+    ensures { Gives (λ x. (parts_view (S.shown source.now) x.0.items, x.1.now)) result
+        (braced_word_at nested text.now) }
 {
     let Some((inner, after)) = split_close(text) else {
         return Err(ReadError::Fault(Fault::OpenBrace(left_with_mark(text))));
@@ -291,8 +292,8 @@ fn read_plain_word<'a, S: Source<P>, P: Drop>(
     }
 }
 
-/// The parts of a text in quotes, behind the first quote, and what follows the last (Tcl(n), rule 4), where so many brackets and
-/// indexes nest at most.
+/// The parts of a text in quotes, behind the first quote, and what follows the last (Tcl(n), rule 4), where so many
+/// brackets and indexes nest at most.
 ///
 /// The fault is `OpenQuote` at the first quote, or the first that is met inside.
 #[cycle(read)]
@@ -382,12 +383,12 @@ fn read_part<'a, S: Source<P>, P: Drop>(
     }
 }
 
-/// The variable at the front of the text, and what follows it (Tcl(n), rule 8): `$name`, `$name(index)` or `${name}`, of which
-/// `behind` is what stands behind the dollar. Before anything else the dollar is itself. So many brackets and indexes nest at
-/// most.
+/// The variable at the front of the text, and what follows it (Tcl(n), rule 8): `$name`, `$name(index)` or `${name}`,
+/// of which `behind` is what stands behind the dollar. Before anything else the dollar is itself. So many brackets and
+/// indexes nest at most.
 ///
-/// The fault is `OpenBrace` at the brace of a name, `BadCharacter` at the parenthesis of an index, or the first that is met
-/// inside.
+/// The fault is `OpenBrace` at the brace of a name, `BadCharacter` at the parenthesis of an index, or the first that is
+/// met inside.
 #[cycle(read)]
 #[tactic(auto, unfolding(crate::specs::Reading::dollar_at))]
 pub fn read_dollar<'a, S: Source<P>, P: Drop>(
@@ -399,7 +400,8 @@ pub fn read_dollar<'a, S: Source<P>, P: Drop>(
 ) -> Result<(Part<P>, &'a str), ReadError>
     requires text { IsEndOf (S.text source.now) text.now }
     requires dollar { text.now ≡ dollar ∷ behind.now }
-    ensures { Gives (λ x. (part_view (S.shown source.now) x.0, x.1.now)) result (dollar_at (inner_at depth) behind.now) }
+    ensures { Gives (λ x. (part_view (S.shown source.now) x.0, x.1.now)) result
+        (dollar_at (inner_at depth) behind.now) }
 {
     if let Some(inner) = after_mark(behind, b'{') {
         return read_braced_name(source, inner);
@@ -450,8 +452,8 @@ fn read_index<'a, S: Source<P>, P: Drop>(
     Ok((parts, rest))
 }
 
-/// The script in brackets, behind the first bracket, and what follows the last (Tcl(n), rule 7), where so many brackets and
-/// indexes nest at most, this one among them.
+/// The script in brackets, behind the first bracket, and what follows the last (Tcl(n), rule 7), where so many brackets
+/// and indexes nest at most, this one among them.
 ///
 /// The fault is `TooDeep` where none may nest, `OpenBracket` at the first bracket, or the first that is met inside.
 #[cycle(read)]

@@ -14,11 +14,11 @@ use crate::tree::Script;
 use std::alloc::Global;
 use tclchars::{MAX_BYTES, MAX_NESTING, ReadError, TextFault, place};
 
-/// The tree of a script (Tcl(n)), whose pieces are slices of the text. Takes time and memory in proportion to the text's length,
-/// and copies no text.
+/// The tree of a script (Tcl(n)), whose pieces are slices of the text. Takes time and memory in proportion to the
+/// text's length, and copies no text.
 ///
-/// A text that is no script is refused with the first fault in it and its place; a text of more than 1,048,576 bytes is `TooLong`,
-/// and `OutOfMemory` says nothing of the text.
+/// A text that is no script is refused with the first fault in it and its place; a text of more than 1,048,576 bytes is
+/// `TooLong`, and `OutOfMemory` says nothing of the text.
 pub fn parse_script(alloc: Global, text: &str) -> Result<Script<&str>, TextFault>
     // A tree that is returned is the text's, within the limits.
     ensures found { IfOk result (λ s. IsWithin text.now (script_view (λ piece. piece.now) s)) }

@@ -10,7 +10,8 @@ pub struct Script<P> {
 #[cycle(tree)]
 #[derive(Debug, Drop)]
 pub struct Command<P> {
-    /// Where the first word begins, in bytes from the front of the script: of the source, or of what stands in brackets.
+    /// Where the first word begins, in bytes from the front of the script: of the source, or of what stands in
+    /// brackets.
     pub place: usize,
     /// The text of the first word, as it stands in the source.
     pub source: P,

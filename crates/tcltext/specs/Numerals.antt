@@ -33,7 +33,8 @@ without_sign (b ∷ bs) = if is_sign b then bs else b ∷ bs
 -- the number that goes on with these digits of the base; None where one is no digit of it
 abbrev pub digits_from : ℕ → ℕ → Text → Option ℕ
 digits_from base n [] = Some n
-digits_from base n (d ∷ ds) = if nat_lt (digit_value d) base then digits_from base (n * base + digit_value d) ds else None
+digits_from base n (d ∷ ds) =
+    if nat_lt (digit_value d) base then digits_from base (n * base + digit_value d) ds else None
 
 abbrev pub digits_in : ℕ → Text → Option ℕ
 digits_in base [] = None
@@ -42,7 +43,10 @@ digits_in base (d ∷ ds) = digits_from base 0 (d ∷ ds)
 -- the base that the letter behind a leading zero names: x, o and b in either case
 abbrev pub base_of : ℕ → Option ℕ
 base_of b =
-    if b == 120 || b == 88 then Some 16 else if b == 111 || b == 79 then Some 8 else if b == 98 || b == 66 then Some 2 else None
+    if b == 120 || b == 88 then Some 16
+    else if b == 111 || b == 79 then Some 8
+    else if b == 98 || b == 66 then Some 2
+    else None
 
 abbrev pub prefixed : ℕ → Text → Option ℕ → Option ℕ
 prefixed b bs None = digits_in 8 (b ∷ bs)
@@ -86,12 +90,14 @@ may_be_exponent (b ∷ bs) = is_exponent (b ∷ bs)
 abbrev pub is_fraction_end : Text → Text → Bool
 is_fraction_end t [] = begins 48 t
 is_fraction_end t (b ∷ bs) =
-    if b == 46 then (begins_digit t || begins_digit bs) && may_be_exponent (back is_digit bs) else begins_digit t && is_exponent (b ∷ bs)
+    if b == 46 then (begins_digit t || begins_digit bs) && may_be_exponent (back is_digit bs)
+    else begins_digit t && is_exponent (b ∷ bs)
 
 -- inf, infinity or nan in any case
 abbrev pub is_word : Text → Bool
 is_word t =
-    bytes_eq (map to_ascii_lowercase t) (codes "inf") || bytes_eq (map to_ascii_lowercase t) (codes "infinity") || bytes_eq (map to_ascii_lowercase t) (codes "nan")
+    bytes_eq (map to_ascii_lowercase t) (codes "inf") || bytes_eq (map to_ascii_lowercase t) (codes "infinity")
+    || bytes_eq (map to_ascii_lowercase t) (codes "nan")
 
 -- a number with a fraction, without a sign, where it is no whole number
 abbrev pub is_fraction : Text → Bool

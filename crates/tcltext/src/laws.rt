@@ -5,7 +5,8 @@ ghost use Rattle.tclexpr.specs.Operands.{after_number};
 ghost use Rattle.tcltext.specs.Numerals.{whole_of, numeral};
 ghost use Rattle.tcltext.specs.Numbers.{IsWhole, IsFractional, IsNumber, IsNumberIn};
 
-/// A text that is a whole number has the class of one, with its value where that has 64 bits; and a text with that class is one.
+/// A text that is a whole number has the class of one, with its value where that has 64 bits; and a text with that
+/// class is one.
 pub fn numeral_of_whole()
     ensures value { (t : Text) (minus : Bool) (n : ℕ) → IsWhole t minus n → numeral t ≡ whole_of minus n }
     ensures only { (t : Text) → numeral t ≢ numerals.Fraction → numeral t ≢ numerals.Text

@@ -1,4 +1,5 @@
-//! The text of Tcl: scripts, expressions, lists, patterns and numbers, what they are, and what is wrong with a text that is none.
+//! The text of Tcl: scripts, expressions, lists, patterns and numbers, what they are, and what is wrong with a text
+//! that is none.
 //!
 //! The parsers stand in crates of their own, which this one hands on.
 #![tactic(auto)]

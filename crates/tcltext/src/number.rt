@@ -17,13 +17,14 @@ pub enum Numeral {
     Text,
 }
 
-/// The class of a text as a number of Tcl, with its value where it is whole. White space may stand around it. Takes no memory.
+/// The class of a text as a number of Tcl, with its value where it is whole. White space may stand around it. Takes no
+/// memory.
 ///
-/// - `Whole`: an optional sign, then decimal digits, `0x` with hexadecimal, `0o` with octal, `0b` with binary digits, or a
-///   leading 0 with octal digits, within 64 bits.
+/// - `Whole`: an optional sign, then decimal digits, `0x` with hexadecimal, `0o` with octal, `0b` with binary digits,
+///   or a leading 0 with octal digits, within 64 bits.
 /// - `TooLarge`: such a number outside 64 bits.
-/// - `Fraction`: an optional sign, then digits with a point or an exponent, `inf`, `infinity` or `nan` in any case, or a leading
-///   0 with decimal digits of which one is 8 or 9.
+/// - `Fraction`: an optional sign, then digits with a point or an exponent, `inf`, `infinity` or `nan` in any case, or
+///   a leading 0 with decimal digits of which one is 8 or 9.
 /// - `Text`: any other text.
 pub fn read_number(text: &str) -> Numeral
     ensures { result ≡ numeral text.now }

@@ -1,10 +1,10 @@
-//! Answers calls of tcltext: one a line on standard input, a verb and texts in hexadecimal digits, with `-` for the empty text.
-//! `list TEXT`, `write TEXT...`, `script TEXT`, `expr TEXT`, `glob PATTERN TEXT`, `number TEXT`.
+//! Answers calls of tcltext: one a line on standard input, a verb and texts in hexadecimal digits, with `-` for the
+//! empty text. `list TEXT`, `write TEXT...`, `script TEXT`, `expr TEXT`, `glob PATTERN TEXT`, `number TEXT`.
 //!
-//! Each answer is a line: `ok` and what was read or written, `fault NUMBER` with the place where there is one, 1 or 0, or the
-//! class of a number. Of a script the words of each command are shown behind its place, parted by `;`, and a word with a
-//! substitution as `$`. An expression is written with parentheses around each operator and its operands, and `?` for a
-//! substitution.
+//! Each answer is a line: `ok` and what was read or written, `fault NUMBER` with the place where there is one, 1 or 0,
+//! or the class of a number. Of a script the words of each command are shown behind its place, parted by `;`, and a
+//! word with a substitution as `$`. An expression is written with parentheses around each operator and its operands,
+//! and `?` for a substitution.
 #![tactic(auto)]
 
 use std::alloc::{AllocError, Global};

@@ -1,5 +1,5 @@
-//! Answers cases of the operators and the commands of values: one a line on standard input, with words in hexadecimal digits,
-//! and `-` for the empty word. `u OP OPERAND`, `b OP LEFT RIGHT`, `t WORD`, `c LIMIT WORD...`.
+//! Answers cases of the operators and the commands of values: one a line on standard input, with words in hexadecimal
+//! digits, and `-` for the empty word. `u OP OPERAND`, `b OP LEFT RIGHT`, `t WORD`, `c LIMIT WORD...`.
 //!
 //! Each answer is a line: `ok WORD`, `none`, or `err NUMBER WORD` with the text of the fault.
 #![tactic(auto)]
