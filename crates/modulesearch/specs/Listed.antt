@@ -62,4 +62,4 @@ AreListings leaves files listings (dir ∷ dirs) (l ∷ ls) =
 
 -- each directory of the MODULEPATH in turn, a repeated one again
 abbrev pub Listed : (Text → Text → Option Left → Type 0) → Files → Listings → Text → List Listing → Type 0
-Listed leaves files listings modulepath listings = AreListings leaves files listings (directories modulepath) listings
+Listed leaves files listings modulepath rows = AreListings leaves files listings (directories modulepath) rows
