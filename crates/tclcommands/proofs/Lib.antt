@@ -1,1 +1,3 @@
 pub mod Limits
+pub mod ListTexts
+pub mod Insides

@@ -24,11 +24,16 @@ abbrev pub named_values : List (Bor (List ℕ) × String Global) → List (Text 
 named_values ps = map (λ p. (p.0.now, string_bytes p.1)) ps
 
 -- what a plan goes on with is the result, with the variables after it
-abbrev pub Does : (Bounds → Next → plans.Step) → ℕ → Result Value Stop → State → (ℕ → Point) → (ℕ → Point) → Type 0
-Does p limit result s x y =
-    (most used left : ℕ) (r : Job → plans.Step) (k : Next) → Leads most r (p (bounds limit left) k) (x used) (after result (λ v s'. k (value_text v s') s') s) (y used)
+abbrev pub Does : (Bounds → Next → plans.Step) → Result Value Stop → State → (ℕ → Point) → (ℕ → Point) → Type 0
+Does p result s x y =
+    (most used : ℕ) (b : Bounds) (r : Job → plans.Step) (k : Next) → Leads most r (p b k) (x used) (after result (λ v s'. k (value_text v s') s') s) (y used)
 
 -- the same where the host is left as it is
-abbrev pub DoesAlone : (Bounds → Next → plans.Step) → ℕ → Result Value Stop → State → Type 0
-DoesAlone p limit result s =
+abbrev pub DoesAlone : (Bounds → Next → plans.Step) → Result Value Stop → State → Type 0
+DoesAlone p result s =
+    (most : ℕ) (b : Bounds) (r : Job → plans.Step) (k : Next) (x : Point) → Leads most r (p b k) x (after result (λ v s'. k (value_text v s') s') s) x
+
+-- the same where a value is written that may have so many bytes
+abbrev pub Writes : (Bounds → Next → plans.Step) → ℕ → Result Value Stop → State → Type 0
+Writes p limit result s =
     (most left : ℕ) (r : Job → plans.Step) (k : Next) (x : Point) → Leads most r (p (bounds limit left) k) x (after result (λ v s'. k (value_text v s') s') s) x

@@ -13,18 +13,38 @@ ghost use Rattle.tclrules.specs.Forms.{Set, Append, Increase};
 ghost use Rattle.tclrules.specs.Rules.{write_at, write, assign, form, value_or, increased};
 ghost use Rattle.tclsteps.specs.Machine.{bounds};
 ghost use Rattle.tclsteps.specs.Stops.{after};
-ghost use Rattle.tclcommands.specs.Does.{named_values, DoesAlone};
+ghost use Rattle.tclcommands.specs.Does.{named_values, Writes};
 
 use crate::value::{Value, value_or};
 use std::alloc::Global;
 use tclforms::increase_of;
 use tclsteps::{Halt, Stop};
 use tclvalue::{ValueFault, count_of, sum};
-use tclvariables::{Variables, writable};
+use tclvariables::{Content, Variables, writable};
 
 // Writes a variable at its place.
 #[tactic(none)]
-pub(crate) fn write_at(
+pub(crate) fn put_at(
+    alloc: Global,
+    variables: &mut Variables,
+    limit: usize,
+    global: bool,
+    name: &str,
+    content: Content,
+) -> Result<(), Stop>
+    ensures leads { (most left : ℕ) (r : Job → plans.Step) (k : Next) (x : Point) → Leads most r (write_at (bounds limit left) (global, name.now) content variables.old k) x (after result (λ _ s. k content s) variables.new) x }
+    ensures written { OnOk result (variables.new ≡ with_value variables.old (global, name.now) content) }
+{
+    if content.as_str().len() > limit {
+        return Err(Stop::Halted(Halt::ValueTooLong));
+    }
+    variables.put(alloc, global, name, content)?;
+    Ok(())
+}
+
+// Writes a variable at its place.
+#[tactic(none)]
+fn write_at(
     alloc: Global,
     variables: &mut Variables,
     limit: usize,
@@ -35,11 +55,14 @@ pub(crate) fn write_at(
     ensures leads { (most left : ℕ) (r : Job → plans.Step) (k : Next) (x : Point) → Leads most r (write_at (bounds limit left) (global, name.now) (string_bytes value) variables.old k) x (after result (λ _ s. k (string_bytes value) s) variables.new) x }
     ensures written { OnOk result (variables.new ≡ with_value variables.old (global, name.now) (string_bytes value)) }
 {
-    if value.len() > limit {
-        return Err(Stop::Halted(Halt::ValueTooLong));
-    }
-    variables.set(alloc, global, name, value)?;
-    Ok(())
+    put_at(
+        alloc,
+        variables,
+        limit,
+        global,
+        name,
+        Content::of_text(value),
+    )
 }
 
 /// Writes a variable.
@@ -82,7 +105,7 @@ pub fn set<'a>(
     name: &'a str,
     value: &'a str,
 ) -> Result<Value<'a>, Stop>
-    ensures { DoesAlone (λ b k. form b (Set name.now value.now) variables.old k) limit result variables.new }
+    ensures { Writes (λ b k. form b (Set name.now value.now) variables.old k) limit result variables.new }
 {
     let copy = String::from_str(alloc, value)?;
     write(alloc, variables, limit, name, copy)?;
@@ -90,7 +113,7 @@ pub fn set<'a>(
 }
 
 // The text of a variable, which is taken, or an empty one.
-fn taken(alloc: Global, variables: &mut Variables, global: bool, name: &str) -> String
+pub(crate) fn taken(alloc: Global, variables: &mut Variables, global: bool, name: &str) -> String
     ensures value { string_bytes result ≡ value_or [] variables.old (global, name.now) }
     ensures given_back { (t : Text) → with_value variables.new (global, name.now) t ≡ with_value variables.old (global, name.now) t }
 {
@@ -128,7 +151,7 @@ pub fn append<'a>(
     name: &'a str,
     values: &'a [String],
 ) -> Result<Value<'a>, Stop>
-    ensures { DoesAlone (λ b k. form b (Append name.now (map string_bytes values.now)) variables.old k) limit result variables.new }
+    ensures { Writes (λ b k. form b (Append name.now (map string_bytes values.now)) variables.old k) limit result variables.new }
 {
     let (global, name) = writable(variables, alloc, name)?;
     let old = taken(alloc, variables, global, name);
@@ -156,7 +179,7 @@ pub fn increase<'a>(
     name: &'a str,
     increases: &'a [String],
 ) -> Result<Value<'a>, Stop>
-    ensures { DoesAlone (λ b k. form b (Increase name.now (map string_bytes increases.now)) variables.old k) limit result variables.new }
+    ensures { Writes (λ b k. form b (Increase name.now (map string_bytes increases.now)) variables.old k) limit result variables.new }
 {
     let (global, name) = writable(variables, alloc, name)?;
     let increase = increase_of(alloc, increases)?;

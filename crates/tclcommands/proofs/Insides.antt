@@ -1,0 +1,24 @@
+-- Names of variables, one after the other, and what is seen of them.
+use Rattle.std.proofs.Common.{◌≡◌, ℕ, ◌+◌, ◌<◌, Bool, true, false, List, ◌∷◌, drop, get_or, length, map, Option, Some, None, is_some, option_map, String, Global, string_bytes, refl, ap, ◌∙◌, add-one}
+use Rattle.std.proofs.Math.Seq.{drop-cons}
+use Rattle.tcloperators.specs.Operators.{truth_text}
+use Rattle.tclchars.specs.Runs.{Text}
+use Rattle.tclrules.specs.Variables.{State, Frame}
+use Rattle.tclrules.specs.Plans.{Step, Next}
+use Rattle.tclrules.specs.Rules.{share, share_from, is_there}
+
+pub inside : (f : Option Frame) (vs : List Text) (s : State) (k : State → Step) → is_some f ≡ true → share_from f vs s k ≡ share vs s k
+inside None vs s k h = cc
+inside (Some f) vs s k h = refl
+
+pub not_inside : (f : Option Frame) (vs : List Text) (s : State) (k : State → Step) → is_some f ≡ false → share_from f vs s k ≡ k s
+not_inside None vs s k h = refl
+not_inside (Some f) vs s k h = cc
+
+-- the names from one on
+pub names_from : (names : List (String Global)) (i : ℕ) (name : String Global) → i < length names → name ≡ get_or names i name → map string_bytes (drop i names) ≡ string_bytes name ∷ map string_bytes (drop (i + 1) names)
+names_from names i name h e = ap (map string_bytes) (drop-cons names i name h) ∙ rw (← e, add-one) refl
+
+pub seen : (s : State) (k : Next) (v : Option (String Global)) (b : Bool) → b ≡ is_some v → is_there s k (option_map string_bytes v) ≡ k (truth_text b) s
+seen s k None b e = rw e refl
+seen s k (Some t) b e = rw e refl

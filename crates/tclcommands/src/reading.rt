@@ -1,0 +1,72 @@
+//! Commands that look at variables: set(n) without a value, info(n).
+ghost use Rattle.std.specs.Prelude.{◌≡◌, string_bytes};
+ghost use Rattle.tclvalue.specs.Operators.{truth_text};
+ghost use Rattle.tclrules.specs.Variables.{State, Plain};
+ghost use Rattle.tclrules.specs.Leads.{point};
+ghost use Rattle.tclrules.specs.Plans.{Next};
+ghost use Rattle.tclrules.specs.Forms.{Get, Exists};
+ghost use Rattle.tclrules.specs.Rules.{form, exists_at};
+ghost use Rattle.tclcommands.specs.Does.{value_text, Does};
+
+use crate::value::Value;
+use std::alloc::Global;
+use tclrules::Host;
+use tclsteps::{Stop, read};
+use tclvariables::{Place, Variables, place_named};
+
+/// set(n), without a value.
+#[tactic(none)]
+pub fn get<'a, H: Host>(
+    alloc: Global,
+    variables: &Variables,
+    host: &mut H,
+    name: &'a str,
+) -> Result<Value<'a>, Stop>
+    ensures { Does (λ b k. form b (Get name.now) variables.now k) result variables.now (λ used. point (H.oracle host.old) (H.told host.old) used) (λ used. point (H.oracle host.new) (H.told host.new) used) }
+{
+    Ok(Value::Text(read(alloc, variables, host, name)?))
+}
+
+// A truth value as a number.
+fn truth<'a>(holds: bool) -> Value<'a>
+    ensures { (s : State) → value_text result s ≡ truth_text holds }
+{
+    if holds {
+        Value::Word("1")
+    } else {
+        Value::Word("0")
+    }
+}
+
+// Whether a variable has a value, or is the array of the environment.
+fn is_there(variables: &Variables, global: bool, name: &str) -> bool
+    ensures { (k : Next) → exists_at variables.now k (Plain global name.now) ≡ k (truth_text result) variables.now }
+{
+    if global && name == "env" {
+        return true;
+    }
+    variables.get(global, name).is_some()
+}
+
+/// info exists, of info(n).
+#[tactic(none)]
+pub fn exists<'a, H: Host>(
+    alloc: Global,
+    variables: &Variables,
+    host: &mut H,
+    name: &'a str,
+) -> Result<Value<'a>, Stop>
+    ensures { Does (λ b k. form b (Exists name.now) variables.now k) result variables.now (λ used. point (H.oracle host.old) (H.told host.old) used) (λ used. point (H.oracle host.new) (H.told host.new) used) }
+{
+    let place = place_named(variables, alloc, name)?;
+    match place {
+        Place::Plain(global, name) => Ok(truth(is_there(variables, global, name))),
+        Place::Element(global, name) => {
+            if global {
+                let value = host.read_env(name)?;
+                return Ok(truth(value.is_some()));
+            }
+            Ok(truth(false))
+        }
+    }
+}
