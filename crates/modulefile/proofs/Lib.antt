@@ -1,0 +1,9 @@
+mod Bound
+mod FileEnds
+mod OneFile
+mod HasEffects
+mod WholeFiles
+mod Showing
+mod PlayedFiles
+mod PlainFiles
+mod ComputedFiles

@@ -1,0 +1,36 @@
+-- What playing a file gives is what it comes to.
+use Rattle.std.proofs.Common.{◌≡◌, ℕ, Some, None, Result, Ok, Err, refl}
+use Rattle.environment.specs.Texts.{Text}
+use Rattle.tclrules.specs.Derivation.{Outcome, Ended, Halted, World}
+use Rattle.tclrules.specs.Playing.{Played}
+use Rattle.tclrules.specs.Plans.{Ending, Normal, Raised, Returned, Broken, Continued}
+use Rattle.tclrules.specs.Rules.{rule}
+use Rattle.tclrules.specs.Meaning.{Setting, ComesTo, plan_of, first, play_file}
+use Rattle.tclrules.specs.declared.limits.Limits.{Limits}
+use Rattle.tclrules.proofs.Plays.{derived}
+use Rattle.modulefile.specs.Calls.{CallReason}
+use Rattle.modulefile.specs.Answers.{Context}
+use Rattle.modulefile.specs.Files.{Ran, Stop, setting_of, ran_of, Runs, ran_shown, shown}
+use Rattle.modulefile.specs.Laws.{PlayedRuns}
+
+comes_played : (s : Setting) (steps : ℕ) (o : Outcome Ending) (w : World) → play_file s steps ≡ Some (o, w) → ComesTo s o w
+comes_played s steps o w e = derived s.oracle s.limits.commands (rule s.limits.value_bytes) steps (plan_of s.limits s.script s.globals) (first s.told) o w e
+
+ok_shown : (r : Result Ran CallReason) (o : Result Ran Stop) → ran_shown r ≡ Some o → (ran : Ran) × (r ≡ Ok ran) × (o ≡ Ok ran)
+ok_shown (Ok ran) o e = (ran, refl, cc)
+ok_shown (Err r) o e = absurd (cc)
+
+shown_runs : (limits : Limits) (c : Context) (text : Text) (steps : ℕ) (p : Played Ending) (o : Result Ran Stop) → play_file (setting_of limits c text) steps ≡ p → shown c text p ≡ Some o → Runs limits c text o
+shown_runs limits c text steps None o h e = absurd (cc)
+shown_runs limits c text steps (Some (Ended (Normal t s), w)) o h e =
+    (Ended (Normal t s), w, comes_played (setting_of limits c text) steps (Ended (Normal t s)) w h, ok_shown (ran_of c w.told) o e)
+shown_runs limits c text steps (Some (Ended (Raised m s), w)) o h e =
+    (Ended (Raised m s), w, comes_played (setting_of limits c text) steps (Ended (Raised m s)) w h, cc)
+shown_runs limits c text steps (Some (Ended (Returned t s), w)) o h e = absurd (cc)
+shown_runs limits c text steps (Some (Ended (Broken s), w)) o h e = absurd (cc)
+shown_runs limits c text steps (Some (Ended (Continued s), w)) o h e = absurd (cc)
+shown_runs limits c text steps (Some (Halted f, w)) o h e =
+    (Halted f, w, comes_played (setting_of limits c text) steps (Halted f) w h, cc)
+
+pub played_runs : PlayedRuns
+played_runs limits c text steps o e = shown_runs limits c text steps (play_file (setting_of limits c text) steps) o refl e

@@ -1,0 +1,184 @@
+-- What the host of a modulefile answers (modulefile(5)), as an oracle over the records so far.
+use Rattle.std.specs.Prelude.{ℕ, Bool, true, false, ◌||◌, ◌&&◌, List, [], ◌∷◌, ◌++◌, codes, bytes_eq, if◌then◌else◌, unwrap_or, Result, Ok, Err}
+use Rattle.std.specs.List.{list_any}
+use Rattle.modulename.specs.ModuleName.{means}
+use Rattle.environment.specs.Texts.{Text}
+use Rattle.environment.specs.Names.{is_variable_name}
+use Rattle.environment.specs.Environment.{Environment, lookup}
+use Rattle.environment.specs.Reasons.{EnvReason, bad_variable, protected, counter_full, inconsistent, bad_stack, bad_value}
+use Rattle.tclrules.specs.Oracle as oracle
+use Rattle.tclrules.specs.Oracle.{Oracle, Answer, Addition, Nothing, Kept, Message, Done, Unknown, LeftOut, Refused}
+use Rattle.modulerecords.specs.Records.{Record}
+use Rattle.modulerecords.specs.Judgments.{RecordReason, bad_edit, bad_module_name}
+use Rattle.modulerecords.specs.Effects.{Mode, load, unload, display, whatis, effect, effects}
+use Rattle.modulefile.specs.declared.shell.Shell.{Shell}
+use Rattle.modulefile.specs.Results.{◌>>=◌}
+use Rattle.modulefile.specs.Shells.{shell_name, shell_family}
+use Rattle.modulefile.specs.Calls.{Topic, mode, shell, shell_type, Call, keeps, says, getenv, is_loaded, own_name, typed_name, tells, tests, CallReason, unknown, left_out, bad_arguments, bad_record, Form, call_of}
+
+-- What a file is evaluated in: the mode, and whether it is half of a switch; the module's full name and the path of its
+-- file; the shell; the name as it was typed; the names of the modules that are loaded before the file, and the environment
+-- before it.
+pub record Context : Type 0 where
+  pub mode : Mode
+  pub in_switch : Bool
+  pub name : Text
+  pub path : Text
+  pub shell : Shell
+  pub typed : Text
+  pub loaded : List Text
+  pub start : Environment
+
+abbrev pub mode_word : Mode → Text
+mode_word load = codes "load"
+mode_word unload = codes "unload"
+mode_word display = codes "display"
+mode_word whatis = codes "whatis"
+
+-- `remove` is a second word for the mode of unloading
+abbrev pub is_second_word : Mode → Text → Bool
+is_second_word load word = false
+is_second_word unload word = bytes_eq word (codes "remove")
+is_second_word display word = false
+is_second_word whatis word = false
+
+-- both halves of a switch are of the mode `switch`, too
+abbrev pub is_mode : Context → Text → Bool
+is_mode c word =
+    bytes_eq word (mode_word c.mode) || is_second_word c.mode word || (c.in_switch && bytes_eq word (codes "switch"))
+
+-- what is so is 1, and else 0
+abbrev pub truth : Bool → Text
+truth b = if b then codes "1" else codes "0"
+
+abbrev pub topic_text : Context → Topic → Text
+topic_text c mode = mode_word c.mode
+topic_text c shell = shell_name c.shell
+topic_text c shell_type = shell_family c.shell
+
+abbrev pub topic_test : Context → Topic → Text → Bool
+topic_test c mode word = is_mode c word
+topic_test c shell word = bytes_eq word (shell_name c.shell)
+topic_test c shell_type word = bytes_eq word (shell_family c.shell)
+
+-- One of the names means a loaded module. No name asks for any module.
+abbrev pub any_loaded : List Text → List Text → Bool
+any_loaded [] loaded = list_any (λ m. true) loaded
+any_loaded (name ∷ names) loaded = list_any (λ n. list_any (means n) loaded) (name ∷ names)
+
+-- In the mode `display` the variable itself stands for its value.
+abbrev pub value_shown : Mode → Environment → Text → Text → Text
+value_shown display e var default = codes "$" ++ var
+value_shown load e var default = unwrap_or (lookup e var) default
+value_shown unload e var default = unwrap_or (lookup e var) default
+value_shown whatis e var default = unwrap_or (lookup e var) default
+
+-- the numbers of reasons
+abbrev pub edit_number : EnvReason → ℕ
+edit_number (bad_variable name) = 32
+edit_number (protected name) = 33
+edit_number (counter_full name) = 34
+edit_number inconsistent = 35
+edit_number (bad_stack name) = 36
+edit_number (bad_value name) = 37
+
+abbrev pub record_number : RecordReason → ℕ
+record_number (bad_edit reason) = edit_number reason
+record_number (bad_module_name name) = 44
+
+-- a command that isn't done
+abbrev pub not_done : CallReason → Answer
+not_done unknown = Unknown false
+not_done (left_out name) = LeftOut name false
+not_done bad_arguments = Refused 56 false
+not_done (bad_record reason) = Refused (record_number reason) false
+
+-- A command that leaves a record answers the empty text, and its words are kept, where the record has its effect.
+abbrev pub kept : List Text → Result Environment RecordReason → Answer
+kept words (Ok e) = Done [] (Kept words) false
+kept words (Err reason) = not_done (bad_record reason)
+
+-- the answer to a question
+abbrev pub asked : Text → Answer
+asked text = Done text Nothing true
+
+-- Any well-named variable may be read.
+abbrev pub read : Text → Text → Answer
+read var value = if is_variable_name var then asked value else not_done (bad_record (bad_edit (bad_variable var)))
+
+-- Questions are those about the environment, the mode, the shell, the typed name or the loaded modules, and no others.
+abbrev pub answered : Context → Environment → List Text → Form → Answer
+answered c e words (Err reason) = not_done reason
+answered c e words (Ok (keeps r)) = kept words (effect c.mode c.name r e)
+answered c e words (Ok (says message)) = Done [] (Message message) false
+answered c e words (Ok (getenv var default)) = read var (value_shown c.mode e var default)
+answered c e words (Ok (is_loaded names)) = asked (truth (any_loaded names c.loaded))
+answered c e words (Ok own_name) = Done c.name Nothing false
+answered c e words (Ok typed_name) = asked c.typed
+answered c e words (Ok (tells topic)) = asked (topic_text c topic)
+answered c e words (Ok (tests topic word)) = asked (truth (topic_test c topic word))
+
+-- the record of a command
+abbrev pub recorded : Call → Result Record CallReason
+recorded (keeps r) = Ok r
+recorded (says message) = Err unknown
+recorded (getenv var default) = Err unknown
+recorded (is_loaded names) = Err unknown
+recorded own_name = Err unknown
+recorded typed_name = Err unknown
+recorded (tells topic) = Err unknown
+recorded (tests topic word) = Err unknown
+
+-- the records of commands that were accepted, which are kept by their words
+abbrev pub records_in : List oracle.Record → Result (List Record) CallReason
+records_in [] = Ok []
+records_in (words ∷ more) = call_of words >>= recorded >>= (λ r. records_in more >>= (λ rs. Ok (r ∷ rs)))
+
+-- the effects of records, where the reasons are those of commands
+abbrev pub by_record : Result Environment RecordReason → Result Environment CallReason
+by_record (Ok e) = Ok e
+by_record (Err reason) = Err (bad_record reason)
+
+-- what the records so far make of the environment before the file, in the mode at hand
+abbrev pub effects_so_far : Context → List oracle.Record → Result Environment CallReason
+effects_so_far c told = records_in told >>= (λ rs. by_record (effects c.mode c.name rs c.start))
+
+abbrev pub or_start : Environment → Result Environment CallReason → Environment
+or_start start (Ok e) = e
+or_start start (Err reason) = start
+
+-- The environment that the file finds there. The records of accepted commands always have their effects, so the start doesn't
+-- stand for them.
+abbrev pub found_after : Context → List oracle.Record → Environment
+found_after c told = or_start c.start (effects_so_far c told)
+
+-- the oracle that a modulefile is evaluated over
+abbrev pub oracle_of : Context → Oracle
+oracle_of c =
+    record {
+      command = λ told words. answered c (found_after c told) words (call_of words);
+      variable = λ told name. lookup (found_after c told) name;
+    }
+
+-- what the words of a command add where it is done, and whether they ask
+abbrev pub call_adds : List Text → Form → Addition
+call_adds words (Err reason) = Nothing
+call_adds words (Ok (keeps r)) = Kept words
+call_adds words (Ok (says message)) = Message message
+call_adds words (Ok (getenv var default)) = Nothing
+call_adds words (Ok (is_loaded names)) = Nothing
+call_adds words (Ok own_name) = Nothing
+call_adds words (Ok typed_name) = Nothing
+call_adds words (Ok (tells topic)) = Nothing
+call_adds words (Ok (tests topic word)) = Nothing
+
+abbrev pub call_asks : Form → Bool
+call_asks (Err reason) = false
+call_asks (Ok (keeps r)) = false
+call_asks (Ok (says message)) = false
+call_asks (Ok (getenv var default)) = true
+call_asks (Ok (is_loaded names)) = true
+call_asks (Ok own_name) = false
+call_asks (Ok typed_name) = true
+call_asks (Ok (tells topic)) = true
+call_asks (Ok (tests topic word)) = true

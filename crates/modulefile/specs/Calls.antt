@@ -1,0 +1,163 @@
+-- The commands of modulefiles by their words, as modulefile(5) shows their forms. What a command means is a function of
+-- its words alone.
+use Rattle.std.specs.Prelude.{ℕ, ◌||◌, List, [], ◌∷◌, ◌++◌, codes, flat_map, bytes_eq, if◌then◌else◌, Option, Some, None, Result, Ok, Err}
+use Rattle.std.specs.List.{join_with_byte}
+use Rattle.tclchars.specs.Runs.{begins}
+use Rattle.tclvalue.specs.Indexes.{after_front}
+use Rattle.tclrules.specs.Names.{is_among, left_out_module_commands}
+use Rattle.environment.specs.Texts.{Text}
+use Rattle.environment.specs.Fields.{colon}
+use Rattle.pathstate.specs.PathTexts.{is_delimiter, parted}
+use Rattle.modulerecords.specs.Records.{Record, Set, Unset, Push, Front, Back, Remove, Conflict, Prereq, Whatis}
+use Rattle.modulerecords.specs.Judgments.{RecordReason}
+use Rattle.modulefile.specs.Results.{◌>>=◌}
+
+-- what a question of `module-info` is about
+pub data Topic : Type 0 where
+  mode : Topic
+  shell : Topic
+  shell_type : Topic
+
+pub data Call : Type 0 where
+  -- a command that leaves a record
+  keeps : Record → Call
+  -- `puts stderr`, with the newline unless `-nonewline` is there
+  says : (message : Text) → Call
+  -- `getenv VAR ?default?`
+  getenv : (var : Text) (default : Text) → Call
+  -- `is-loaded ?NAME...?`
+  is_loaded : (names : List Text) → Call
+  -- `module-info name`, `module-info specified`
+  own_name : Call
+  typed_name : Call
+  -- `module-info TOPIC`, and `module-info TOPIC WORD`
+  tells : Topic → Call
+  tests : Topic → (word : Text) → Call
+
+-- Why a command isn't done: no such command is known; it, or this part of it, is left out; its words don't fit it; or
+-- its record has no effect.
+pub data CallReason : Type 0 where
+  unknown : CallReason
+  left_out : (name : Text) → CallReason
+  bad_arguments : CallReason
+  bad_record : RecordReason → CallReason
+
+-- a command of these words, or why it isn't one
+abbrev pub Form : Type 0
+Form = Result Call CallReason
+
+-- No options are known here: a first word that begins with `-` would be one.
+abbrev pub no_option : List Text → Result (List Text) CallReason
+no_option [] = Ok []
+no_option (word ∷ words) = if begins 45 word then Err bad_arguments else Ok (word ∷ words)
+
+-- `VAR value`
+abbrev pub var_and_value : (Text → Text → Record) → List Text → Form
+var_and_value make (var ∷ value ∷ []) = Ok (keeps (make var value))
+var_and_value make words = Err bad_arguments
+
+-- `VAR ?value?`
+abbrev pub var_and_perhaps : List Text → Form
+var_and_perhaps (var ∷ []) = Ok (keeps (Unset var None))
+var_and_perhaps (var ∷ value ∷ []) = Ok (keeps (Unset var (Some value)))
+var_and_perhaps words = Err bad_arguments
+
+-- the delimiter that a word says, one character from the space to the tilde, and the words behind it
+abbrev pub with_delimiter : Text → List Text → Result (ℕ × List Text) CallReason
+with_delimiter (c ∷ []) words = if is_delimiter c then Ok (c, words) else Err bad_arguments
+with_delimiter text words = Err bad_arguments
+
+-- it stands in the next word, or in the same one
+abbrev pub by_next_word : List Text → Result (ℕ × List Text) CallReason
+by_next_word [] = Err bad_arguments
+by_next_word (text ∷ words) = with_delimiter text words
+
+abbrev pub by_same_word : Option Text → List Text → Result (ℕ × List Text) CallReason
+by_same_word None words = Err bad_arguments
+by_same_word (Some text) words = with_delimiter text words
+
+-- `-d C`, `--delim C` or `--delim=C`: no other option is known
+abbrev pub by_option : Text → List Text → Result (ℕ × List Text) CallReason
+by_option option words =
+    if bytes_eq option (codes "-d") || bytes_eq option (codes "--delim") then by_next_word words
+    else by_same_word (after_front (codes "--delim=") option) words
+
+-- The delimiter, and the words from VAR on, which are no options. Without an option it is the colon.
+abbrev pub delimited : List Text → Result (ℕ × List Text) CallReason
+delimited [] = Err bad_arguments
+delimited (word ∷ words) = if begins 45 word then by_option word words else Ok (colon, word ∷ words)
+
+-- the elements of values, which are cut at the delimiter: an empty value is one empty element
+abbrev pub elements_of : ℕ → List Text → List Text
+elements_of delim values = flat_map (parted delim) values
+
+-- `VAR value...`
+abbrev pub var_and_values : (ℕ → Text → List Text → Record) → ℕ × List Text → Form
+var_and_values make (delim, var ∷ value ∷ values) = Ok (keeps (make delim var (elements_of delim (value ∷ values))))
+var_and_values make (delim, words) = Err bad_arguments
+
+abbrev pub path_form : (ℕ → Text → List Text → Record) → List Text → Form
+path_form make words = delimited words >>= var_and_values make
+
+-- at least one word
+abbrev pub some_words : (List Text → Record) → List Text → Form
+some_words make [] = Err bad_arguments
+some_words make (word ∷ words) = Ok (keeps (make (word ∷ words)))
+
+-- `getenv VAR ?default?`: without a default an unset variable has the empty text
+abbrev pub getenv_form : List Text → Form
+getenv_form (var ∷ []) = Ok (getenv var [])
+getenv_form (var ∷ default ∷ []) = Ok (getenv var default)
+getenv_form words = Err bad_arguments
+
+-- the evaluator hands on a channel and a text, or `-nonewline` in front of these
+abbrev pub puts_form : List Text → Form
+puts_form (channel ∷ text ∷ []) = Ok (says (text ++ 10 ∷ []))
+puts_form (option ∷ channel ∷ text ∷ []) = Ok (says text)
+puts_form words = Err bad_arguments
+
+-- no further word
+abbrev pub alone : Call → List Text → Form
+alone call [] = Ok call
+alone call (word ∷ words) = Err bad_arguments
+
+-- at most one further word
+abbrev pub told_or_tested : Topic → List Text → Form
+told_or_tested topic [] = Ok (tells topic)
+told_or_tested topic (word ∷ []) = Ok (tests topic word)
+told_or_tested topic (word ∷ other ∷ others) = Err bad_arguments
+
+-- `module-info`: what it is asked about else is left out
+abbrev pub info_form : List Text → Form
+info_form [] = Err bad_arguments
+info_form (topic ∷ words) =
+    if bytes_eq topic (codes "mode") then told_or_tested mode words
+    else if bytes_eq topic (codes "name") then alone own_name words
+    else if bytes_eq topic (codes "specified") then alone typed_name words
+    else if bytes_eq topic (codes "shell") then told_or_tested shell words
+    else if bytes_eq topic (codes "shelltype") then told_or_tested shell_type words
+    else Err (left_out (codes "module-info " ++ topic))
+
+-- the words of a description, joined by spaces
+abbrev pub description : List Text → Record
+description words = Whatis (join_with_byte 32 words)
+
+-- The command that these words call.
+unfoldable pub call_of : List Text → Form
+call_of [] = Err unknown
+call_of (name ∷ words) =
+    if bytes_eq name (codes "setenv") then no_option words >>= var_and_value Set
+    else if bytes_eq name (codes "unsetenv") then no_option words >>= var_and_perhaps
+    else if bytes_eq name (codes "pushenv") then no_option words >>= var_and_value Push
+    else if bytes_eq name (codes "prepend-path") then path_form Front words
+    else if bytes_eq name (codes "append-path") then path_form Back words
+    else if bytes_eq name (codes "remove-path") then path_form Remove words
+    else if bytes_eq name (codes "conflict") then no_option words >>= some_words Conflict
+    else if bytes_eq name (codes "prereq") then no_option words >>= some_words Prereq
+    else if bytes_eq name (codes "module-whatis") then some_words description words
+    else if bytes_eq name (codes "getenv") then no_option words >>= getenv_form
+    else if bytes_eq name (codes "is-loaded") then no_option words >>= (λ names. Ok (is_loaded names))
+    else if bytes_eq name (codes "module-info") then info_form words
+    else if bytes_eq name (codes "puts") then puts_form words
+    else if is_among left_out_module_commands name then Err (left_out name)
+    else Err unknown

@@ -1,0 +1,110 @@
+-- A modulefile evaluated: from its text to its records, messages and effects, or to why it is refused. The rules are
+-- those of Tcl.
+use Rattle.std.specs.Prelude.{◌≡◌, ◌⊎◌, ℕ, Bool, false, List, [], ◌∷◌, codes, Option, Some, None, Result, Ok, Err}
+use Rattle.environment.specs.Texts.{Text}
+use Rattle.environment.specs.Environment.{Environment}
+use Rattle.tclchars.specs.Faults.{fault_number}
+use Rattle.tclrules.specs.Oracle.{Told}
+use Rattle.tclrules.specs.Derivation.{Halt, OutOfMemory, BadText, TooManyCommands, TooDeep, ValueTooLong, NumberTooLarge, FractionOperand, LeftOut, Stopped, ByHost, Outcome, Ended, Halted, World}
+use Rattle.tclrules.specs.Variables.{Variables}
+use Rattle.tclrules.specs.Plans.{Ending, Normal, Raised, Returned, Broken, Continued}
+use Rattle.tclrules.specs.Playing.{Played}
+use Rattle.tclrules.specs.Meaning.{Setting, ComesTo, line_at, play_file}
+use Rattle.tclrules.specs.declared.limits.Limits.{Limits}
+use Rattle.modulerecords.specs.Records.{Record}
+use Rattle.modulerecords.specs.Effects.{effects}
+use Rattle.modulerecords.specs.Moves.{Module}
+use Rattle.modulefile.specs.Results.{◌>>=◌}
+use Rattle.modulefile.specs.Calls.{CallReason}
+use Rattle.modulefile.specs.Answers.{Context, records_in, by_record, oracle_of}
+
+-- nothing is told before
+abbrev pub untold : Told
+untold = record { records = []; messages = []; asked = false }
+
+-- a file knows its own path
+abbrev pub globals_of : Text → Variables
+globals_of path = (codes "ModulesCurrentModulefile", path) ∷ []
+
+-- the evaluation of this text in a context, under these limits
+abbrev pub setting_of : Limits → Context → Text → Setting
+setting_of limits c text =
+    record { limits = limits; script = text; globals = globals_of c.path; oracle = oracle_of c; told = untold }
+
+-- What a file leaves that ended: its records, its messages, whether it asked, and what the records made of the
+-- environment before it.
+pub record Ran : Type 0 where
+  pub records : List Record
+  pub messages : List Text
+  pub asked : Bool
+  pub env : Environment
+
+-- Why a file is refused: its evaluation was halted, or ended with an error that nothing caught, on this line of it.
+pub data Stop : Type 0 where
+  halted : Halt → Stop
+  failed : (message : Text) (line : ℕ) → Stop
+
+-- what was told, as records and their effects
+abbrev pub ran_of : Context → Told → Result Ran CallReason
+ran_of c told =
+    records_in told.records >>= (λ rs.
+    by_record (effects c.mode c.name rs c.start) >>= (λ e.
+    Ok (record { records = rs; messages = told.messages; asked = told.asked; env = e })))
+
+-- From how the evaluation ended. A file ends by no return, break or continue: the rules of evaluation see to these.
+abbrev pub Finishes : Context → Text → Outcome Ending → Told → Result Ran Stop → Type 0
+Finishes c text (Ended (Normal result s)) told o = (ran : Ran) × (ran_of c told ≡ Ok ran) × (o ≡ Ok ran)
+Finishes c text (Ended (Raised message s)) told o = o ≡ Err (failed message (line_at text s.place))
+Finishes c text (Ended (Returned result s)) told o = ⊥
+Finishes c text (Ended (Broken s)) told o = ⊥
+Finishes c text (Ended (Continued s)) told o = ⊥
+Finishes c text (Halted halt) told o = o ≡ Err (halted halt)
+
+-- The text of a modulefile, evaluated in a context, comes to this.
+abbrev pub Runs : Limits → Context → Text → Result Ran Stop → Type 0
+Runs limits c text o =
+    (out : Outcome Ending) × (w : World) × ComesTo (setting_of limits c text) out w × Finishes c text out w.told o
+
+-- the module that a file makes
+abbrev pub module_of : Context → Ran → Module
+module_of c ran = record { name = c.name; path = c.path; records = ran.records }
+
+-- the numbers of the refusals
+abbrev pub halt_number : Halt → ℕ
+halt_number OutOfMemory = 31
+halt_number (BadText fault) = fault_number fault
+halt_number TooManyCommands = 14
+halt_number TooDeep = 15
+halt_number ValueTooLong = 16
+halt_number NumberTooLarge = 17
+halt_number FractionOperand = 18
+halt_number (LeftOut name) = 19
+halt_number Stopped = 20
+halt_number (ByHost n) = n
+
+abbrev pub stop_number : Stop → ℕ
+stop_number (halted halt) = halt_number halt
+stop_number (failed message line) = 13
+
+-- An evaluation left the same records as this one, or was refused by the host.
+abbrev pub IsSameOrRefused : Ran → Result Ran Stop → Type 0
+IsSameOrRefused ran o =
+    ((again : Ran) × (o ≡ Ok again) × (again.records ≡ ran.records)) ⊎ ((n : ℕ) × (o ≡ Err (halted (ByHost n))))
+
+-- A file played: the definition as a function that computes. The number bounds how long a way may be; None where that is
+-- too little.
+abbrev pub ran_shown : Result Ran CallReason → Option (Result Ran Stop)
+ran_shown (Ok ran) = Some (Ok ran)
+ran_shown (Err reason) = None
+
+abbrev pub shown : Context → Text → Played Ending → Option (Result Ran Stop)
+shown c text None = None
+shown c text (Some (Ended (Normal result s), w)) = ran_shown (ran_of c w.told)
+shown c text (Some (Ended (Raised message s), w)) = Some (Err (failed message (line_at text s.place)))
+shown c text (Some (Ended (Returned result s), w)) = None
+shown c text (Some (Ended (Broken s), w)) = None
+shown c text (Some (Ended (Continued s), w)) = None
+shown c text (Some (Halted halt, w)) = Some (Err (halted halt))
+
+abbrev pub play : Limits → Context → Text → ℕ → Option (Result Ran Stop)
+play limits c text steps = shown c text (play_file (setting_of limits c text) steps)

@@ -1,0 +1,38 @@
+-- What is reported of the records of a file (own): each as a command with its words, in the writing of lists, and the
+-- descriptions.
+use Rattle.std.specs.Prelude.{ℕ, ◌==◌, List, [], ◌∷◌, ◌++◌, codes, flat_map, if◌then◌else◌, Some, None}
+use Rattle.std.specs.List.{join_with_byte}
+use Rattle.tcllist.specs.Lists.{list_text}
+use Rattle.environment.specs.Texts.{Text}
+use Rattle.environment.specs.Fields.{colon}
+use Rattle.modulerecords.specs.Records.{Record, Set, Unset, Push, Front, Back, Remove, Conflict, Prereq, Whatis, whatis_texts}
+
+-- a path command: the option where the delimiter isn't the colon, and the elements as one value
+abbrev pub path_words : Text → ℕ → Text → List Text → List Text
+path_words name delim var xs =
+    name ∷ (if delim == colon then [] else codes "--delim" ∷ (delim ∷ []) ∷ []) ++ var ∷ join_with_byte delim xs ∷ []
+
+-- the words of a record
+abbrev pub shown_words : Record → List Text
+shown_words (Set var value) = codes "setenv" ∷ var ∷ value ∷ []
+shown_words (Unset var None) = codes "unsetenv" ∷ var ∷ []
+shown_words (Unset var (Some value)) = codes "unsetenv" ∷ var ∷ value ∷ []
+shown_words (Push var value) = codes "pushenv" ∷ var ∷ value ∷ []
+shown_words (Front delim var xs) = path_words (codes "prepend-path") delim var xs
+shown_words (Back delim var xs) = path_words (codes "append-path") delim var xs
+shown_words (Remove delim var xs) = path_words (codes "remove-path") delim var xs
+shown_words (Conflict names) = codes "conflict" ∷ names
+shown_words (Prereq names) = codes "prereq" ∷ names
+shown_words (Whatis text) = codes "module-whatis" ∷ text ∷ []
+
+-- a line, with its newline
+abbrev pub line_of : Text → Text
+line_of text = text ++ 10 ∷ []
+
+-- the report of a file: the line of its path, and one for each record
+abbrev pub show_text : Text → List Record → Text
+show_text path rs = line_of (path ++ codes ":") ++ flat_map (λ r. line_of (list_text (shown_words r))) rs
+
+-- a line for each description, behind the module's name
+abbrev pub whatis_text : Text → List Record → Text
+whatis_text name rs = flat_map (λ text. line_of (name ++ codes ": " ++ text)) (whatis_texts rs)

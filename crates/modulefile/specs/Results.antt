@@ -1,0 +1,7 @@
+-- One step after another, up to the first reason.
+use Rattle.std.specs.Prelude.{Result, Ok, Err}
+
+infixl 10 ◌>>=◌
+abbrev pub ◌>>=◌ : {A B R : Type 0} → Result A R → (A → Result B R) → Result B R
+(Ok x) >>= f = f x
+(Err r) >>= f = Err r

@@ -1,0 +1,98 @@
+-- What worked files come to, in every environment.
+use Rattle.std.specs.Prelude.{ℕ, Bool, true, false, List, [], ◌∷◌, ◌++◌, codes, Some, None, Ok, Err}
+use Rattle.environment.specs.Texts.{Text}
+use Rattle.environment.specs.Environment.{Environment, with_value}
+use Rattle.tclrules.specs.Derivation.{Halt}
+use Rattle.tclrules.specs.declared.limits.Limits.{Limits}
+use Rattle.modulerecords.specs.Records.{Record}
+use Rattle.modulerecords.specs.Effects.{Mode, load, unload, display, whatis}
+use Rattle.modulefile.specs.declared.shell.Shell.{Shell}
+use Rattle.modulefile.specs.declared.shell.Shell.TheVariants.{Sh, Zsh, Tcsh}
+use Rattle.modulefile.specs.Answers.{Context}
+use Rattle.modulefile.specs.Files.{halted, failed, Runs}
+
+-- what every command may use
+abbrev pub standard : Limits
+standard = record { commands = 100000; depth = 200; value_bytes = 1048576 }
+
+-- the module m/1, typed as m, beside gcc/9
+abbrev pub context : Mode → Bool → Shell → Environment → Context
+context mode in_switch shell e =
+    record {
+      mode = mode;
+      in_switch = in_switch;
+      name = codes "m/1";
+      path = codes "/m/m/1";
+      shell = shell;
+      typed = codes "m";
+      loaded = codes "gcc/9" ∷ [];
+      start = e;
+    }
+
+-- the contexts of rows, by the environment before the file
+abbrev pub Seat : Type 0
+Seat = Environment → Context
+
+abbrev pub loading : Seat
+loading = context load false Sh
+
+abbrev pub unloading : Seat
+unloading = context unload false Sh
+
+abbrev pub showing : Seat
+showing = context display false Sh
+
+abbrev pub describing : Seat
+describing = context whatis false Sh
+
+-- the first half of a switch, and loads in other shells
+abbrev pub switching : Seat
+switching = context unload true Sh
+
+abbrev pub loading_in_zsh : Seat
+loading_in_zsh = context load false Zsh
+
+abbrev pub loading_in_tcsh : Seat
+loading_in_tcsh = context load false Tcsh
+
+-- the file of these lines, behind the one that marks a modulefile
+abbrev pub file : Text → Text
+file lines = codes "#%Module\n" ++ lines
+
+-- what the file makes of the environment
+abbrev pub stays : Environment → Environment
+stays e = e
+
+abbrev pub sets : Text → Text → Environment → Environment
+sets var value e = with_value e var (Some value)
+
+abbrev pub unsets : Text → Environment → Environment
+unsets var e = with_value e var None
+
+-- the file leaves these records, and makes this of the environment, and nothing is asked
+abbrev pub Leaves : Seat → Text → List Record → (Environment → Environment) → Type 0
+Leaves seat lines records makes =
+    (e : Environment)
+    → Runs standard (seat e) (file lines)
+    (Ok (record { records = records; messages = []; asked = false; env = makes e }))
+
+-- the same, where something is asked
+abbrev pub Asks : Seat → Text → List Record → (Environment → Environment) → Type 0
+Asks seat lines records makes =
+    (e : Environment)
+    → Runs standard (seat e) (file lines)
+    (Ok (record { records = records; messages = []; asked = true; env = makes e }))
+
+-- it leaves messages alone
+abbrev pub Says : Seat → Text → List Text → Type 0
+Says seat lines messages =
+    (e : Environment)
+    → Runs standard (seat e) (file lines) (Ok (record { records = []; messages = messages; asked = false; env = e }))
+
+-- it is halted
+abbrev pub Halts : Seat → Text → Halt → Type 0
+Halts seat lines halt = (e : Environment) → Runs standard (seat e) (file lines) (Err (halted halt))
+
+-- it ends with an error that nothing caught, on this line
+abbrev pub Fails : Seat → Text → Text → ℕ → Type 0
+Fails seat lines message line = (e : Environment) → Runs standard (seat e) (file lines) (Err (failed message line))
