@@ -1,0 +1,91 @@
+//! What a call gives the parameters of a procedure (proc(n)).
+ghost use Rattle.std.specs.Prelude.{◌≡◌, map, string_bytes};
+ghost use Rattle.tcloperators.specs.Faults.{Gives};
+ghost use Rattle.tclrules.specs.Rules.{argument, taken, allotted};
+ghost use Rattle.tclvariables.specs.Views.{parameter_view};
+ghost use Rattle.tclarguments.specs.Views.{named_values, allotment_view};
+
+use std::alloc::Global;
+use tcloperators::{ValueFault, wrong_words};
+use tclvalue::list_text;
+use tclvariables::Parameter;
+
+/// The value of a parameter, and the words that are left.
+#[derive(Drop)]
+struct Allotment<'w> {
+    value: String,
+    rest: &'w [String],
+}
+
+/// The value of a parameter that takes one word, or has its default.
+fn argument<'w>(
+    alloc: Global,
+    name: &str,
+    parameter: &Parameter,
+    words: &'w [String],
+) -> Result<Allotment<'w>, ValueFault>
+    ensures { Gives allotment_view result
+        (argument name.now (parameter_view parameter.now) (map string_bytes words.entry.now)) }
+{
+    match words {
+        [word, rest @ ..] => Ok(Allotment {
+            value: word.clone()?,
+            rest,
+        }),
+        [] => match &parameter.default {
+            Some(default) => Ok(Allotment {
+                value: default.clone()?,
+                rest: words,
+            }),
+            None => Err(wrong_words(alloc, name)),
+        },
+    }
+}
+
+/// The value of a parameter with others behind it; `args`, where it is the last, takes all words.
+fn taken<'w>(
+    alloc: Global,
+    name: &str,
+    parameter: &Parameter,
+    behind: &[Parameter],
+    words: &'w [String],
+) -> Result<Allotment<'w>, ValueFault>
+    ensures { Gives allotment_view result
+        (taken name.now (parameter_view parameter.now) (map parameter_view behind.now) (map string_bytes words.entry.now)) }
+{
+    if parameter.name.as_str() == "args" && behind.is_empty() {
+        return Ok(Allotment {
+            value: list_text(alloc, words)?,
+            rest: &[],
+        });
+    }
+    argument(alloc, name, parameter, words)
+}
+
+/// The parameters of the procedure of this name, each with its value for these words.
+///
+/// Errors: 13 where the words are too few or too many, 11 where memory runs out.
+pub fn allotted<'a>(
+    alloc: Global,
+    name: &str,
+    parameters: &'a [Parameter],
+    words: &[String],
+) -> Result<Vec<(&'a str, String)>, ValueFault>
+    ensures { Gives (λ vs. named_values vs.items) result
+        (allotted name.now (map parameter_view parameters.entry.now) (map string_bytes words.now)) }
+{
+    let mut values = Vec::new(alloc);
+    let mut rest = words;
+    let mut parameters = parameters;
+    while let [parameter, behind @ ..] = parameters {
+        let allotment = taken(alloc, name, parameter, behind, rest)?;
+        values.push((parameter.name.as_str(), allotment.value))?;
+        rest = allotment.rest;
+        parameters = behind;
+    }
+    if rest.is_empty() {
+        Ok(values)
+    } else {
+        Err(wrong_words(alloc, name))
+    }
+}
