@@ -1,5 +1,5 @@
 -- What a command of the program does, as the rules say it.
-use Rattle.std.specs.Prelude.{ℕ, List, [], map, String, string_bytes, Result, unwrap_or}
+use Rattle.std.specs.Prelude.{ℕ, List, [], ◌∷◌, map, String, string_bytes, Result, unwrap_or}
 use Rattle.std.specs.Borrow.{Bor}
 use Rattle.std.specs.declared.alloc.Global.{Global}
 use Rattle.tclchars.specs.Runs.{Text}
@@ -18,6 +18,11 @@ abbrev pub value_text : Value → State → Text
 value_text (values.Text t) s = string_bytes t
 value_text (values.Word w) s = w.now
 value_text (values.Variable global name) s = unwrap_or (value_at s (global, name.now)) []
+
+-- a command's name
+abbrev pub first_text : List Text → Text
+first_text [] = []
+first_text (w ∷ ws) = w
 
 -- names with their values
 abbrev pub named_values : List (Bor (List ℕ) × String Global) → List (Text × Text)

@@ -1,0 +1,86 @@
+//! Commands that the host answers: puts(n), and those that are no part of Tcl.
+ghost use Rattle.std.specs.Prelude.{◌≡◌, ◌∷◌, ℕ, IfOk, codes, map, string_bytes};
+ghost use Rattle.tclrules.specs.Derivation.{Consults};
+ghost use Rattle.tclrules.specs.Leads.{Leads, point};
+ghost use Rattle.tclrules.specs.Plans as plans;
+ghost use Rattle.tclrules.specs.Plans.{Job, Next};
+ghost use Rattle.tclrules.specs.Forms.{Put};
+ghost use Rattle.tclrules.specs.Rules.{form, replied};
+ghost use Rattle.tclsteps.specs.Stops.{after};
+ghost use Rattle.tclcommands.specs.Does.{Does, first_text};
+
+use crate::value::Value;
+use std::alloc::{AllocError, Global};
+use tclarguments::no_command;
+use tclrules::{Host, HostAnswer};
+use tclsteps::{Halt, Stop};
+use tclvariables::Variables;
+
+// What the host answers to the words of the command of this name.
+#[tactic(none)]
+fn ask<H: Host>(
+    alloc: Global,
+    variables: &Variables,
+    host: &mut H,
+    name: &str,
+    words: &[String],
+) -> Result<String, Stop>
+    ensures { (most used : ℕ) (r : Job → plans.Step) (k : Next) → Leads most r (Consults (map string_bytes words.now) (replied name.now variables.now k)) (point (H.oracle host.old) (H.told host.old) used) (after result (λ t s. k (string_bytes t) s) variables.now) (point (H.oracle host.new) (H.told host.new) used) }
+{
+    match host.command(words) {
+        HostAnswer::Done(text) => Ok(text),
+        HostAnswer::Unknown => Err(Stop::from(no_command(alloc, name))),
+        HostAnswer::LeftOut(name) => Err(Stop::Halted(Halt::LeftOut(name))),
+        HostAnswer::Refused(number) => Err(Stop::Halted(Halt::Host(number))),
+        HostAnswer::OutOfMemory => Err(Stop::Halted(Halt::OutOfMemory)),
+    }
+}
+
+// The first word, which is a command's name.
+fn first_text(words: &[String]) -> &str
+    ensures { result.now ≡ first_text (map string_bytes words.entry.now) }
+{
+    match words {
+        [name, ..] => name.as_str(),
+        [] => "",
+    }
+}
+
+/// A command that the host answers, by its words.
+#[tactic(none)]
+pub fn consult<'a, H: Host>(
+    alloc: Global,
+    variables: &Variables,
+    host: &mut H,
+    words: &'a [String],
+) -> Result<Value<'a>, Stop>
+    ensures { Does (λ b k. Consults (map string_bytes words.now) (replied (first_text (map string_bytes words.now)) variables.now k)) result variables.now (λ used. point (H.oracle host.old) (H.told host.old) used) (λ used. point (H.oracle host.new) (H.told host.new) used) }
+{
+    Ok(Value::Text(ask(alloc, variables, host, first_text(words), words)?))
+}
+
+// A name with copies of words behind it.
+fn named(alloc: Global, name: &str, words: &[String]) -> Result<Vec<String>, AllocError>
+    ensures { IfOk result (λ v. map string_bytes v.items ≡ name.now ∷ map string_bytes words.now) }
+{
+    let mut copies = Vec::new(alloc);
+    copies.push(String::from_str(alloc, name)?)?;
+    for word in words {
+        copies.push(String::from_str(alloc, word)?)?;
+    }
+    Ok(copies)
+}
+
+/// puts(n), of which the host has the words.
+#[tactic(none)]
+pub fn put<'a, H: Host>(
+    alloc: Global,
+    variables: &Variables,
+    host: &mut H,
+    words: &'a [String],
+) -> Result<Value<'a>, Stop>
+    ensures { Does (λ b k. form b (Put (map string_bytes words.now)) variables.now k) result variables.now (λ used. point (H.oracle host.old) (H.told host.old) used) (λ used. point (H.oracle host.new) (H.told host.new) used) }
+{
+    let words = named(alloc, "puts", words)?;
+    Ok(Value::Text(ask(alloc, variables, host, "puts", &words)?))
+}

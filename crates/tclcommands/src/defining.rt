@@ -1,0 +1,27 @@
+//! proc(n).
+ghost use Rattle.tclrules.specs.Forms.{Define};
+ghost use Rattle.tclrules.specs.Rules.{form};
+ghost use Rattle.tclcommands.specs.Does.{DoesAlone};
+
+use crate::value::Value;
+use std::alloc::Global;
+use tclarguments::parameters;
+use tclsteps::Stop;
+use tclvariables::{Procedure, Variables};
+
+/// proc(n)
+#[tactic(none)]
+pub fn define<'a>(
+    alloc: Global,
+    variables: &mut Variables,
+    name: &'a str,
+    list: &'a str,
+    body: &'a str,
+) -> Result<Value<'a>, Stop>
+    ensures { DoesAlone (λ b k. form b (Define name.now list.now body.now) variables.old k) result variables.new }
+{
+    let parameters = parameters(alloc, name, list)?;
+    let body = String::from_str(alloc, body)?;
+    variables.define(alloc, name, Procedure { parameters, body })?;
+    Ok(Value::Word(""))
+}
