@@ -1,9 +1,5 @@
-use Rattle.std.proofs.Common.{◌≡◌, ◌<◌, suc, [], ◌∷◌, ◌++◌, List, drop, get_or, true, false, None, Some, is_some, length, map, string_bytes, option_map, codes, ap, sym, ◌∙◌, refl, arith, rules}
+use Rattle.std.proofs.Common.{rules}
 use Rattle.std.proofs.lemmas.Result.{err_from_is_err_and}
-use Rattle.std.proofs.Math.ListN.{drop_of_length-le}
-use Rattle.tclrules.proofs.Leading.{stay, go_on, starve, want, hear_on}
-use Rattle.tclsteps.proofs.Leading.{given_stops, given_on}
-use Rattle.tclcommands.proofs.Insides.{names_from, reason_stops}
 use Rattle.tclcommands.proofs.asking.consult.Goals as goal
 
 pub ask-requires-text-name : goal.ask-requires-text-name

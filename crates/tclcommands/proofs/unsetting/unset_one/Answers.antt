@@ -1,9 +1,8 @@
-use Rattle.std.proofs.Common.{Bool, ◌≡◌, ◌<◌, suc, [], ◌∷◌, ◌++◌, List, drop, get_or, true, false, None, Some, is_some, length, map, string_bytes, option_map, codes, ap, sym, ◌∙◌, refl, arith, rules}
+use Rattle.std.proofs.Common.{Bool, ◌≡◌, true, false, is_some, rules}
 use Rattle.std.proofs.lemmas.Result.{err_from_is_err_and}
-use Rattle.std.proofs.Math.ListN.{drop_of_length-le}
-use Rattle.tclrules.proofs.Leading.{stay, go_on, starve, want, hear_on}
+use Rattle.tclrules.proofs.Leading.{go_on}
 use Rattle.tclsteps.proofs.Leading.{given_stops, given_on}
-use Rattle.tclcommands.proofs.Insides.{names_from, reason_stops}
+use Rattle.tclcommands.proofs.Insides.{reason_stops}
 use Rattle.tclchars.specs.Runs.{Text}
 use Rattle.tclrules.specs.Variables.{value_at}
 use Rattle.tclcommands.proofs.Insides.{unset_there, unset_absent}
