@@ -51,6 +51,10 @@ abbrev pub no_option : List Text → Result (List Text) CallReason
 no_option [] = Ok []
 no_option (word ∷ words) = if begins 45 word then Err bad_arguments else Ok (word ∷ words)
 
+-- the form of words of which the first is no option
+abbrev pub without_option : (List Text → Form) → List Text → Form
+without_option form words = no_option words >>= form
+
 -- `VAR value`
 abbrev pub var_and_value : (Text → Text → Record) → List Text → Form
 var_and_value make (var ∷ value ∷ []) = Ok (keeps (make var value))
@@ -110,6 +114,10 @@ getenv_form (var ∷ []) = Ok (getenv var [])
 getenv_form (var ∷ default ∷ []) = Ok (getenv var default)
 getenv_form words = Err bad_arguments
 
+-- `is-loaded ?NAME...?`
+abbrev pub asked_of_loaded : List Text → Form
+asked_of_loaded names = Ok (is_loaded names)
+
 -- the evaluator hands on a channel and a text, or `-nonewline` in front of these
 abbrev pub puts_form : List Text → Form
 puts_form (channel ∷ text ∷ []) = Ok (says (text ++ 10 ∷ []))
@@ -142,22 +150,25 @@ info_form (topic ∷ words) =
 abbrev pub description : List Text → Record
 description words = Whatis (join_with_byte 32 words)
 
+-- why a name that is none of the commands' isn't one
+abbrev pub not_a_command : Text → CallReason
+not_a_command name = if is_among left_out_module_commands name then left_out name else unknown
+
 -- The command that these words call.
 unfoldable pub call_of : List Text → Form
 call_of [] = Err unknown
 call_of (name ∷ words) =
-    if bytes_eq name (codes "setenv") then no_option words >>= var_and_value Set
-    else if bytes_eq name (codes "unsetenv") then no_option words >>= var_and_perhaps
-    else if bytes_eq name (codes "pushenv") then no_option words >>= var_and_value Push
+    if bytes_eq name (codes "setenv") then without_option (var_and_value Set) words
+    else if bytes_eq name (codes "unsetenv") then without_option var_and_perhaps words
+    else if bytes_eq name (codes "pushenv") then without_option (var_and_value Push) words
     else if bytes_eq name (codes "prepend-path") then path_form Front words
     else if bytes_eq name (codes "append-path") then path_form Back words
     else if bytes_eq name (codes "remove-path") then path_form Remove words
-    else if bytes_eq name (codes "conflict") then no_option words >>= some_words Conflict
-    else if bytes_eq name (codes "prereq") then no_option words >>= some_words Prereq
+    else if bytes_eq name (codes "conflict") then without_option (some_words Conflict) words
+    else if bytes_eq name (codes "prereq") then without_option (some_words Prereq) words
     else if bytes_eq name (codes "module-whatis") then some_words description words
-    else if bytes_eq name (codes "getenv") then no_option words >>= getenv_form
-    else if bytes_eq name (codes "is-loaded") then no_option words >>= (λ names. Ok (is_loaded names))
+    else if bytes_eq name (codes "getenv") then without_option getenv_form words
+    else if bytes_eq name (codes "is-loaded") then without_option asked_of_loaded words
     else if bytes_eq name (codes "module-info") then info_form words
     else if bytes_eq name (codes "puts") then puts_form words
-    else if is_among left_out_module_commands name then Err (left_out name)
-    else Err unknown
+    else Err (not_a_command name)

@@ -1,5 +1,6 @@
 pub mod Results
 pub mod Calls
+pub mod CallViews
 pub mod Shells
 pub mod Answers
 pub mod Files

@@ -1,10 +1,14 @@
 //! What the commands of modulefiles mean (modulefile(5)): the definitions, and what holds of them.
 #![tactic(auto)]
 
+mod call;
+mod call_fault;
 mod laws;
 mod rows;
 mod shell;
 
+pub use call::{Call, PathEdit, Topic, call_of};
+pub use call_fault::CallFault;
 pub use laws::{files, plain, played, words};
 pub use rows::{ending_rows, file_rows, path_rows, question_rows, refused_rows, report_rows};
 pub use shell::Shell;

@@ -1,0 +1,351 @@
+//! The commands of modulefiles, with their words in their places.
+ghost use Rattle.std.specs.Prelude.{◌≡◌, map, string_bytes};
+ghost use Rattle.std.specs.Option.{option_map};
+ghost use Rattle.tclchars.specs.Runs.{begins};
+ghost use Rattle.tclvalue.specs.Indexes.{after_front};
+ghost use Rattle.tclrules.specs.Names.{is_among, left_out_module_commands};
+ghost use Rattle.modulerecords.specs.Records.{Set, Push, Conflict, Prereq};
+ghost use Rattle.modulefile.specs.Calls.{no_option, without_option, var_and_value, var_and_perhaps, with_delimiter, by_next_word, by_same_word};
+ghost use Rattle.modulefile.specs.Calls.{by_option, delimited, path_form, some_words, getenv_form, puts_form, told_or_tested};
+ghost use Rattle.modulefile.specs.Calls.{alone, info_form, description, asked_of_loaded, not_a_command, call_of};
+ghost use Rattle.modulefile.specs.CallViews.{Gives, HasReason, texts_of, call_view, edit_record, topic_view, path_words_view};
+
+use crate::call_fault::CallFault;
+use std::alloc::Global;
+
+/// What a question of `module-info` is about.
+#[derive(Clone, Copy, Debug, PartialEq, Eq)]
+pub enum Topic {
+    Mode,
+    Shell,
+    ShellType,
+}
+
+/// What a path command does with its elements.
+#[derive(Clone, Copy, Debug, PartialEq, Eq)]
+pub enum PathEdit {
+    /// `prepend-path`
+    Front,
+    /// `append-path`
+    Back,
+    /// `remove-path`
+    Remove,
+}
+
+/// A command, with its words.
+#[derive(Clone, Copy)]
+pub enum Call<'a> {
+    /// `setenv VAR value`
+    Set {
+        var: &'a str,
+        value: &'a str,
+    },
+    /// `unsetenv VAR ?value?`
+    Unset {
+        var: &'a str,
+        value: Option<&'a str>,
+    },
+    /// `pushenv VAR value`
+    Push {
+        var: &'a str,
+        value: &'a str,
+    },
+    /// A path command: `?--delim C? VAR value...`
+    Path {
+        edit: PathEdit,
+        delim: char,
+        var: &'a str,
+        values: &'a [String],
+    },
+    /// `conflict NAME...`
+    Conflict(&'a [String]),
+    /// `prereq NAME...`
+    Prereq(&'a [String]),
+    /// `module-whatis WORD...`
+    Whatis(&'a [String]),
+    /// `puts ?-nonewline? stderr TEXT`
+    Say {
+        text: &'a str,
+        newline: bool,
+    },
+    /// `getenv VAR ?default?`; without a default it is empty.
+    Getenv {
+        var: &'a str,
+        default: &'a str,
+    },
+    /// `is-loaded ?NAME...?`
+    IsLoaded(&'a [String]),
+    /// `module-info name`
+    OwnName,
+    /// `module-info specified`
+    TypedName,
+    /// `module-info TOPIC`
+    Tell(Topic),
+    /// `module-info TOPIC WORD`
+    Test(Topic, &'a str),
+}
+
+/// The delimiter of a path command, and its words from VAR on.
+#[derive(Clone, Copy)]
+struct PathWords<'a> {
+    delim: char,
+    words: &'a [String],
+}
+
+fn is_option(word: &str) -> bool
+    ensures { result ≡ begins 45 word.now }
+{
+    matches!(word.as_bytes(), [b'-', ..])
+}
+
+/// The words, of which the first is no option.
+fn no_option(words: &[String]) -> Result<&[String], CallFault>
+    ensures { Gives (λ ws. texts_of ws.now) result (no_option (map string_bytes words.entry.now)) }
+{
+    match words {
+        [word, ..] if is_option(word) => Err(CallFault::BadArguments),
+        _ => Ok(words),
+    }
+}
+
+fn set_form(words: &[String]) -> Result<Call<'_>, CallFault>
+    ensures { Gives call_view result (without_option (var_and_value Set) (map string_bytes words.entry.now)) }
+{
+    match no_option(words)? {
+        [var, value] => Ok(Call::Set { var, value }),
+        _ => Err(CallFault::BadArguments),
+    }
+}
+
+fn push_form(words: &[String]) -> Result<Call<'_>, CallFault>
+    ensures { Gives call_view result (without_option (var_and_value Push) (map string_bytes words.entry.now)) }
+{
+    match no_option(words)? {
+        [var, value] => Ok(Call::Push { var, value }),
+        _ => Err(CallFault::BadArguments),
+    }
+}
+
+fn unset_form(words: &[String]) -> Result<Call<'_>, CallFault>
+    ensures { Gives call_view result (without_option var_and_perhaps (map string_bytes words.entry.now)) }
+{
+    match no_option(words)? {
+        [var] => Ok(Call::Unset { var, value: None }),
+        [var, value] => Ok(Call::Unset {
+            var,
+            value: Some(value),
+        }),
+        _ => Err(CallFault::BadArguments),
+    }
+}
+
+/// The delimiter that a word says: one character from the space to the tilde.
+fn with_delimiter<'a>(text: &str, words: &'a [String]) -> Result<PathWords<'a>, CallFault>
+    ensures { Gives path_words_view result (with_delimiter text.now (map string_bytes words.entry.now)) }
+{
+    match text.as_bytes() {
+        [byte @ 32..=126] => Ok(PathWords {
+            delim: *byte as char,
+            words,
+        }),
+        _ => Err(CallFault::BadArguments),
+    }
+}
+
+fn by_next_word(words: &[String]) -> Result<PathWords<'_>, CallFault>
+    ensures { Gives path_words_view result (by_next_word (map string_bytes words.entry.now)) }
+{
+    match words {
+        [text, rest @ ..] => with_delimiter(text, rest),
+        [] => Err(CallFault::BadArguments),
+    }
+}
+
+fn by_option<'a>(option: &str, words: &'a [String]) -> Result<PathWords<'a>, CallFault>
+    ensures { Gives path_words_view result (by_option option.now (map string_bytes words.entry.now)) }
+{
+    if option == "-d" || option == "--delim" {
+        return by_next_word(words);
+    }
+    match option.strip_prefix("--delim=") {
+        Some(text) => with_delimiter(text, words),
+        None => Err(CallFault::BadArguments),
+    }
+}
+
+fn delimited(words: &[String]) -> Result<PathWords<'_>, CallFault>
+    ensures { Gives path_words_view result (delimited (map string_bytes words.entry.now)) }
+{
+    match words {
+        [] => Err(CallFault::BadArguments),
+        [word, rest @ ..] if is_option(word) => by_option(word, rest),
+        _ => Ok(PathWords { delim: ':', words }),
+    }
+}
+
+fn path_form(edit: PathEdit, words: &[String]) -> Result<Call<'_>, CallFault>
+    ensures { Gives call_view result (path_form (edit_record edit) (map string_bytes words.entry.now)) }
+{
+    let PathWords { delim, words } = delimited(words)?;
+    match words {
+        [var, values @ ..] if !values.is_empty() => Ok(Call::Path {
+            edit,
+            delim,
+            var,
+            values,
+        }),
+        _ => Err(CallFault::BadArguments),
+    }
+}
+
+fn conflict_form(words: &[String]) -> Result<Call<'_>, CallFault>
+    ensures { Gives call_view result (without_option (some_words Conflict) (map string_bytes words.entry.now)) }
+{
+    match no_option(words)? {
+        [] => Err(CallFault::BadArguments),
+        names => Ok(Call::Conflict(names)),
+    }
+}
+
+fn prereq_form(words: &[String]) -> Result<Call<'_>, CallFault>
+    ensures { Gives call_view result (without_option (some_words Prereq) (map string_bytes words.entry.now)) }
+{
+    match no_option(words)? {
+        [] => Err(CallFault::BadArguments),
+        names => Ok(Call::Prereq(names)),
+    }
+}
+
+fn whatis_form(words: &[String]) -> Result<Call<'_>, CallFault>
+    ensures { Gives call_view result (some_words description (map string_bytes words.entry.now)) }
+{
+    match words {
+        [] => Err(CallFault::BadArguments),
+        _ => Ok(Call::Whatis(words)),
+    }
+}
+
+fn getenv_form(words: &[String]) -> Result<Call<'_>, CallFault>
+    ensures { Gives call_view result (without_option getenv_form (map string_bytes words.entry.now)) }
+{
+    match no_option(words)? {
+        [var] => Ok(Call::Getenv { var, default: "" }),
+        [var, default] => Ok(Call::Getenv { var, default }),
+        _ => Err(CallFault::BadArguments),
+    }
+}
+
+fn loaded_form(words: &[String]) -> Result<Call<'_>, CallFault>
+    ensures { Gives call_view result (without_option asked_of_loaded (map string_bytes words.entry.now)) }
+{
+    Ok(Call::IsLoaded(no_option(words)?))
+}
+
+/// The evaluator hands on a channel and a text, or an option before them.
+fn puts_form(words: &[String]) -> Result<Call<'_>, CallFault>
+    ensures { Gives call_view result (puts_form (map string_bytes words.entry.now)) }
+{
+    match words {
+        [_, text] => Ok(Call::Say {
+            text,
+            newline: true,
+        }),
+        [_, _, text] => Ok(Call::Say {
+            text,
+            newline: false,
+        }),
+        _ => Err(CallFault::BadArguments),
+    }
+}
+
+fn told_or_tested(topic: Topic, words: &[String]) -> Result<Call<'_>, CallFault>
+    ensures { Gives call_view result (told_or_tested (topic_view topic) (map string_bytes words.entry.now)) }
+{
+    match words {
+        [] => Ok(Call::Tell(topic)),
+        [word] => Ok(Call::Test(topic, word)),
+        _ => Err(CallFault::BadArguments),
+    }
+}
+
+/// The call, where no word follows.
+fn alone<'a>(call: Call<'a>, words: &[String]) -> Result<Call<'a>, CallFault>
+    ensures { Gives call_view result (alone (call_view call.entry) (map string_bytes words.entry.now)) }
+{
+    match words {
+        [] => Ok(call),
+        _ => Err(CallFault::BadArguments),
+    }
+}
+
+fn info_form<'a>(alloc: Global, words: &'a [String]) -> Result<Call<'a>, CallFault>
+    ensures { Gives call_view result (info_form (map string_bytes words.entry.now)) }
+{
+    let [topic, others @ ..] = words else {
+        return Err(CallFault::BadArguments);
+    };
+    match topic.as_str() {
+        "mode" => told_or_tested(Topic::Mode, others),
+        "name" => alone(Call::OwnName, others),
+        "specified" => alone(Call::TypedName, others),
+        "shell" => told_or_tested(Topic::Shell, others),
+        "shelltype" => told_or_tested(Topic::ShellType, others),
+        other => Err(CallFault::left_out_info(alloc, other)),
+    }
+}
+
+/// Whether a command of this name is left out.
+#[tactic(auto, unfolding(tclrules::specs::Names::left_out_module_commands))]
+fn is_left_out(name: &str) -> bool
+    ensures { result ≡ is_among left_out_module_commands name.now }
+{
+    match name {
+        "module" | "depends-on" | "set-alias" | "set-function" | "system" | "uname" => true,
+        "source-sh" | "x-resource" | "chdir" | "family" | "complete" | "module-alias" => true,
+        "module-virtual" | "module-tag" | "module-hide" | "module-forbid" => true,
+        "prereq-all" | "prereq-any" | "module-help" | "is-avail" | "is-saved" | "is-used" => true,
+        "unset-alias" | "unset-function" | "uncomplete" => true,
+        "variant" | "getvariant" | "versioncmp" => true,
+        _ => false,
+    }
+}
+
+/// Why a name that is none of the commands' isn't one.
+fn unknown_or_left_out(alloc: Global, name: &str) -> CallFault
+    ensures { HasReason (not_a_command name.now) result }
+{
+    if is_left_out(name) {
+        CallFault::left_out(alloc, name)
+    } else {
+        CallFault::Unknown
+    }
+}
+
+/// The command that these words call, the first of which is its name. Nothing of the environment is looked at.
+///
+/// Errors: no such command is known; it, or this part of it, is left out (19); the words don't fit it, as a wrong number of
+/// them, an option, or a delimiter that isn't one character (56); or want of memory.
+#[tactic(auto, unfolding(crate::specs::Calls::call_of))]
+pub fn call_of<'a>(alloc: Global, words: &'a [String]) -> Result<Call<'a>, CallFault>
+    ensures { Gives call_view result (call_of (map string_bytes words.entry.now)) }
+{
+    let [name, others @ ..] = words else {
+        return Err(CallFault::Unknown);
+    };
+    match name.as_str() {
+        "setenv" => set_form(others),
+        "unsetenv" => unset_form(others),
+        "pushenv" => push_form(others),
+        "prepend-path" => path_form(PathEdit::Front, others),
+        "append-path" => path_form(PathEdit::Back, others),
+        "remove-path" => path_form(PathEdit::Remove, others),
+        "conflict" => conflict_form(others),
+        "prereq" => prereq_form(others),
+        "module-whatis" => whatis_form(others),
+        "getenv" => getenv_form(others),
+        "is-loaded" => loaded_form(others),
+        "module-info" => info_form(alloc, others),
+        "puts" => puts_form(others),
+        other => Err(unknown_or_left_out(alloc, other)),
+    }
+}

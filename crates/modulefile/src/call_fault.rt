@@ -1,0 +1,41 @@
+//! Why a command of a modulefile isn't done, whatever environment it finds.
+ghost use Rattle.std.specs.Prelude.{◌++◌, codes};
+ghost use Rattle.modulefile.specs.Calls.{left_out};
+ghost use Rattle.modulefile.specs.CallViews.{HasReason};
+
+use std::alloc::{AllocError, Global};
+
+/// Why the words of a command call none.
+#[derive(Debug, Drop)]
+pub enum CallFault {
+    /// Memory ran out.
+    OutOfMemory,
+    /// No such command is known.
+    Unknown,
+    /// The command, or this part of it, is left out.
+    LeftOut(String),
+    /// The words don't fit the command.
+    BadArguments,
+}
+
+impl CallFault {
+    /// What has this name is left out.
+    pub(crate) fn left_out(alloc: Global, name: &str) -> CallFault
+        ensures { HasReason (left_out name.now) result }
+    {
+        match String::from_str(alloc, name) {
+            Ok(name) => CallFault::LeftOut(name),
+            Err(_) => CallFault::OutOfMemory,
+        }
+    }
+
+    /// `module-info` about this is left out.
+    pub(crate) fn left_out_info(alloc: Global, topic: &str) -> CallFault
+        ensures { HasReason (left_out (codes "module-info " ++ topic.now)) result }
+    {
+        match format!(in alloc; "module-info {topic}") {
+            Ok(name) => CallFault::LeftOut(name),
+            Err(_) => CallFault::OutOfMemory,
+        }
+    }
+}
