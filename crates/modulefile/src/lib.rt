@@ -12,3 +12,6 @@ pub use call_fault::CallFault;
 pub use laws::{files, plain, played, words};
 pub use rows::{ending_rows, file_rows, path_rows, question_rows, refused_rows, report_rows};
 pub use shell::Shell;
+
+#[cfg(test)]
+mod tests;
