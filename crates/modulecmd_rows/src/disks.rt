@@ -1,7 +1,7 @@
 //! The files and directories of a disk.
 
 use crate::system::{System, Told};
-use lookup::{DiskTree, Tree, TreeFault};
+use lookup::{DiskTree, MemoryTree, Tree, TreeFault};
 use std::io::ErrorKind;
 use std::os::unix::fs::PermissionsExt;
 use std::test::Fail;
@@ -101,5 +101,20 @@ fn failures_are_no_absence(rt: HostRuntime) -> Result<(), Fail> {
         let found = answers(&rt, told);
         assert!(rt; found.0 == file && found.1 == directory);
     }
+    Ok(())
+}
+
+#[test]
+fn keeps_files_and_directories_in_memory(rt: HostRuntime) -> Result<(), Fail> {
+    let mut tree = MemoryTree::new(rt.alloc());
+    tree.put_file("/m/empty/1", b"")?;
+    tree.put_directory("/m/foo", &["1.0"])?;
+    let empty = tree.read("/m/empty/1")?.ok_or("no file")?;
+    assert_eq!(rt; empty.len(), 0);
+    assert!(rt; tree.read("/m/foo")?.is_none());
+    assert!(rt; tree.entries("/m/empty/1")?.is_none());
+    let names = tree.entries("/m/foo")?.ok_or("no directory")?;
+    assert_eq!(rt; names.len(), 1);
+    assert_eq!(rt; names[0].as_str(), "1.0");
     Ok(())
 }

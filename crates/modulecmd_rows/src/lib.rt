@@ -1,18 +1,10 @@
-//! Worked rows of searches, requests and commands, of the process that they run in, and of the lines that tell of
-//! faults, by the public calls of `lookup`, `modules` and `modulecmd` alone.
+//! What a process is given, and the files and directories of a disk, by a system that is told what to answer and by the
+//! real one, through the public calls of `lookup` and `modulecmd` alone.
 #![tactic(auto)]
 
 #[cfg(test)]
-mod commands;
-#[cfg(test)]
 mod disks;
 #[cfg(test)]
-mod error_lines;
-#[cfg(test)]
 mod processes;
-#[cfg(test)]
-mod requests;
-#[cfg(test)]
-mod searches;
 #[cfg(test)]
 mod system;

@@ -14,4 +14,5 @@ pub mod OperandSteps
 pub mod OperandFaults
 pub mod Whole
 pub mod Clauses
+pub mod Fronts
 pub mod Examples

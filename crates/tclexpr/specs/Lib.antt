@@ -9,5 +9,6 @@ pub mod Operands
 pub mod OperandGrammar
 pub mod Text
 pub mod View
+pub mod Offending
 pub mod Omitted
 pub mod Owned

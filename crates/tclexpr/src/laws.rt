@@ -1,10 +1,12 @@
 ghost use Rattle.std.specs.Prelude.{◌≡◌, ◌≢◌, ◌↔◌, ℕ, Ok, Err};
 ghost use Rattle.tclchars.specs.Runs.{Text};
+ghost use Rattle.tclchars.specs.declared.fault.Fault.{Fault};
 ghost use Rattle.tclchars.specs.declared.fault.TextFault.{TextFault};
-ghost use Rattle.tclchars.specs.declared.fault.TextFault.TheVariants.{OutOfMemory};
+ghost use Rattle.tclchars.specs.declared.fault.TextFault.TheVariants.{BadExpression, OutOfMemory};
 ghost use Rattle.tclexpr.specs.Tree.{Expr};
 ghost use Rattle.tclexpr.specs.Operands.{Operand};
-ghost use Rattle.tclexpr.specs.Text.{IsExpression, IsWithin, IsTextFault, expr_of};
+ghost use Rattle.tclexpr.specs.Offending.{HasFrontBefore, IsBehindFront};
+ghost use Rattle.tclexpr.specs.Text.{IsExpression, IsFault, IsWithin, IsTextFault, expr_of};
 
 /// A text is an expression with one tree at most, however deep it nests.
 pub fn one_expression()
@@ -25,4 +27,11 @@ pub fn expr_of_grammar()
     ensures tree { (bs : Text) (e : Expr Operand) → (expr_of bs ≡ Ok e) ↔ IsWithin bs e }
     ensures fault { (bs : Text) (f : TextFault) → f ≢ OutOfMemory → (expr_of bs ≡ Err f) ↔ IsTextFault bs f }
     ensures no_memory { (bs : Text) → expr_of bs ≢ Err OutOfMemory }
+{}
+
+/// Before a fault stand tokens with which some expression begins, and behind them and white space the operand that is
+/// wrong, or the token that can't stand there, or the text's end: there is the place of a wrong expression.
+pub fn first_offending()
+    ensures front { (d : ℕ) (bs : Text) (f : Fault) → IsFault d bs f → IsBehindFront bs f }
+    ensures place { (bs : Text) (at : ℕ) → IsTextFault bs (BadExpression at) → HasFrontBefore bs at }
 {}

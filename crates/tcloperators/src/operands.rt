@@ -92,6 +92,27 @@ impl Operands {
             Err(_) => Err(negative_shift(alloc)),
         }
     }
+
+    /// The bits that both have.
+    pub(crate) fn bits_of_both(self) -> i64
+        ensures { result ≡ numbers.bits_of_both self.left self.right }
+    {
+        self.left & self.right
+    }
+
+    /// The bits that one of them has.
+    pub(crate) fn bits_of_one(self) -> i64
+        ensures { result ≡ numbers.bits_of_one self.left self.right }
+    {
+        self.left ^ self.right
+    }
+
+    /// The bits that one of them has, or both.
+    pub(crate) fn bits_of_either(self) -> i64
+        ensures { result ≡ numbers.bits_of_either self.left self.right }
+    {
+        self.left | self.right
+    }
 }
 
 /// The sum of two whole numbers.

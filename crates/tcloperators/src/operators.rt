@@ -54,61 +54,29 @@ pub fn binary(
 ) -> Result<String, ValueFault>
     ensures { GivesText result (binary_value op left.now right.now) }
 {
-    match op {
-        BinaryOperator::TextEqual => truth_text(alloc, left == right),
-        BinaryOperator::TextNotEqual => truth_text(alloc, left != right),
-        BinaryOperator::In => truth_text(alloc, is_in(alloc, left, right)?),
-        BinaryOperator::NotIn => truth_text(alloc, !is_in(alloc, left, right)?),
-        BinaryOperator::Less => truth_text(alloc, order(left, right)?.is_lt()),
-        BinaryOperator::Greater => truth_text(alloc, order(left, right)?.is_gt()),
-        BinaryOperator::LessEqual => truth_text(alloc, order(left, right)?.is_le()),
-        BinaryOperator::GreaterEqual => truth_text(alloc, order(left, right)?.is_ge()),
-        BinaryOperator::Equal => truth_text(alloc, order(left, right)?.is_eq()),
-        BinaryOperator::NotEqual => truth_text(alloc, order(left, right)?.is_ne()),
-        BinaryOperator::Multiply => {
-            decimal_text(alloc, whole_operands(alloc, op, left, right)?.product()?)
-        }
-        BinaryOperator::Divide => {
-            decimal_text(
-                alloc,
-                whole_operands(alloc, op, left, right)?.quotient(alloc)?,
-            )
-        }
-        BinaryOperator::Remainder => {
-            decimal_text(
-                alloc,
-                whole_operands(alloc, op, left, right)?.remainder(alloc)?,
-            )
-        }
-        BinaryOperator::Add => decimal_text(alloc, whole_operands(alloc, op, left, right)?.sum()?),
-        BinaryOperator::Subtract => {
-            decimal_text(alloc, whole_operands(alloc, op, left, right)?.difference()?)
-        }
-        BinaryOperator::ShiftLeft => {
-            decimal_text(
-                alloc,
-                whole_operands(alloc, op, left, right)?.shifted_left(alloc)?,
-            )
-        }
-        BinaryOperator::ShiftRight => {
-            decimal_text(
-                alloc,
-                whole_operands(alloc, op, left, right)?.shifted_right(alloc)?,
-            )
-        }
-        BinaryOperator::BitAnd => {
-            let operands = whole_operands(alloc, op, left, right)?;
-            decimal_text(alloc, operands.left & operands.right)
-        }
-        BinaryOperator::BitXor => {
-            let operands = whole_operands(alloc, op, left, right)?;
-            decimal_text(alloc, operands.left ^ operands.right)
-        }
-        BinaryOperator::BitOr => {
-            let operands = whole_operands(alloc, op, left, right)?;
-            decimal_text(alloc, operands.left | operands.right)
-        }
-    }
+    let number = match op {
+        BinaryOperator::TextEqual => return truth_text(alloc, left == right),
+        BinaryOperator::TextNotEqual => return truth_text(alloc, left != right),
+        BinaryOperator::In => return truth_text(alloc, is_in(alloc, left, right)?),
+        BinaryOperator::NotIn => return truth_text(alloc, !is_in(alloc, left, right)?),
+        BinaryOperator::Less => return truth_text(alloc, order(left, right)?.is_lt()),
+        BinaryOperator::Greater => return truth_text(alloc, order(left, right)?.is_gt()),
+        BinaryOperator::LessEqual => return truth_text(alloc, order(left, right)?.is_le()),
+        BinaryOperator::GreaterEqual => return truth_text(alloc, order(left, right)?.is_ge()),
+        BinaryOperator::Equal => return truth_text(alloc, order(left, right)?.is_eq()),
+        BinaryOperator::NotEqual => return truth_text(alloc, order(left, right)?.is_ne()),
+        BinaryOperator::Multiply => whole_operands(alloc, op, left, right)?.product()?,
+        BinaryOperator::Divide => whole_operands(alloc, op, left, right)?.quotient(alloc)?,
+        BinaryOperator::Remainder => whole_operands(alloc, op, left, right)?.remainder(alloc)?,
+        BinaryOperator::Add => whole_operands(alloc, op, left, right)?.sum()?,
+        BinaryOperator::Subtract => whole_operands(alloc, op, left, right)?.difference()?,
+        BinaryOperator::ShiftLeft => whole_operands(alloc, op, left, right)?.shifted_left(alloc)?,
+        BinaryOperator::ShiftRight => whole_operands(alloc, op, left, right)?.shifted_right(alloc)?,
+        BinaryOperator::BitAnd => whole_operands(alloc, op, left, right)?.bits_of_both(),
+        BinaryOperator::BitXor => whole_operands(alloc, op, left, right)?.bits_of_one(),
+        BinaryOperator::BitOr => whole_operands(alloc, op, left, right)?.bits_of_either(),
+    };
+    decimal_text(alloc, number)
 }
 
 /// Whether a text is an element of a list.

@@ -1,0 +1,54 @@
+//! Writers that fail.
+ghost use Rattle.std.specs.Prelude.{Some};
+
+use std::alloc::Global;
+use std::io;
+use std::io::{ErrorKind, Write};
+
+/// A writer that takes at most three bytes at a time, and fails once it is full.
+#[derive(Drop)]
+pub(crate) struct Limited {
+    pub(crate) held: Vec<u8>,
+    room: usize,
+    fails_with: ErrorKind,
+}
+
+impl Limited {
+    pub(crate) fn new(alloc: Global, room: usize, fails_with: ErrorKind) -> Limited {
+        Limited {
+            held: Vec::new(alloc),
+            room,
+            fails_with,
+        }
+    }
+}
+
+impl Write for Limited {
+    ghost contents = { λ w. Some w.held.items };
+
+    fn write(&mut self, buf: &[u8]) -> io::Result<usize> {
+        let left = self.room.saturating_sub(self.held.len());
+        let n = buf.len().min(3).min(left);
+        if n == 0 {
+            if self.fails_with == ErrorKind::WriteZero {
+                return Ok(0);
+            }
+            return Err(io::Error::from(self.fails_with));
+        }
+        self.held.extend_from_slice(&buf[..n])?;
+        Ok(n)
+    }
+
+    fn flush(&mut self) -> io::Result<()> {
+        Ok(())
+    }
+}
+
+/// How writers of this name fail.
+pub(crate) fn kind(name: &str) -> ErrorKind {
+    match name {
+        "interrupted" => ErrorKind::Interrupted,
+        "zero" => ErrorKind::WriteZero,
+        _ => ErrorKind::BrokenPipe,
+    }
+}

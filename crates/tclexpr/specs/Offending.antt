@@ -1,0 +1,38 @@
+-- What stands before the place of a fault: tokens with which the tokens of some expression begin.
+use Rattle.std.specs.Prelude.{◌≡◌, ◌+◌, ℕ, List, ◌++◌, length}
+use Rattle.tclchars.specs.Runs.{Text}
+use Rattle.tclchars.specs.declared.fault.Fault.{Fault}
+use Rattle.tclchars.specs.declared.fault.Fault.TheVariants.{OpenBrace, OpenQuote, OpenBracket, JoinedToClose, TooDeep, BadCharacter, BadExpression}
+use Rattle.tclexpr.specs.Tree.{Expr, Token}
+use Rattle.tclexpr.specs.Grammar.{IsExpr}
+use Rattle.tclexpr.specs.Marks.{after_white}
+use Rattle.tclexpr.specs.Row.{IsRow}
+use Rattle.tclexpr.specs.Operands.{Operand}
+use Rattle.tclexpr.specs.OperandGrammar.{IsOperand, OperandFault}
+
+-- some expression begins with these tokens
+abbrev pub GoesOn : List (Token Operand) → Type 0
+GoesOn ts = (more : List (Token Operand)) × (h : ℕ) × (e : Expr Operand) × IsExpr Operand h (ts ++ more) e
+
+-- The fault is that of a text from a token on: of an expression that is wrong, so many bytes are left from this token
+-- on; any other is one inside the operand that begins here. That marks nest too deeply says nothing of a place.
+abbrev pub IsFaultFrom : Fault → Text → Type 0
+IsFaultFrom (OpenBrace left) bs = (d : ℕ) × OperandFault d bs (OpenBrace left)
+IsFaultFrom (OpenQuote left) bs = (d : ℕ) × OperandFault d bs (OpenQuote left)
+IsFaultFrom (OpenBracket left) bs = (d : ℕ) × OperandFault d bs (OpenBracket left)
+IsFaultFrom (JoinedToClose left) bs = (d : ℕ) × OperandFault d bs (JoinedToClose left)
+IsFaultFrom TooDeep bs = Unit {0}
+IsFaultFrom (BadCharacter left) bs = (d : ℕ) × OperandFault d bs (BadCharacter left)
+IsFaultFrom (BadExpression left) bs = length bs ≡ left
+
+-- The text begins with tokens with which some expression begins, and the fault is behind them and white space.
+pub record IsBehindFront (bs : Text) (f : Fault) : Type 0 where
+  pub tokens : List (Token Operand)
+  pub rest : Text
+  pub row : IsRow Operand IsOperand bs rest tokens
+  pub goes_on : GoesOn tokens
+  pub fault : IsFaultFrom f (after_white rest)
+
+-- the same of a wrong expression, by the place from the front
+abbrev pub HasFrontBefore : Text → ℕ → Type 0
+HasFrontBefore bs at = (left : ℕ) × (at + left ≡ length bs) × IsBehindFront bs (BadExpression left)
