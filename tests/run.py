@@ -32,6 +32,7 @@ SUITES = (
     ("allocations.py", "envstate_rows"),
     ("tcl/compare.py", "tcltext_cases"),
     ("tcl/values.py", "tclvalue_cases"),
+    ("tcl/commands.py", ""),
     ("tcl/memory.py", ""),
     ("runs.py", ""),
 )

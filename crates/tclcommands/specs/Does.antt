@@ -1,12 +1,13 @@
 -- What a command of the program does, as the rules say it.
-use Rattle.std.specs.Prelude.{ℕ, List, [], ◌∷◌, map, String, string_bytes, Result, unwrap_or}
+use Rattle.std.specs.Prelude.{ℕ, Bool, List, [], ◌∷◌, map, String, string_bytes, Result, unwrap_or}
 use Rattle.std.specs.Borrow.{Bor}
 use Rattle.std.specs.declared.alloc.Global.{Global}
 use Rattle.tclchars.specs.Runs.{Text}
 use Rattle.tclrules.specs.Variables.{State, value_at}
 use Rattle.tclrules.specs.Leads.{Point, Leads}
 use Rattle.tclrules.specs.Plans as plans
-use Rattle.tclrules.specs.Plans.{Bounds, Job, Next}
+use Rattle.tclrules.specs.Plans.{Bounds, Job, Next, given}
+use Rattle.tclrules.specs.Rules.{lengthened, value_or, write_at}
 use Rattle.tclsteps.specs.Machine.{bounds}
 use Rattle.tclsteps.specs.Stops.{after}
 use Rattle.tclsteps.specs.declared.stop.Stop.{Stop}
@@ -31,14 +32,44 @@ named_values ps = map (λ p. (p.0.now, string_bytes p.1)) ps
 -- what a plan goes on with is the result, with the variables after it
 abbrev pub Does : (Bounds → Next → plans.Step) → Result Value Stop → State → (ℕ → Point) → (ℕ → Point) → Type 0
 Does p result s x y =
-    (most used : ℕ) (b : Bounds) (r : Job → plans.Step) (k : Next) → Leads most r (p b k) (x used) (after result (λ v s'. k (value_text v s') s') s) (y used)
+    (most used : ℕ) (b : Bounds) (r : Job → plans.Step) (k : Next)
+    → Leads most r (p b k) (x used) (after result (λ v s'. k (value_text v s') s') s) (y used)
 
 -- the same where the host is left as it is
 abbrev pub DoesAlone : (Bounds → Next → plans.Step) → Result Value Stop → State → Type 0
 DoesAlone p result s =
-    (most : ℕ) (b : Bounds) (r : Job → plans.Step) (k : Next) (x : Point) → Leads most r (p b k) x (after result (λ v s'. k (value_text v s') s') s) x
+    (most : ℕ) (b : Bounds) (r : Job → plans.Step) (k : Next) (x : Point)
+    → Leads most r (p b k) x (after result (λ v s'. k (value_text v s') s') s) x
 
 -- the same where a value is written that may have so many bytes
 abbrev pub Writes : (Bounds → Next → plans.Step) → ℕ → Result Value Stop → State → Type 0
 Writes p limit result s =
-    (most left : ℕ) (r : Job → plans.Step) (k : Next) (x : Point) → Leads most r (p (bounds limit left) k) x (after result (λ v s'. k (value_text v s') s') s) x
+    (most left : ℕ) (r : Job → plans.Step) (k : Next) (x : Point)
+    → Leads most r (p (bounds limit left) k) x (after result (λ v s'. k (value_text v s') s') s) x
+
+-- the same of what has no result: the plan goes on with this text of the variables after it
+abbrev pub Stores : (Bounds → Next → plans.Step) → ℕ → Result (Unit {0}) Stop → (State → Text) → State → Type 0
+Stores p limit result t s =
+    (most left : ℕ) (r : Job → plans.Step) (k : Next) (x : Point)
+    → Leads most r (p (bounds limit left) k) x (after result (λ u s'. k (t s') s') s) x
+
+-- and with the variables alone
+abbrev pub Goes : ((State → plans.Step) → plans.Step) → Result (Unit {0}) Stop → State → Type 0
+Goes p result s =
+    (most : ℕ) (r : Job → plans.Step) (k : State → plans.Step) (x : Point)
+    → Leads most r (p k) x (after result (λ u s'. k s') s) x
+
+abbrev pub GoesWithin : (Bounds → (State → plans.Step) → plans.Step) → ℕ → Result (Unit {0}) Stop → State → Type 0
+GoesWithin p limit result s =
+    (most left : ℕ) (r : Job → plans.Step) (k : State → plans.Step) (x : Point)
+    → Leads most r (p (bounds limit left) k) x (after result (λ u s'. k s') s) x
+
+-- what the host answers
+abbrev pub Asks : (Next → plans.Step) → Result (String Global) Stop → State → (ℕ → Point) → (ℕ → Point) → Type 0
+Asks p result s x y =
+    (most used : ℕ) (r : Job → plans.Step) (k : Next)
+    → Leads most r (p k) (x used) (after result (λ t s'. k (string_bytes t) s') s) (y used)
+
+-- elements behind those of the list at a place
+abbrev pub lengthen_at : Bounds → Bool × Text → List Text → State → Next → plans.Step
+lengthen_at b p xs s k = given (lengthened (value_or [] s p) xs) s (λ t. write_at b p t s k)

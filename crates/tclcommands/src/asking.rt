@@ -1,13 +1,10 @@
 //! Commands that the host answers: puts(n), and those that are no part of Tcl.
-ghost use Rattle.std.specs.Prelude.{◌≡◌, ◌∷◌, ℕ, IfOk, codes, map, string_bytes};
+ghost use Rattle.std.specs.Prelude.{◌≡◌, ◌∷◌, IfOk, map, string_bytes};
 ghost use Rattle.tclrules.specs.Derivation.{Consults};
-ghost use Rattle.tclrules.specs.Leads.{Leads, point};
-ghost use Rattle.tclrules.specs.Plans as plans;
-ghost use Rattle.tclrules.specs.Plans.{Job, Next};
+ghost use Rattle.tclrules.specs.Leads.{point};
 ghost use Rattle.tclrules.specs.Forms.{Put};
 ghost use Rattle.tclrules.specs.Rules.{form, replied};
-ghost use Rattle.tclsteps.specs.Stops.{after};
-ghost use Rattle.tclcommands.specs.Does.{Does, first_text};
+ghost use Rattle.tclcommands.specs.Does.{Asks, Does, first_text};
 
 use crate::value::Value;
 use std::alloc::{AllocError, Global};
@@ -25,7 +22,8 @@ fn ask<H: Host>(
     name: &str,
     words: &[String],
 ) -> Result<String, Stop>
-    ensures { (most used : ℕ) (r : Job → plans.Step) (k : Next) → Leads most r (Consults (map string_bytes words.now) (replied name.now variables.now k)) (point (H.oracle host.old) (H.told host.old) used) (after result (λ t s. k (string_bytes t) s) variables.now) (point (H.oracle host.new) (H.told host.new) used) }
+    ensures { Asks (λ k. Consults (map string_bytes words.now) (replied name.now variables.now k)) result variables.now
+        (point (H.oracle host.old) (H.told host.old)) (point (H.oracle host.new) (H.told host.new)) }
 {
     match host.command(words) {
         HostAnswer::Done(text) => Ok(text),
@@ -54,7 +52,9 @@ pub fn consult<'a, H: Host>(
     host: &mut H,
     words: &'a [String],
 ) -> Result<Value<'a>, Stop>
-    ensures { Does (λ b k. Consults (map string_bytes words.now) (replied (first_text (map string_bytes words.now)) variables.now k)) result variables.now (λ used. point (H.oracle host.old) (H.told host.old) used) (λ used. point (H.oracle host.new) (H.told host.new) used) }
+    ensures { Does (λ b k. Consults (map string_bytes words.now)
+        (replied (first_text (map string_bytes words.now)) variables.now k)) result variables.now
+        (point (H.oracle host.old) (H.told host.old)) (point (H.oracle host.new) (H.told host.new)) }
 {
     Ok(Value::Text(ask(alloc, variables, host, first_text(words), words)?))
 }
@@ -79,7 +79,8 @@ pub fn put<'a, H: Host>(
     host: &mut H,
     words: &'a [String],
 ) -> Result<Value<'a>, Stop>
-    ensures { Does (λ b k. form b (Put (map string_bytes words.now)) variables.now k) result variables.now (λ used. point (H.oracle host.old) (H.told host.old) used) (λ used. point (H.oracle host.new) (H.told host.new) used) }
+    ensures { Does (λ b k. form b (Put (map string_bytes words.now)) variables.now k) result variables.now
+        (point (H.oracle host.old) (H.told host.old)) (point (H.oracle host.new) (H.told host.new)) }
 {
     let words = named(alloc, "puts", words)?;
     Ok(Value::Text(ask(alloc, variables, host, "puts", &words)?))

@@ -1,19 +1,14 @@
 //! lappend(n).
-ghost use Rattle.std.specs.Prelude.{◌≡◌, ◌++◌, ◌≤◌, ℕ, [], List, length, map, string_bytes, true, Ok, IfOk};
+ghost use Rattle.std.specs.Prelude.{◌≡◌, ◌++◌, ◌≤◌, [], List, length, map, string_bytes, true, Ok, IfOk};
 ghost use Rattle.tclchars.specs.Runs.{Text};
 ghost use Rattle.tclchars.specs.Faults.{max_bytes};
 ghost use Rattle.tcllist.specs.Lists.{list_text};
 ghost use Rattle.tclvalue.specs.Faults.{GivesText};
 ghost use Rattle.tclrules.specs.Variables.{value_at, writable};
-ghost use Rattle.tclrules.specs.Leads.{Leads, Point};
-ghost use Rattle.tclrules.specs.Plans as plans;
-ghost use Rattle.tclrules.specs.Plans.{Job, Next, given};
 ghost use Rattle.tclrules.specs.Forms.{ListAppend};
-ghost use Rattle.tclrules.specs.Rules.{write_at, form, value_or, lengthened};
-ghost use Rattle.tclsteps.specs.Machine.{bounds};
-ghost use Rattle.tclsteps.specs.Stops.{after};
+ghost use Rattle.tclrules.specs.Rules.{form, value_or, lengthened};
 ghost use Rattle.tclvariables.specs.Contents.{IsWritten, HoldsList};
-ghost use Rattle.tclcommands.specs.Does.{Writes};
+ghost use Rattle.tclcommands.specs.Does.{lengthen_at, Stores, Writes};
 
 use crate::value::{Value, value_or};
 use crate::writing::{put_at, taken};
@@ -25,7 +20,8 @@ use tclvariables::{Content, Variables, writable};
 
 // The text of a list with elements behind those of a list's text.
 fn with_elements(alloc: Global, list: String, values: &[String]) -> Result<String, AllocError>
-    ensures { (es : List Text) → string_bytes list ≡ list_text es → IfOk result (λ t. string_bytes t ≡ list_text (es ++ map string_bytes values.now)) }
+    ensures { (es : List Text) → string_bytes list ≡ list_text es
+        → IfOk result (λ t. string_bytes t ≡ list_text (es ++ map string_bytes values.now)) }
 {
     if values.is_empty() {
         return Ok(list);
@@ -46,7 +42,8 @@ fn with_copies(
     texts: Vec<String>,
     others: &[String],
 ) -> Result<Vec<String>, AllocError>
-    ensures { IfOk result (λ v. map string_bytes v.items ≡ map string_bytes texts.items ++ map string_bytes others.now) }
+    ensures { IfOk result (λ v. map string_bytes v.items
+        ≡ map string_bytes texts.items ++ map string_bytes others.now) }
 {
     let mut texts = texts;
     for text in others {
@@ -85,7 +82,8 @@ fn extend_list(
     requires place { (v : Text) × (writable variables.old v ≡ Ok (global, name.now)) }
     requires list { HoldsList (value_at variables.old (global, name.now)) }
     requires read { length (value_or [] variables.old (global, name.now)) ≤ max_bytes }
-    ensures { (most left : ℕ) (r : Job → plans.Step) (k : Next) (x : Point) → Leads most r (given (lengthened (value_or [] variables.old (global, name.now)) (map string_bytes values.now)) variables.old (λ t. write_at (bounds limit left) (global, name.now) t variables.old k)) x (after result (λ _ s. k (value_or [] s (global, name.now)) s) variables.new) x }
+    ensures { Stores (λ b. lengthen_at b (global, name.now) (map string_bytes values.now) variables.old) limit result
+        (λ s. value_or [] s (global, name.now)) variables.new }
 {
     let old = taken(alloc, variables, global, name);
     let text = with_elements(alloc, old, values)?;
@@ -111,7 +109,8 @@ fn rewrite_list(
     values: &[String],
 ) -> Result<(), Stop>
     requires { (v : Text) × (writable variables.old v ≡ Ok (global, name.now)) }
-    ensures { (most left : ℕ) (r : Job → plans.Step) (k : Next) (x : Point) → Leads most r (given (lengthened (value_or [] variables.old (global, name.now)) (map string_bytes values.now)) variables.old (λ t. write_at (bounds limit left) (global, name.now) t variables.old k)) x (after result (λ _ s. k (value_or [] s (global, name.now)) s) variables.new) x }
+    ensures { Stores (λ b. lengthen_at b (global, name.now) (map string_bytes values.now) variables.old) limit result
+        (λ s. value_or [] s (global, name.now)) variables.new }
 {
     let text = lengthened(alloc, value_or(variables, global, name, ""), values)?;
     put_at(
@@ -136,7 +135,8 @@ fn put_elements(
     values: &[String],
 ) -> Result<(), Stop>
     requires { (v : Text) × (writable variables.old v ≡ Ok (global, name.now)) }
-    ensures { (most left : ℕ) (r : Job → plans.Step) (k : Next) (x : Point) → Leads most r (given (lengthened (value_or [] variables.old (global, name.now)) (map string_bytes values.now)) variables.old (λ t. write_at (bounds limit left) (global, name.now) t variables.old k)) x (after result (λ _ s. k (value_or [] s (global, name.now)) s) variables.new) x }
+    ensures { Stores (λ b. lengthen_at b (global, name.now) (map string_bytes values.now) variables.old) limit result
+        (λ s. value_or [] s (global, name.now)) variables.new }
 {
     if holds_list(variables, global, name) {
         return extend_list(alloc, variables, limit, global, name, values);
@@ -153,7 +153,8 @@ pub fn list_append<'a>(
     name: &'a str,
     values: &'a [String],
 ) -> Result<Value<'a>, Stop>
-    ensures { Writes (λ b k. form b (ListAppend name.now (map string_bytes values.now)) variables.old k) limit result variables.new }
+    ensures { Writes (λ b. form b (ListAppend name.now (map string_bytes values.now)) variables.old) limit result
+        variables.new }
 {
     let (global, name) = writable(variables, alloc, name)?;
     put_elements(alloc, variables, limit, global, name, values)?;

@@ -22,7 +22,8 @@ pub fn get<'a, H: Host>(
     host: &mut H,
     name: &'a str,
 ) -> Result<Value<'a>, Stop>
-    ensures { Does (λ b k. form b (Get name.now) variables.now k) result variables.now (λ used. point (H.oracle host.old) (H.told host.old) used) (λ used. point (H.oracle host.new) (H.told host.new) used) }
+    ensures { Does (λ b k. form b (Get name.now) variables.now k) result variables.now
+        (point (H.oracle host.old) (H.told host.old)) (point (H.oracle host.new) (H.told host.new)) }
 {
     Ok(Value::Text(read(alloc, variables, host, name)?))
 }
@@ -56,7 +57,8 @@ pub fn exists<'a, H: Host>(
     host: &mut H,
     name: &'a str,
 ) -> Result<Value<'a>, Stop>
-    ensures { Does (λ b k. form b (Exists name.now) variables.now k) result variables.now (λ used. point (H.oracle host.old) (H.told host.old) used) (λ used. point (H.oracle host.new) (H.told host.new) used) }
+    ensures { Does (λ b k. form b (Exists name.now) variables.now k) result variables.now
+        (point (H.oracle host.old) (H.told host.old)) (point (H.oracle host.new) (H.told host.new)) }
 {
     let place = place_named(variables, alloc, name)?;
     match place {

@@ -1,13 +1,8 @@
 //! global(n).
-ghost use Rattle.std.specs.Prelude.{ℕ, map, string_bytes};
-ghost use Rattle.tclrules.specs.Variables.{State};
-ghost use Rattle.tclrules.specs.Leads.{Leads, Point};
-ghost use Rattle.tclrules.specs.Plans as plans;
-ghost use Rattle.tclrules.specs.Plans.{Job};
+ghost use Rattle.std.specs.Prelude.{map, string_bytes};
 ghost use Rattle.tclrules.specs.Forms.{Global as GlobalForm};
 ghost use Rattle.tclrules.specs.Rules.{form, share, share_from};
-ghost use Rattle.tclsteps.specs.Stops.{after};
-ghost use Rattle.tclcommands.specs.Does.{DoesAlone};
+ghost use Rattle.tclcommands.specs.Does.{DoesAlone, Goes};
 
 use crate::value::Value;
 use std::alloc::Global;
@@ -17,7 +12,7 @@ use tclvariables::{Variables, sharable};
 // Lets names lead to global variables, one after the other.
 #[tactic(none)]
 fn share(alloc: Global, variables: &mut Variables, names: &[String]) -> Result<(), Stop>
-    ensures { (most : ℕ) (r : Job → plans.Step) (k : State → plans.Step) (x : Point) → Leads most r (share (map string_bytes names.now) variables.old k) x (after result (λ _ s. k s) variables.new) x }
+    ensures { Goes (share (map string_bytes names.now) variables.old) result variables.new }
 {
     for name in names {
         let shared = sharable(variables, alloc, name)?;
@@ -29,7 +24,7 @@ fn share(alloc: Global, variables: &mut Variables, names: &[String]) -> Result<(
 // The same in a procedure; elsewhere nothing.
 #[tactic(none)]
 fn share_inside(alloc: Global, variables: &mut Variables, names: &[String]) -> Result<(), Stop>
-    ensures { (most : ℕ) (r : Job → plans.Step) (k : State → plans.Step) (x : Point) → Leads most r (share_from variables.old.frame (map string_bytes names.now) variables.old k) x (after result (λ _ s. k s) variables.new) x }
+    ensures { Goes (share_from variables.old.frame (map string_bytes names.now) variables.old) result variables.new }
 {
     if variables.is_inside() {
         return share(alloc, variables, names);
@@ -44,7 +39,7 @@ pub fn global<'a>(
     variables: &mut Variables,
     names: &'a [String],
 ) -> Result<Value<'a>, Stop>
-    ensures { DoesAlone (λ b k. form b (GlobalForm (map string_bytes names.now)) variables.old k) result variables.new }
+    ensures { DoesAlone (λ b. form b (GlobalForm (map string_bytes names.now)) variables.old) result variables.new }
 {
     share_inside(alloc, variables, names)?;
     Ok(Value::Word(""))

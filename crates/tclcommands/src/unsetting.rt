@@ -1,13 +1,10 @@
 //! unset(n).
-ghost use Rattle.std.specs.Prelude.{ℕ, map, string_bytes};
-ghost use Rattle.tclrules.specs.Variables.{State, writable, value_at};
-ghost use Rattle.tclrules.specs.Leads.{Leads, Point};
-ghost use Rattle.tclrules.specs.Plans as plans;
-ghost use Rattle.tclrules.specs.Plans.{Job, given};
+ghost use Rattle.std.specs.Prelude.{map, string_bytes};
+ghost use Rattle.tclrules.specs.Variables.{writable, value_at};
+ghost use Rattle.tclrules.specs.Plans.{given};
 ghost use Rattle.tclrules.specs.Forms.{Unset};
 ghost use Rattle.tclrules.specs.Rules.{form, unset, unset_at};
-ghost use Rattle.tclsteps.specs.Stops.{after};
-ghost use Rattle.tclcommands.specs.Does.{DoesAlone};
+ghost use Rattle.tclcommands.specs.Does.{DoesAlone, Goes};
 
 use crate::value::Value;
 use std::alloc::Global;
@@ -18,7 +15,8 @@ use tclvariables::{Variables, writable};
 // Unsets a variable.
 #[tactic(none)]
 fn unset_one(alloc: Global, variables: &mut Variables, quiet: bool, name: &str) -> Result<(), Stop>
-    ensures { (most : ℕ) (r : Job → plans.Step) (k : State → plans.Step) (x : Point) → Leads most r (given (writable variables.old name.now) variables.old (λ p. unset_at quiet name.now variables.old p k (value_at variables.old p))) x (after result (λ _ s. k s) variables.new) x }
+    ensures { Goes (λ k. given (writable variables.old name.now) variables.old
+        (λ p. unset_at quiet name.now variables.old p k (value_at variables.old p))) result variables.new }
 {
     let (global, place) = writable(variables, alloc, name)?;
     if variables.get(global, place).is_some() {
@@ -39,7 +37,7 @@ fn unset_each(
     quiet: bool,
     names: &[String],
 ) -> Result<(), Stop>
-    ensures { (most : ℕ) (r : Job → plans.Step) (k : State → plans.Step) (x : Point) → Leads most r (unset quiet (map string_bytes names.now) variables.old k) x (after result (λ _ s. k s) variables.new) x }
+    ensures { Goes (unset quiet (map string_bytes names.now) variables.old) result variables.new }
 {
     for name in names {
         unset_one(alloc, variables, quiet, name)?;
@@ -55,7 +53,7 @@ pub fn unset<'a>(
     quiet: bool,
     names: &'a [String],
 ) -> Result<Value<'a>, Stop>
-    ensures { DoesAlone (λ b k. form b (Unset quiet (map string_bytes names.now)) variables.old k) result variables.new }
+    ensures { DoesAlone (λ b. form b (Unset quiet (map string_bytes names.now)) variables.old) result variables.new }
 {
     unset_each(alloc, variables, quiet, names)?;
     Ok(Value::Word(""))

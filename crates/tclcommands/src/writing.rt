@@ -1,19 +1,14 @@
 //! Commands that write a variable: set(n), append(n), incr(n).
-ghost use Rattle.std.specs.Prelude.{◌≡◌, ◌++◌, ℕ, [], map, string_bytes, OnOk};
+ghost use Rattle.std.specs.Prelude.{◌≡◌, ◌++◌, [], map, string_bytes, OnOk};
 ghost use Rattle.std.specs.Fmt.{signed_decimal};
 ghost use Rattle.tclvalue.specs.Faults.{Gives, GivesText};
 ghost use Rattle.tclvalue.specs.Limits.{limited};
 ghost use Rattle.tclvalue.specs.Characters.{joined};
 ghost use Rattle.tclchars.specs.Runs.{Text};
-ghost use Rattle.tclrules.specs.Variables.{State, with_value};
-ghost use Rattle.tclrules.specs.Leads.{Leads, Point};
-ghost use Rattle.tclrules.specs.Plans as plans;
-ghost use Rattle.tclrules.specs.Plans.{Job, Next};
+ghost use Rattle.tclrules.specs.Variables.{with_value};
 ghost use Rattle.tclrules.specs.Forms.{Set, Append, Increase};
 ghost use Rattle.tclrules.specs.Rules.{write_at, write, assign, form, value_or, increased};
-ghost use Rattle.tclsteps.specs.Machine.{bounds};
-ghost use Rattle.tclsteps.specs.Stops.{after};
-ghost use Rattle.tclcommands.specs.Does.{named_values, Writes};
+ghost use Rattle.tclcommands.specs.Does.{named_values, GoesWithin, Stores, Writes};
 
 use crate::value::{Value, value_or};
 use std::alloc::Global;
@@ -32,7 +27,8 @@ pub(crate) fn put_at(
     name: &str,
     content: Content,
 ) -> Result<(), Stop>
-    ensures leads { (most left : ℕ) (r : Job → plans.Step) (k : Next) (x : Point) → Leads most r (write_at (bounds limit left) (global, name.now) content variables.old k) x (after result (λ _ s. k content s) variables.new) x }
+    ensures leads { Stores (λ b. write_at b (global, name.now) content variables.old) limit result (λ _. content)
+        variables.new }
     ensures written { OnOk result (variables.new ≡ with_value variables.old (global, name.now) content) }
 {
     if content.as_str().len() > limit {
@@ -52,7 +48,8 @@ fn write_at(
     name: &str,
     value: String,
 ) -> Result<(), Stop>
-    ensures leads { (most left : ℕ) (r : Job → plans.Step) (k : Next) (x : Point) → Leads most r (write_at (bounds limit left) (global, name.now) (string_bytes value) variables.old k) x (after result (λ _ s. k (string_bytes value) s) variables.new) x }
+    ensures leads { Stores (λ b. write_at b (global, name.now) (string_bytes value) variables.old) limit result
+        (λ _. string_bytes value) variables.new }
     ensures written { OnOk result (variables.new ≡ with_value variables.old (global, name.now) (string_bytes value)) }
 {
     put_at(
@@ -74,7 +71,8 @@ pub fn write(
     name: &str,
     value: String,
 ) -> Result<(), Stop>
-    ensures { (most left : ℕ) (r : Job → plans.Step) (k : Next) (x : Point) → Leads most r (write (bounds limit left) name.now (string_bytes value) variables.old k) x (after result (λ _ s. k (string_bytes value) s) variables.new) x }
+    ensures { Stores (λ b. write b name.now (string_bytes value) variables.old) limit result (λ _. string_bytes value)
+        variables.new }
 {
     let (global, name) = writable(variables, alloc, name)?;
     write_at(alloc, variables, limit, global, name, value)
@@ -88,7 +86,7 @@ pub fn assign(
     limit: usize,
     pairs: Vec<(&str, String)>,
 ) -> Result<(), Stop>
-    ensures { (most left : ℕ) (r : Job → plans.Step) (k : State → plans.Step) (x : Point) → Leads most r (assign (bounds limit left) (named_values pairs.entry.items) variables.old k) x (after result (λ _ s. k s) variables.new) x }
+    ensures { GoesWithin (λ b. assign b (named_values pairs.entry.items) variables.old) limit result variables.new }
 {
     for (name, value) in pairs {
         write(alloc, variables, limit, name, value)?;
@@ -105,7 +103,7 @@ pub fn set<'a>(
     name: &'a str,
     value: &'a str,
 ) -> Result<Value<'a>, Stop>
-    ensures { Writes (λ b k. form b (Set name.now value.now) variables.old k) limit result variables.new }
+    ensures { Writes (λ b. form b (Set name.now value.now) variables.old) limit result variables.new }
 {
     let copy = String::from_str(alloc, value)?;
     write(alloc, variables, limit, name, copy)?;
@@ -115,7 +113,8 @@ pub fn set<'a>(
 // The text of a variable, which is taken, or an empty one.
 pub(crate) fn taken(alloc: Global, variables: &mut Variables, global: bool, name: &str) -> String
     ensures value { string_bytes result ≡ value_or [] variables.old (global, name.now) }
-    ensures given_back { (t : Text) → with_value variables.new (global, name.now) t ≡ with_value variables.old (global, name.now) t }
+    ensures given_back { (t : Text) → with_value variables.new (global, name.now) t
+        ≡ with_value variables.old (global, name.now) t }
 {
     match variables.take(alloc, global, name) {
         Some(text) => text,
@@ -151,7 +150,8 @@ pub fn append<'a>(
     name: &'a str,
     values: &'a [String],
 ) -> Result<Value<'a>, Stop>
-    ensures { Writes (λ b k. form b (Append name.now (map string_bytes values.now)) variables.old k) limit result variables.new }
+    ensures { Writes (λ b. form b (Append name.now (map string_bytes values.now)) variables.old) limit result
+        variables.new }
 {
     let (global, name) = writable(variables, alloc, name)?;
     let old = taken(alloc, variables, global, name);
@@ -179,7 +179,8 @@ pub fn increase<'a>(
     name: &'a str,
     increases: &'a [String],
 ) -> Result<Value<'a>, Stop>
-    ensures { Writes (λ b k. form b (Increase name.now (map string_bytes increases.now)) variables.old k) limit result variables.new }
+    ensures { Writes (λ b. form b (Increase name.now (map string_bytes increases.now)) variables.old) limit result
+        variables.new }
 {
     let (global, name) = writable(variables, alloc, name)?;
     let increase = increase_of(alloc, increases)?;

@@ -87,7 +87,8 @@ impl Local {
 
     /// Lets a name lead to the global variable from now on.
     pub(crate) fn share(&mut self, alloc: Global, name: &str) -> Result<(), AllocError>
-        ensures ok { OnOk result (self.new ≡ record { own = without self.old.own name.now; shared = name.now ∷ self.old.shared }) }
+        ensures ok { OnOk result (self.new
+            ≡ record { own = without self.old.own name.now; shared = name.now ∷ self.old.shared }) }
         ensures err { OnErr result (self.new ≡ self.old) }
     {
         self.shared.push(String::from_str(alloc, name)?)?;

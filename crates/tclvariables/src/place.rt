@@ -75,7 +75,8 @@ fn unqualified_place<'a>(
     name: &'a str,
     index: Option<&'a str>,
 ) -> Result<Place<'a>, ValueFault>
-    ensures { Gives place_view result (unqualified name.now (indexed global name.now (option_map (λ i. i.now) index.entry))) }
+    ensures { Gives place_view result
+        (unqualified name.now (indexed global name.now (option_map (λ i. i.now) index.entry))) }
 {
     if has_colons(name) {
         return Err(left_out(alloc, "namespace"));
@@ -93,6 +94,8 @@ fn unqualified_place<'a>(
 }
 
 /// Where a name with an index, or without one, leads.
+///
+/// Errors: `LeftOut` for another array than `env` and a namespace, `OutOfMemory`.
 pub fn place_of<'a>(
     variables: &Variables,
     alloc: Global,
@@ -111,6 +114,8 @@ pub fn place_of<'a>(
 }
 
 /// Where a name as it is spelled leads.
+///
+/// Errors: `LeftOut` for another array than `env` and a namespace, `OutOfMemory`.
 pub fn place_named<'a>(
     variables: &Variables,
     alloc: Global,
@@ -122,7 +127,10 @@ pub fn place_named<'a>(
     place_of(variables, alloc, array, index)
 }
 
-/// The variable that a name leads to, where it may be written: neither `env` nor an element of it. The flag says that it is global.
+/// The variable that a name leads to, where it may be written: neither `env` nor an element of it. The flag says that
+/// it is global.
+///
+/// Errors: `LeftOut` for `env`, another array and a namespace, `OutOfMemory`.
 pub fn writable<'a>(
     variables: &Variables,
     alloc: Global,
@@ -142,6 +150,8 @@ pub fn writable<'a>(
 }
 
 /// The name of the global variable that a procedure sees once `global` names it so: no element of `env`.
+///
+/// Errors: `LeftOut` for an element of an array and a namespace, `OutOfMemory`.
 pub fn sharable<'a>(
     variables: &Variables,
     alloc: Global,

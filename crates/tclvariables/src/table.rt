@@ -34,7 +34,8 @@ pub(crate) fn holds_list(table: &Table, name: &str) -> bool
 // Takes the text of a variable, and leaves an empty one in its place.
 pub(crate) fn take(table: &mut Table, alloc: Global, name: &str) -> Option<String>
     ensures value { option_map string_bytes result ≡ lookup (texts_of table.old.entries) name.now }
-    ensures given_back { (t : Text) → store (texts_of table.new.entries) name.now t ≡ store (texts_of table.old.entries) name.now t }
+    ensures given_back { (t : Text) → store (texts_of table.new.entries) name.now t
+        ≡ store (texts_of table.old.entries) name.now t }
 {
     match table.get_mut(name) {
         None => None,

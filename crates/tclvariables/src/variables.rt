@@ -2,7 +2,7 @@
 ghost use Rattle.std.specs.Prelude.{◌≡◌, [], true, string_bytes, OnOk, OnErr, IfOk, option_map, is_some};
 ghost use Rattle.tclchars.specs.Runs.{Text};
 ghost use Rattle.tclvariables.specs.Contents.{HoldsList};
-ghost use Rattle.tclrules.specs.Variables.{start, in_frame, sees, value_at, with_value, without_value, shared_in, lookup, store};
+ghost use Rattle.tclrules.specs.Variables.{start, in_frame, sees, value_at, with_value, without_value, shared_in, lookup};
 ghost use Rattle.tclrules.specs.Rules.{new_frame, with_procedure};
 ghost use Rattle.tclrules.specs.Promise as promise;
 ghost use Rattle.tclvariables.specs.Views.{texts_of, procedure_view};
@@ -34,7 +34,10 @@ pub struct Procedure {
     pub body: String,
 }
 
-/// The global variables, the frame of the procedure that runs, the procedures, and the place of the file's command at hand.
+/// The global variables, the frame of the procedure that runs, the procedures, and the place of the file's command at
+/// hand.
+///
+/// Where a call is refused for want of memory, nothing has changed.
 #[derive(Drop)]
 pub struct Variables {
     globals: Table,
@@ -96,8 +99,7 @@ impl Variables {
         }
     }
 
-    /// Gives a variable a value: a global one, or one of the procedure that runs, if one does. Where memory runs out, nothing
-    /// changes.
+    /// Gives a variable a value: a global one, or one of the procedure that runs, if one does.
     pub fn set(
         &mut self,
         alloc: Global,
@@ -111,7 +113,7 @@ impl Variables {
         self.put(alloc, global, name, Content::of_text(value))
     }
 
-    /// Gives a variable what it is to hold. Where memory runs out, nothing changes.
+    /// Gives a variable what it is to hold.
     pub fn put(
         &mut self,
         alloc: Global,
@@ -144,10 +146,12 @@ impl Variables {
         }
     }
 
-    /// Takes the text of a variable, if it is there, for what `put` gives it next: until then an empty text stands in its place.
+    /// Takes the text of a variable, if it is there, for what `put` gives it next: until then an empty text stands in its
+    /// place.
     pub fn take(&mut self, alloc: Global, global: bool, name: &str) -> Option<String>
         ensures value { option_map string_bytes result ≡ value_at self.old (global, name.now) }
-        ensures given_back { (t : Text) → with_value self.new (global, name.now) t ≡ with_value self.old (global, name.now) t }
+        ensures given_back { (t : Text) → with_value self.new (global, name.now) t
+            ≡ with_value self.old (global, name.now) t }
     {
         if global {
             return take(&mut self.globals, alloc, name);
@@ -171,8 +175,7 @@ impl Variables {
         }
     }
 
-    /// Lets a name lead to the global variable from now on, in the procedure that runs, if one does. Where memory runs out, nothing
-    /// changes.
+    /// Lets a name lead to the global variable from now on, in the procedure that runs, if one does.
     pub fn share(&mut self, alloc: Global, name: &str) -> Result<(), AllocError>
         ensures ok { OnOk result (self.new ≡ in_frame self.old (shared_in self.old.frame name.now)) }
         ensures err { OnErr result (self.new ≡ self.old) }
@@ -183,7 +186,8 @@ impl Variables {
         }
     }
 
-    /// Begins a procedure, which has no variables at first. Gives the variables of the procedure that called it, if one did.
+    /// Begins a procedure, which has no variables at first. Gives the variables of the procedure that called it, if one
+    /// did.
     pub fn enter(&mut self, alloc: Global) -> Option<Local>
         ensures entered { self.new ≡ in_frame self.old new_frame }
         ensures caller { result ≡ self.old.frame }
@@ -205,7 +209,7 @@ impl Variables {
         self.procedures.get(name)
     }
 
-    /// Makes a procedure, in the place of one of this name. Where memory runs out, nothing changes.
+    /// Makes a procedure, in the place of one of this name.
     pub fn define(
         &mut self,
         alloc: Global,

@@ -1,0 +1,157 @@
+//! Answers commands of Tcl that evaluate no script, a line each on standard input, which is the list of their words. `enter`
+//! begins a procedure and `leave` ends it; `body NAME` is the script of a procedure. A value has at most 64 bytes.
+//!
+//! Each answer is a line: `ok RESULT`, `raised MESSAGE`, or `halted` with what halts.
+#![tactic(auto)]
+
+use std::alloc::{AllocError, Global};
+use std::io;
+use tclcommands::{
+    Value, append, consult, define, exists, get, global, increase, list_append, put, set, unset,
+};
+use tclforms::{Form, core_form};
+use tclrules::Recorder;
+use tclsteps::{Halt, Stop};
+use tclvalue::elements;
+use tclvariables::{Local, Variables};
+
+/// How many bytes a value may have.
+const LIMIT: usize = 64;
+
+/// What the commands change.
+#[derive(Drop)]
+struct State {
+    variables: Variables,
+    callers: Vec<Option<Local>>,
+    host: Recorder,
+}
+
+fn performed<'a>(alloc: Global, state: &mut State, form: Form<'a>) -> Result<Value<'a>, Stop> {
+    let variables = &mut state.variables;
+    let host = &mut state.host;
+    match form {
+        Form::Get(name) => get(alloc, variables, host, name),
+        Form::Set(name, value) => set(alloc, variables, LIMIT, name, value),
+        Form::Unset(quiet, names) => unset(alloc, variables, quiet, names),
+        Form::Append(name, values) => append(alloc, variables, LIMIT, name, values),
+        Form::ListAppend(name, values) => list_append(alloc, variables, LIMIT, name, values),
+        Form::Increase(name, increases) => increase(alloc, variables, LIMIT, name, increases),
+        Form::Define(name, list, body) => define(alloc, variables, name, list, body),
+        Form::Exists(name) => exists(alloc, variables, host, name),
+        Form::Global(names) => global(alloc, variables, names),
+        Form::Put(words) => put(alloc, variables, host, words),
+        _ => Err(Stop::Halted(Halt::Stopped)),
+    }
+}
+
+fn body(alloc: Global, variables: &Variables, name: &str) -> Result<String, AllocError> {
+    match variables.procedure(name) {
+        Some(procedure) => String::from_str(alloc, procedure.body.as_str()),
+        None => Ok(String::new(alloc)),
+    }
+}
+
+fn entered(alloc: Global, state: &mut State) -> Result<String, Stop> {
+    let caller = state.variables.enter(alloc);
+    state.callers.push(caller)?;
+    Ok(String::new(alloc))
+}
+
+fn left(alloc: Global, state: &mut State) -> String {
+    if let Some(caller) = state.callers.pop() {
+        state.variables.leave(caller);
+    }
+    String::new(alloc)
+}
+
+fn of_form(
+    alloc: Global,
+    state: &mut State,
+    name: &str,
+    words: &[String],
+) -> Result<Option<String>, Stop> {
+    match core_form(alloc, name, words)? {
+        Some(form) => {
+            let value = performed(alloc, state, form)?;
+            Ok(Some(value.into_text(alloc, &state.variables)?))
+        }
+        None => Ok(None),
+    }
+}
+
+fn result(alloc: Global, state: &mut State, words: &[String]) -> Result<String, Stop> {
+    match words {
+        [] => Ok(String::new(alloc)),
+        [name] if name.as_str() == "enter" => entered(alloc, state),
+        [name] if name.as_str() == "leave" => Ok(left(alloc, state)),
+        [name, of] if name.as_str() == "body" => Ok(body(alloc, &state.variables, of)?),
+        [name, rest @ ..] => match of_form(alloc, state, name, rest)? {
+            Some(text) => Ok(text),
+            None => {
+                let value = consult(alloc, &state.variables, &mut state.host, words)?;
+                Ok(value.into_text(alloc, &state.variables)?)
+            }
+        },
+    }
+}
+
+fn halted(alloc: Global, halt: Halt) -> Result<String, AllocError> {
+    match halt {
+        Halt::LeftOut(name) => format!(in alloc; "halted: left out {name}"),
+        Halt::ValueTooLong => String::from_str(alloc, "halted: value too long"),
+        Halt::NumberTooLarge => String::from_str(alloc, "halted: number too large"),
+        Halt::FractionOperand => String::from_str(alloc, "halted: fraction"),
+        Halt::Host(number) => format!(in alloc; "halted: refused by {number}"),
+        _ => String::from_str(alloc, "halted"),
+    }
+}
+
+fn shown(alloc: Global, answer: Result<String, Stop>) -> Result<String, AllocError> {
+    match answer {
+        Ok(text) => format!(in alloc; "ok {text}"),
+        Err(Stop::Raised(message)) => format!(in alloc; "raised {message}"),
+        Err(Stop::Halted(halt)) => halted(alloc, halt),
+        Err(_) => String::from_str(alloc, "stopped"),
+    }
+}
+
+fn answered(alloc: Global, state: &mut State, line: &str) -> Result<String, AllocError> {
+    let result = match elements(alloc, line) {
+        Ok(words) => result(alloc, state, &words),
+        Err(fault) => Err(Stop::from(fault)),
+    };
+    shown(alloc, result)
+}
+
+fn started(alloc: Global) -> Result<State, AllocError> {
+    let mut environment = Vec::new(alloc);
+    environment.push((
+        String::from_str(alloc, "HOME")?,
+        String::from_str(alloc, "/home/user")?,
+    ))?;
+    Ok(State {
+        variables: Variables::new(alloc),
+        callers: Vec::new(alloc),
+        host: Recorder {
+            alloc,
+            mode: String::from_str(alloc, "load")?,
+            environment,
+            records: Vec::new(alloc),
+            messages: Vec::new(alloc),
+            asked: false,
+        },
+    })
+}
+
+fn main(rt: HostRuntime) -> io::Result<()> {
+    let alloc = rt.alloc();
+    let mut state = started(alloc)?;
+    for line in rt.lines(alloc) {
+        let line = line?;
+        match answered(alloc, &mut state, line.as_str()) {
+            Ok(answer) => println!(rt; "{answer}")?,
+            Err(_) => println!(rt; "out of memory")?,
+        }
+    }
+    Ok(())
+}

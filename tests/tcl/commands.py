@@ -1,0 +1,97 @@
+"""Compares the expected answers of crates/tclcommands_rows with those of the real tclsh.
+
+Where the profile differs from Tcl 8.6 the answer stands here, with its rule."""
+
+import os
+import subprocess
+import sys
+
+HERE = os.path.dirname(os.path.abspath(__file__))
+CRATE = os.path.join(HERE, "..", "..", "crates", "tclcommands_rows")
+LIMIT = 64
+
+DIFFERENCES = {
+    # append and lappend alone make an absent variable empty, and lappend writes the old list anew
+    "append c": "ok ",
+    "lappend n": "ok a b",
+    # an element that begins with # stands in braces wherever it stands
+    "lappend l a {b c} {} #x": "ok a {b c} {} {#x}",
+    "lappend l #": "ok a {b c} {} {#x} {#}",
+    # messages of our own
+    "lappend q x": "raised not a list",
+    "incr i x": 'raised expected whole number but got "x"',
+    "incr i 1 2": 'raised wrong # args for "incr"',
+    "incr s": 'raised expected whole number but got "abc"',
+    "incr s x": 'raised expected whole number but got "abc"',
+    "set env": 'raised can\'t read "env": it is an array',
+    "proc p {{a b c}} {}": "raised not a list",
+    # numbers have 64 bits, and no fraction
+    "incr big": "halted: number too large",
+    "set big": "ok 9223372036854775807",
+    "incr big -1": "ok 9223372036854775806",
+    "incr f": "halted: fraction",
+    # env is read alone, and no other arrays and namespaces are there
+    "set env(HOME) x": "halted: left out env",
+    "unset env(HOME)": "halted: left out env",
+    "append env(HOME) x": "halted: left out env",
+    "global env(HOME)": "halted: left out env",
+    "info exists a(1)": "halted: left out array",
+    "set a(1) 2": "halted: left out array",
+    "set a::b 1": "halted: left out namespace",
+    # the names of commands are kept
+    "proc set {} {}": 'raised can\'t redefine "set"',
+    "proc setenv {} {}": 'raised can\'t redefine "setenv"',
+    "proc exec {} {}": 'raised can\'t redefine "exec"',
+    # puts writes to stderr alone
+    "puts hello": "halted: left out puts",
+    "puts stdout hello": "halted: left out puts",
+    # the host of the rows refuses it
+    "conflict a": "halted: refused by 51",
+    # a value that is too long was not written
+    "info exists longer": "ok 0",
+}
+
+# Commands that the real tclsh is spared, since they would take its own away.
+SPARED = ("proc set {} {}", "proc setenv {} {}", "proc exec {} {}")
+
+
+def lines(name):
+    with open(os.path.join(CRATE, name), encoding="utf-8") as file:
+        return file.read().split("\n")[:-1]
+
+
+def by_the_profile(row, answer):
+    if row in DIFFERENCES:
+        return DIFFERENCES[row]
+    if answer.startswith("ok ") and len(answer) - len("ok ") > LIMIT:
+        return "halted: value too long"
+    return answer
+
+
+def main():
+    rows = lines("stdin")
+    asked = "".join(("" if row in SPARED else row) + "\n" for row in rows)
+    path = os.path.join(CRATE, "out", "rows.tcl")
+    os.makedirs(os.path.dirname(path), exist_ok=True)
+    with open(path, "w", encoding="utf-8") as file:
+        file.write(asked)
+    run = subprocess.run(
+        ["tclsh", os.path.join(HERE, "commands.tcl"), path],
+        capture_output=True, text=True, check=True, timeout=60,
+    )
+    answers = run.stdout.split("\n")[:-1]
+    expected = lines("stdout")
+    if not len(rows) == len(answers) == len(expected):
+        sys.exit(f"{len(rows)} rows, {len(answers)} answers of tclsh, {len(expected)} expected")
+    wrong = 0
+    for row, answer, told in zip(rows, answers, expected):
+        meant = by_the_profile(row, answer)
+        if meant != told:
+            wrong += 1
+            print(f"{row}: tclsh {answer!r}, so {meant!r}, but expected is {told!r}")
+    print(f"{len(rows)} rows compared with tclsh, {len(DIFFERENCES)} by the profile's own rules, {wrong} wrong")
+    sys.exit(1 if wrong else 0)
+
+
+if __name__ == "__main__":
+    main()
