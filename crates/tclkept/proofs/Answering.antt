@@ -1,0 +1,81 @@
+-- What is answered to a text, from the list of the program.
+use Rattle.std.proofs.Common.{◌≡◌, ℕ, ◌+◌, Bool, true, false, List, [], ◌∷◌, ◌++◌, map, length, Option, Some, None, Result, Ok, Err, refl, sym, ap, ◌∙◌, arith}
+use Rattle.std.specs.Prelude.{bytes_eq, IsErrAnd, MatchResult}
+use Rattle.std.specs.List.{position}
+use Rattle.std.proofs.lemmas.List.{map-append}
+use Rattle.tclchars.specs.Runs.{Text}
+use Rattle.tclchars.specs.Whole.{FailsWith, Reads}
+use Rattle.tclchars.specs.declared.fault.TextFault.{TextFault}
+use Rattle.tclchars.specs.declared.fault.TextFault.TheVariants.{OutOfMemory}
+use Rattle.std.specs.declared.alloc.Global.{Global}
+use Rattle.std.specs.declared.rc.Rc.{Rc}
+use Rattle.tclkept.specs.Trees.{Trees, Answers, texts_of, place_of, bytes_of, is_full, seen}
+
+module _ {T U : Type 0} (view : T → U) where
+  texts_seen : (es : Trees T) → texts_of (seen view es) ≡ texts_of es
+  texts_seen [] = refl
+  texts_seen (e ∷ es) = ap (λ ts. e.0 ∷ ts) (texts_seen es)
+
+  length_seen : (es : Trees T) → length (seen view es) ≡ length es
+  length_seen [] = refl
+  length_seen (e ∷ es) = simp (length_seen es)
+
+  place_seen : (es : Trees T) (t : Text) → place_of (seen view es) t ≡ place_of es t
+  place_seen es t = ap (position (bytes_eq t)) (texts_seen es)
+
+  full_seen : (es : Trees T) (t : Text) → is_full (seen view es) t ≡ is_full es t
+  full_seen es t = rw (texts_seen es, length_seen es) refl
+
+  module _ (read : Text → Result U TextFault) (es : Trees T) (t : Text) where
+    pub there_answers : (i : ℕ) → place_of es t ≡ Some i → Answers read (seen view es) t (Ok (Some i)) (seen view es)
+    there_answers i h = record {
+      there = λ j g. (ap Ok (sym h ∙ sym (place_seen es t) ∙ g), refl);
+      full = λ g f. absurd (none_some (sym g ∙ place_seen es t ∙ h));
+      added = λ g f. absurd (none_some (sym g ∙ place_seen es t ∙ h));
+    }
+      where
+        none_some : None ≡ Some i → ⊥
+        none_some e = cc
+
+    pub full_answers : place_of es t ≡ None → is_full es t ≡ true → Answers read (seen view es) t (Ok None) (seen view es)
+    full_answers h f = record {
+      there = λ j g. absurd (none_some j (sym h ∙ sym (place_seen es t) ∙ g));
+      full = λ g e. (refl, refl);
+      added = λ g e. absurd (false_true (sym e ∙ full_seen es t ∙ f));
+    }
+      where
+        none_some : (j : ℕ) → None ≡ Some j → ⊥
+        none_some j e = cc
+
+        false_true : false ≡ true → ⊥
+        false_true e = cc
+
+    module _ (h : place_of es t ≡ None) (f : is_full es t ≡ false) where
+      none_some : (j : ℕ) → None ≡ Some j → ⊥
+      none_some j e = cc
+
+      true_false : true ≡ false → ⊥
+      true_false e = cc
+
+      pub fails_answers : (fault : TextFault) → FailsWith fault (read t) → Answers read (seen view es) t (Err fault) (seen view es)
+      fails_answers fault g = record {
+        there = λ j p. absurd (none_some j (sym h ∙ sym (place_seen es t) ∙ p));
+        full = λ p q. absurd (true_false (sym q ∙ full_seen es t ∙ f));
+        added = λ p q. (g, refl);
+      }
+
+      pub passed_answers : (fault : TextFault) (res : Result (Option ℕ) TextFault) → IsErrAnd res (λ f. f ≡ fault) → FailsWith fault (read t) → Answers read (seen view es) t res (seen view es)
+      passed_answers fault (Ok p) e g = absurd e
+      passed_answers fault (Err f) e g = rw e (fails_answers fault g)
+
+      pub added_answers : (new : Trees T) (tree : T) (place : ℕ) → read t ≡ Ok (view tree) → place ≡ length es → new ≡ es ++ (t, tree) ∷ [] → Answers read (seen view es) t (Ok (Some place)) (seen view new)
+      added_answers new tree place g n e = record {
+        there = λ j p. absurd (none_some j (sym h ∙ sym (place_seen es t) ∙ p));
+        full = λ p q. absurd (true_false (sym q ∙ full_seen es t ∙ f));
+        added = λ p q. (n ∙ sym (length_seen es), view tree, g, ap (seen view) e ∙ map-append _ es ((t, tree) ∷ []));
+      }
+
+-- a tree of which there is one owner more
+pub shared_reads : {T U : Type 0} (view : T → U) (read : Result U TextFault) (made : T) (res : Result (Rc T Global) TextFault) → MatchResult res (λ copy. copy.value ≡ made) (λ fault. fault ≡ OutOfMemory) → read ≡ Ok (view made) → Reads (λ tree. view tree.value) res read
+shared_reads view read made (Ok copy) h e = e ∙ ap (λ m. Ok (view m)) (sym h)
+shared_reads view read made (Err fault) h e = rw h tt

@@ -1,0 +1,4 @@
+pub mod Trees
+pub mod Texts
+pub mod Kept
+pub mod Views

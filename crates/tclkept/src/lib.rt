@@ -1,0 +1,10 @@
+//! Texts that were parsed before, each with its tree, so that what is evaluated again isn't parsed again.
+#![tactic(auto)]
+
+mod kept;
+mod parsed;
+#[cfg(test)]
+mod tests;
+mod texts;
+
+pub use kept::Kept;
