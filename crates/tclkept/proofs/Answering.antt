@@ -1,5 +1,5 @@
 -- What is answered to a text, from the list of the program.
-use Rattle.std.proofs.Common.{◌≡◌, ℕ, ◌+◌, Bool, true, false, List, [], ◌∷◌, ◌++◌, map, length, Option, Some, None, Result, Ok, Err, refl, sym, ap, ◌∙◌, arith}
+use Rattle.std.proofs.Common.{◌≡◌, ℕ, true, false, [], ◌∷◌, ◌++◌, length, Option, Some, None, Result, Ok, Err, refl, sym, ap, ◌∙◌}
 use Rattle.std.specs.Prelude.{bytes_eq, IsErrAnd, MatchResult}
 use Rattle.std.specs.List.{position}
 use Rattle.std.proofs.lemmas.List.{map-append}
@@ -9,7 +9,7 @@ use Rattle.tclchars.specs.declared.fault.TextFault.{TextFault}
 use Rattle.tclchars.specs.declared.fault.TextFault.TheVariants.{OutOfMemory}
 use Rattle.std.specs.declared.alloc.Global.{Global}
 use Rattle.std.specs.declared.rc.Rc.{Rc}
-use Rattle.tclkept.specs.Trees.{Trees, Answers, texts_of, place_of, bytes_of, is_full, seen}
+use Rattle.tclkept.specs.Trees.{Trees, Answers, texts_of, place_of, is_full, seen}
 
 module _ {T U : Type 0} (view : T → U) where
   texts_seen : (es : Trees T) → texts_of (seen view es) ≡ texts_of es

@@ -1,4 +1,4 @@
-use Rattle.std.proofs.Common.{◌≡◌, sym, ap, ◌∙◌}
+use Rattle.std.proofs.Common.{sym, ap}
 use Rattle.tclexpr.specs.Text.{expr_of}
 use Rattle.tclexpr.specs.Owned.{owned_view}
 use Rattle.tclkept.proofs.Answering.{there_answers, full_answers, passed_answers, added_answers}

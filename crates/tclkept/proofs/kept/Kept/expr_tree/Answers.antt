@@ -1,4 +1,3 @@
-use Rattle.std.proofs.Common.{◌≡◌, ap, sym}
 use Rattle.std.proofs.lemmas.List.Elements.{All-contains}
 use Rattle.tclexpr.specs.Text.{expr_of}
 use Rattle.tclexpr.specs.Owned.{owned_view}

@@ -1,4 +1,4 @@
-use Rattle.std.proofs.Common.{◌≡◌, sym, ap, ◌∙◌}
+use Rattle.std.proofs.Common.{sym, ap}
 use Rattle.tclscript.specs.Text.{script_of}
 use Rattle.tclscript.specs.Owned.{owned_view}
 use Rattle.tclkept.proofs.Answering.{there_answers, full_answers, passed_answers, added_answers}

@@ -1,4 +1,3 @@
-use Rattle.std.proofs.Common.{◌≡◌, ap, sym}
 use Rattle.std.proofs.lemmas.List.Elements.{All-contains}
 use Rattle.tclscript.specs.Text.{script_of}
 use Rattle.tclscript.specs.Owned.{owned_view}

@@ -1,6 +1,5 @@
-use Rattle.std.proofs.Common.{◌≡◌, ◌+◌, ◌++◌, ◌∷◌, [], length, refl, sym, ap, ◌∙◌, arith}
-use Rattle.std.specs.Prelude.{string_bytes}
-use Rattle.tclkept.specs.Trees.{bytes_of, place_of, is_full}
+use Rattle.std.proofs.Common.{◌≡◌, ◌+◌, ◌++◌, ◌∷◌, [], length, refl, sym, ap, ◌∙◌}
+use Rattle.tclkept.specs.Trees.{bytes_of}
 use Rattle.tclkept.specs.Texts.{entries_view}
 use Rattle.tclkept.proofs.Entries.{distinct_entries, entries_added, bytes_push, length_push, room}
 use Rattle.tclkept.proofs.texts.Texts.add.Goals as goal

@@ -1,5 +1,4 @@
 use Rattle.std.proofs.Common.{◌≡◌, [], rules, arith}
-use Rattle.tclkept.specs.Texts.{IsCounted}
 use Rattle.tclkept.proofs.Entries.{distinct_entries}
 use Rattle.tclkept.proofs.texts.Texts.new.Goals as goal
 

@@ -1,4 +1,4 @@
-use Rattle.std.proofs.Common.{refl, sym, ap, ◌∙◌}
+use Rattle.std.proofs.Common.{◌∙◌}
 use Rattle.tclkept.proofs.Entries.{place_entries}
 use Rattle.tclkept.proofs.texts.Texts.place.Goals as goal
 
