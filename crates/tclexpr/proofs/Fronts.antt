@@ -19,7 +19,7 @@ use Rattle.tclexpr.specs.OperandGrammar as operands
 use Rattle.tclexpr.specs.OperandGrammar.{IsOperand, OperandFault}
 use Rattle.tclexpr.specs.Faults as faults
 use Rattle.tclexpr.specs.Faults.{ExprFault, ChainFault, ExprTextFault}
-use Rattle.tclexpr.specs.Offending.{GoesOn, IsFaultFrom, IsBehindFront}
+use Rattle.tclexpr.specs.Offending.{TokensGoOn, IsFaultFrom, IsBehindFront}
 use Rattle.tclexpr.proofs.Rows.{row_join}
 
 -- No script is wrong as an expression is

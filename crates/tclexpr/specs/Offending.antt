@@ -11,8 +11,8 @@ use Rattle.tclexpr.specs.Operands.{Operand}
 use Rattle.tclexpr.specs.OperandGrammar.{IsOperand, OperandFault}
 
 -- some expression begins with these tokens
-abbrev pub GoesOn : List (Token Operand) → Type 0
-GoesOn ts = (more : List (Token Operand)) × (h : ℕ) × (e : Expr Operand) × IsExpr Operand h (ts ++ more) e
+abbrev pub TokensGoOn : List (Token Operand) → Type 0
+TokensGoOn ts = (more : List (Token Operand)) × (h : ℕ) × (e : Expr Operand) × IsExpr Operand h (ts ++ more) e
 
 -- The fault is that of a text from a token on: of an expression that is wrong, so many bytes are left from this token
 -- on; any other is one inside the operand that begins here. That marks nest too deeply says nothing of a place.
@@ -30,7 +30,7 @@ pub record IsBehindFront (bs : Text) (f : Fault) : Type 0 where
   pub tokens : List (Token Operand)
   pub rest : Text
   pub row : IsRow Operand IsOperand bs rest tokens
-  pub goes_on : GoesOn tokens
+  pub goes_on : TokensGoOn tokens
   pub fault : IsFaultFrom f (after_white rest)
 
 -- the same of a wrong expression, by the place from the front
