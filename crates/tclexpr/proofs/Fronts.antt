@@ -1,5 +1,5 @@
 -- Before a fault stand tokens with which some expression begins: what is open is closed behind them.
-use Rattle.std.proofs.Common.{◌≡◌, ℕ, suc, zero, max, List, [], ◌∷◌, ◌++◌, length, refl, sym, ap, subst, ◌∙◌, append_assoc, append-nil}
+use Rattle.std.proofs.Common.{◌≡◌, ℕ, suc, max, List, [], ◌∷◌, ◌++◌, length, refl, sym, ap, subst, ◌∙◌, append_assoc, append-nil}
 use Rattle.tclchars.specs.Runs.{Text}
 use Rattle.tclchars.specs.Reading.{left_of}
 use Rattle.tclchars.specs.declared.fault.Fault.{Fault}
@@ -7,11 +7,10 @@ use Rattle.tclchars.specs.declared.fault.Fault.TheVariants.{OpenBrace, OpenQuote
 use Rattle.tclscript.specs.Faults as script
 use Rattle.tclscript.specs.Faults.{CommandsFault, CommandFault, WordsFault, WordFault, PlainFault, PartsFault, PartFault}
 use Rattle.tclexpr.specs.declared.operators.Infix.{Infix}
-use Rattle.tclexpr.specs.declared.operators.Mark.{Mark}
 use Rattle.tclexpr.specs.declared.operators.Mark.TheVariants as marks
 use Rattle.tclexpr.specs.Tree.{Expr, operand, unary, choice, joined, Token, value, mark}
 use Rattle.tclexpr.specs.Grammar as grammar
-use Rattle.tclexpr.specs.Grammar.{level, IsExpr, IsChain}
+use Rattle.tclexpr.specs.Grammar.{IsExpr, IsChain}
 use Rattle.tclexpr.specs.Marks.{after_white}
 use Rattle.tclexpr.specs.Row.{IsRow}
 use Rattle.tclexpr.specs.Operands.{Operand, number}
@@ -19,7 +18,7 @@ use Rattle.tclexpr.specs.OperandGrammar as operands
 use Rattle.tclexpr.specs.OperandGrammar.{IsOperand, OperandFault}
 use Rattle.tclexpr.specs.Faults as faults
 use Rattle.tclexpr.specs.Faults.{ExprFault, ChainFault, ExprTextFault}
-use Rattle.tclexpr.specs.Offending.{TokensGoOn, IsFaultFrom, IsBehindFront}
+use Rattle.tclexpr.specs.Offending.{IsFaultFrom, IsBehindFront}
 use Rattle.tclexpr.proofs.Rows.{row_join}
 
 -- No script is wrong as an expression is

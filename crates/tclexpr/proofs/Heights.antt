@@ -8,7 +8,7 @@ use Rattle.tclscript.specs.declared.tree.Word as rust_word
 use Rattle.tclscript.specs.declared.tree.Command as rust_command
 use Rattle.tclscript.specs.declared.tree.Script as rust_script
 use Rattle.tclexpr.specs.View.{words_view}
-use Rattle.tclscript.specs.Tree.{Command, Words, Word, Part, nesting, words_nesting, word_nesting, parts_nesting, part_nesting, commands_of, words_of, parts_of}
+use Rattle.tclscript.specs.Tree.{Command, Word, Part, nesting, words_nesting, word_nesting, parts_nesting, part_nesting, commands_of, words_of, parts_of}
 
 max_last : (a b c : ℕ) → max a (max b c) ≡ max (max a b) c
 max_last a b c = omega arith

@@ -14,7 +14,7 @@ use Rattle.tclscript.specs.declared.context.Context.TheVariants.{InQuotes}
 use Rattle.tclscript.specs.Tree as tree
 use Rattle.tclscript.specs.Tree.{Part, Parts, nesting, parts_nesting, part_nesting}
 use Rattle.tclscript.specs.Grammar as script_grammar
-use Rattle.tclscript.specs.Grammar.{IsPart, IsParts, IsDollar, IsRun, IsLongestName}
+use Rattle.tclscript.specs.Grammar.{IsPart, IsLongestName}
 use Rattle.tclscript.specs.Faults as script_faults
 use Rattle.tclscript.specs.Faults.{PartFault, PartsFault, NeverCloses, Expands}
 use Rattle.tclscript.specs.Ends.{class_of}

@@ -20,7 +20,7 @@ use Rattle.tclscript.proofs.PartsExact.{part_sound, at_dollar, at_bracket}
 use Rattle.tclscript.proofs.PartFaults.{parts_sound}
 use Rattle.tclscript.proofs.Whole.{inner_exact}
 use Rattle.tclscript.proofs.Marks as script_marks
-use Rattle.tclscript.proofs.Marks.{Without, on_mark-at, on_mark-not, closed_ok, run_taken, true_false}
+use Rattle.tclscript.proofs.Marks.{Without, on_mark-not, closed_ok, run_taken}
 use Rattle.tclexpr.specs.declared.numbers.Digits.{Digits}
 use Rattle.tclexpr.specs.declared.numbers.Digits.TheVariants.{Decimal}
 use Rattle.tclexpr.specs.Operands.{Operand, number, word, variable, indexed, bracket, quoted, braced, is_digit, begins_digit, after_digits, announced, after_announced, after_based, is_sign, after_sign, after_exponent, after_fraction, begins_point, after_decimal, first_of_both, after_number, is_truth, substituted, quoted_at, operand_in_braces, braced_text_at, word_at, numeric, operand_at}

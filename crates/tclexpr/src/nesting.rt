@@ -1,7 +1,7 @@
 ghost use Rattle.std.specs.Prelude.{◌≡◌, ◌≤◌, max};
 ghost use Rattle.tclchars.specs.Runs.{Text};
-ghost use Rattle.tclscript.specs.Tree.{nesting, words_nesting, word_nesting, parts_nesting, part_nesting};
-ghost use Rattle.tclscript.specs.View.{script_view, word_view, part_view, parts_view};
+ghost use Rattle.tclscript.specs.Tree.{nesting, words_nesting, parts_nesting, part_nesting};
+ghost use Rattle.tclscript.specs.View.{script_view, part_view, parts_view};
 ghost use Rattle.tclexpr.specs.View.{words_view};
 
 use tclscript::{Command, Part, Script, Word};

@@ -1,5 +1,5 @@
-ghost use Rattle.std.specs.Prelude.{◌≡◌, ◌<◌, ◌∷◌, option_map, IfSome};
-ghost use Rattle.tclexpr.specs.Operands.{is_digit, begins_digit, after_digits, announced, after_based, is_sign, after_sign, after_exponent, after_fraction, begins_point, after_decimal, after_number};
+ghost use Rattle.std.specs.Prelude.{◌≡◌, ◌<◌, option_map};
+ghost use Rattle.tclexpr.specs.Operands.{is_digit, begins_digit, after_digits, announced, after_based, after_sign, after_exponent, after_fraction, begins_point, after_decimal, after_number};
 
 use crate::marks::after_first;
 
