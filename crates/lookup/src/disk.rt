@@ -1,7 +1,7 @@
 //! The files and directories of a disk, whose answers are kept and given again.
-ghost use Rattle.std.specs.Prelude.{◌≡◌, ◌<◌, ◌≤◌, ℕ, List, map, Some, Option, IfOk, OnOk, IfErr, string_bytes, vec_items};
+ghost use Rattle.std.specs.Prelude.{◌≡◌, ◌<◌, ◌≤◌, ℕ, List, Some, Option, IfOk};
 ghost use Rattle.std.specs.BTreeMap.{get_by_text};
-ghost use Rattle.lookup.specs.Agreement.{Files, Listings, Shows, HasCause, file_answer, listing_answer, kept, kept-answer};
+ghost use Rattle.lookup.specs.Agreement.{Files, Listings, file_answer, listing_answer, kept, kept-answer};
 ghost use Rattle.std.specs.IoError.{error_kind};
 ghost use Rattle.lookup.specs.Devices.{contents, fault_of_kind, is_absence, there};
 

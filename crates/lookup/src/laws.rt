@@ -1,7 +1,7 @@
 //! What holds of every tree, and of the contents of a tree in memory.
 ghost use Rattle.std.specs.Prelude.{◌≡◌, ℕ, List};
 ghost use Rattle.lookup.specs.Contents.{files_of, listings_of};
-ghost use Rattle.lookup.specs.Agreement.{Files, Listings, Shows, IsAgreeable};
+ghost use Rattle.lookup.specs.Agreement.{Shows, IsAgreeable};
 
 use crate::memory::MemoryTree;
 use crate::tree::Tree;

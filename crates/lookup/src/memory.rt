@@ -1,9 +1,7 @@
 //! A tree in memory.
 ghost use Rattle.std.specs.Prelude.{◌≡◌, ℕ, List, map, None, refl, IfOk, OnOk, OnErr, string_bytes, vec_items};
-ghost use Rattle.std.specs.BTreeMap.{get_by_text};
-ghost use Rattle.std.specs.Option.{option_map};
 ghost use Rattle.lookup.specs.Contents.{files_of, listings_of};
-ghost use Rattle.lookup.specs.Agreement.{Files, Listings, Shows, HasCause, file_answer, listing_answer, with_at};
+ghost use Rattle.lookup.specs.Agreement.{with_at};
 
 use crate::tree::{Tree, TreeFault};
 use std::alloc::{AllocError, Global};

@@ -1,5 +1,5 @@
 //! The search for a module by its exact name.
-ghost use Rattle.std.specs.Prelude.{◌≡◌, ◌≤◌, ℕ, true, false, Ok, Some, IfOk, IfErr, MatchResult, string_bytes};
+ghost use Rattle.std.specs.Prelude.{◌≡◌, ◌≤◌, true, false, Ok, Some, IfOk, IfErr, MatchResult, string_bytes};
 ghost use Rattle.modulename.specs.ModuleName.{is_module_name};
 ghost use Rattle.lookup.specs.declared.search.FindFault.TheVariants.{OutOfMemory};
 ghost use Rattle.message.specs.Messages.{text_of};
