@@ -17,6 +17,7 @@ DIFFERENCES = {
     # an element that begins with # stands in braces wherever it stands
     "lappend l a {b c} {} #x": "ok a {b c} {} {#x}",
     "lappend l #": "ok a {b c} {} {#x} {#}",
+    'value {"$l" eq {a {b c} {} {#x} {#}}}': "ok 1",
     # messages of our own
     "lappend q x": "raised not a list",
     "incr i x": 'raised expected whole number but got "x"',

@@ -9,6 +9,7 @@ make conflict {args} {}
 make puts {args} {}
 make proc {name parameters body} {make $name $parameters $body}
 make body {name} {info body $name}
+make value {text} {uplevel 1 [list expr $text]}
 
 make answer {row level} {
     if {[catch {uplevel $level $row} text]} {print "raised $text"} else {print "ok $text"}

@@ -1,5 +1,6 @@
 //! Answers commands of Tcl that evaluate no script, a line each on standard input, which is the list of their words. `enter`
-//! begins a procedure and `leave` ends it; `body NAME` is the script of a procedure. A value has at most 64 bytes.
+//! begins a procedure and `leave` ends it; `body NAME` is the script of a procedure, and `value TEXT` is what an expression
+//! without brackets comes to. A value has at most 64 bytes.
 //!
 //! Each answer is a line: `ok RESULT`, `raised MESSAGE`, or `halted` with what halts.
 #![tactic(auto)]
@@ -9,14 +10,21 @@ use std::io;
 use tclcommands::{
     Value, append, consult, define, exists, get, global, increase, list_append, put, set, unset,
 };
+use tclexpr::own_expr;
 use tclforms::{Form, core_form};
-use tclrules::Recorder;
-use tclsteps::{Halt, Stop};
+use tclrules::{Limits, Recorder};
+use tclsteps::{Context, Control, Halt, Step, Stop, advance};
 use tclvalue::elements;
 use tclvariables::{Local, Variables};
 
 /// How many bytes a value may have.
 const LIMIT: usize = 64;
+
+const LIMITS: Limits = Limits {
+    commands: 0,
+    depth: 0,
+    value_bytes: LIMIT,
+};
 
 /// What the commands change.
 #[derive(Drop)]
@@ -48,6 +56,25 @@ fn body(alloc: Global, variables: &Variables, name: &str) -> Result<String, Allo
     match variables.procedure(name) {
         Some(procedure) => String::from_str(alloc, procedure.body.as_str()),
         None => Ok(String::new(alloc)),
+    }
+}
+
+fn value(alloc: Global, state: &mut State, text: &str) -> Result<String, Stop> {
+    let owned = match own_expr(alloc, String::from_str(alloc, text)?) {
+        Ok(owned) => owned,
+        Err(fault) => return Err(Stop::of_text(fault)),
+    };
+    let context = Context {
+        alloc,
+        limits: LIMITS,
+        source: owned.text.as_str(),
+        variables: &state.variables,
+    };
+    let mut stack = Vec::new(alloc);
+    let control = Control::Expression(&owned.expression);
+    match advance(context, &mut state.host, &mut stack, control)? {
+        Step::Done(text) => Ok(text),
+        _ => Err(Stop::Halted(Halt::Stopped)),
     }
 }
 
@@ -85,6 +112,7 @@ fn result(alloc: Global, state: &mut State, words: &[String]) -> Result<String, 
         [name] if name.as_str() == "enter" => entered(alloc, state),
         [name] if name.as_str() == "leave" => Ok(left(alloc, state)),
         [name, of] if name.as_str() == "body" => Ok(body(alloc, &state.variables, of)?),
+        [name, text] if name.as_str() == "value" => value(alloc, state, text),
         [name, rest @ ..] => match of_form(alloc, state, name, rest)? {
             Some(text) => Ok(text),
             None => {
