@@ -186,7 +186,8 @@ fn read_branches<'a, S: Source<P>, P: Drop>(
     requires { IsEndOf (S.text source.now) text.now }
     ensures { Gives (λ x. (with_height_view (S.shown source.now) x.0, x.1.now)) result
         (if nat_lt condition.height depth
-        then branches_at operand_at (below_at operand_at depth) (with_height_view (S.shown source.now) condition) text.now
+        then branches_at operand_at (below_at operand_at depth)
+        (with_height_view (S.shown source.now) condition) text.now
         else Err TooDeep) }
 {
     if condition.height >= depth {
