@@ -21,6 +21,7 @@ PROGRAMS = {
     "modulecmd": ("modulecmd_main", "modulecmd_main"),
     "tcltext_cases": ("tcltext_cases", "tcltext_cases"),
     "tclvalue_cases": ("tclvalue_cases", "tclvalue_cases"),
+    "modulesearch_cases": ("modulesearch_cases", "modulesearch_cases"),
     "envstate_rows": ("envstate_rows", "envstate_rows"),
 }
 
@@ -28,6 +29,7 @@ PROGRAMS = {
 SUITES = (
     ("program.py", "modulecmd"),
     ("memory.py", "modulecmd"),
+    ("search.py", "modulesearch_cases"),
     ("shells/run.py", "modulecmd"),
     ("allocations.py", "envstate_rows"),
     ("tcl/compare.py", "tcltext_cases"),

@@ -1,3 +1,2 @@
 pub mod OneFound
 pub mod OneListing
-pub mod CandidateLemmas

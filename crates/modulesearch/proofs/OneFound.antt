@@ -21,7 +21,7 @@ one_names : (leaves : Text → Text → Option Left → Type 0) → ((path text 
     → (files : Files) (says : Says) (path : Text) → IsOne (Names leaves files says path)
 one_names leaves law files says path = one_names_in leaves law says path (modulefile (files path))
 
-one_named : (leaves : Text → Text → Option Left → Type 0) → ((path text : Text) (o p : Option Left) → leaves path text o → leaves path text p → o ≡ p)
+pub one_named : (leaves : Text → Text → Option Left → Type 0) → ((path text : Text) (o p : Option Left) → leaves path text o → leaves path text p → o ≡ p)
     → (files : Files) (listings : Listings) (dir name : Text) → IsOne (NamedDefault leaves files listings dir name)
 one_named leaves law files listings dir name =
     one_then (one_names leaves law files _ _) (λ first.

@@ -7,7 +7,7 @@ use Rattle.lookup.specs.Agreement.{Files, Listings}
 use Rattle.lookup.specs.Search.{Held, absent, no_cookie, not_utf8, script, modulefile, is_module, directories, path_of}
 use Rattle.relations.specs.Relations.{Is, If, Where, ◌>>◌}
 use Rattle.moduleversion.specs.Versions.{IsGreatest}
-use Rattle.modulesearch.specs.Fitting.{is_single}
+use Rattle.modulesearch.specs.Single.{is_single}
 use Rattle.modulesearch.specs.Reasons.{Reason, bad_name, not_found, not_utf8_at}
 use Rattle.modulesearch.specs.DefaultFiles.{Left, Names, by_command, by_variable}
 

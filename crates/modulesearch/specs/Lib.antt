@@ -1,6 +1,6 @@
 pub mod Reasons
 pub mod DefaultFiles
-pub mod Fitting
+pub mod Single
 pub mod Found
 pub mod Listed
 pub mod Ended

@@ -14,22 +14,18 @@ pub struct Ended {
     pub version: Option<String>,
 }
 
-/// What evaluates default files.
+/// What evaluates default files, as an evaluator with its limits.
 pub trait DefaultFiles {
     ghost use Rattle.modulesearch.specs.Ended.{ended_view};
 
     /// What the evaluation of the script at a path leaves; nothing where it has a fault.
-    ghost leaves: { Text → Text → Option Left → Type 0 };
+    ghost leaves: { Self → Text → Text → Option Left → Type 0 };
 
     /// Evaluates the script at the path. `None` where it has a fault. It fails for want of memory alone.
-    fn evaluate(
-        &mut self,
-        alloc: Global,
-        path: &str,
-        text: &str,
-    ) -> Result<Option<Ended>, AllocError>
-        ensures { IfOk result (λ ended. leaves path.now text.now (option_map ended_view ended)) };
+    fn evaluate(&self, alloc: Global, path: &str, text: &str) -> Result<Option<Ended>, AllocError>
+        ensures { IfOk result (λ ended. leaves self.now path.now text.now (option_map ended_view ended)) };
 
     /// An evaluation leaves one thing.
-    ghost one: { (path text : Text) (o p : Option Left) → leaves path text o → leaves path text p → o ≡ p };
+    ghost one: { (files : Self) (path text : Text) (o p : Option Left)
+        → leaves files path text o → leaves files path text p → o ≡ p };
 }

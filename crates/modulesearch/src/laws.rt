@@ -10,16 +10,22 @@ ghost use Rattle.modulesearch.specs.Listed.{Listing, Listed};
 use crate::default_files::DefaultFiles;
 
 /// A name means one module at most, or there is one reason that it means none.
-pub fn one_found<D: DefaultFiles>()
+pub fn one_found<D: DefaultFiles>(default_files: &D)
     ensures { (files : Files) (listings : Listings) (modulepath name : Text) (o p : Result Module Reason)
-        → Found D.leaves files listings modulepath name o → Found D.leaves files listings modulepath name p → o ≡ p }
-{}
+        → Found (D.leaves default_files.now) files listings modulepath name o
+        → Found (D.leaves default_files.now) files listings modulepath name p → o ≡ p }
+{
+    let _ = default_files;
+}
 
 /// A MODULEPATH has one listing at most.
-pub fn one_listed<D: DefaultFiles>()
+pub fn one_listed<D: DefaultFiles>(default_files: &D)
     ensures { (files : Files) (listings : Listings) (modulepath : Text) (ls ks : List Listing)
-        → Listed D.leaves files listings modulepath ls → Listed D.leaves files listings modulepath ks → ls ≡ ks }
-{}
+        → Listed (D.leaves default_files.now) files listings modulepath ls
+        → Listed (D.leaves default_files.now) files listings modulepath ks → ls ≡ ks }
+{
+    let _ = default_files;
+}
 
 /// What `module-version` commands make the default of a folder.
 pub fn rows_of_defaults()

@@ -1,0 +1,4 @@
+pub mod SayingLemmas
+pub mod NamedLemmas
+pub mod VersionLemmas
+pub mod StepLemmas

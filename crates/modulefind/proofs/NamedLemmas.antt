@@ -1,0 +1,37 @@
+-- What the default files of a folder name, one after the other.
+use Rattle.std.proofs.Common.{◌≡◌, Option, Some, None, Result, Ok, Err, inl, inr, refl, ⊎_elim, subst, sym}
+use Rattle.modulename.specs.ModuleName.{Text}
+use Rattle.lookup.specs.Agreement.{Files, Listings}
+use Rattle.modulesearch.specs.Reasons.{Reason}
+use Rattle.modulesearch.specs.DefaultFiles.{Left}
+use Rattle.modulesearch.specs.Found.{IsCandidate, IsOneOf, NamedDefault}
+use Rattle.modulefind.specs.declared.sayings.DefaultFile.{DefaultFile}
+use Rattle.modulefind.specs.declared.sayings.DefaultFile.TheVariants.{Modulerc, Version}
+use Rattle.modulefind.specs.Sayings.{NamedBy}
+
+same_value : (x y : Option Text) (o p : Result (Option Text) Reason) → o ≡ Ok x → p ≡ Ok y → o ≡ p → x ≡ y
+same_value x y o p h k e = cc
+
+-- `.version` is asked where `.modulerc` names no candidate
+pub named_second : (leaves : Text → Text → Option Left → Type 0) (files : Files) (listings : Listings) (dir name : Text) (o : Result (Option Text) Reason)
+    → NamedBy leaves files listings dir name Modulerc (Ok None) → NamedBy leaves files listings dir name Version o → NamedDefault leaves files listings dir name o
+named_second leaves files listings dir name o (Ok first, names, rest) second = (Ok first, names, inr (no, second))
+  where
+    no : IsOneOf (IsCandidate files listings dir name) first → ⊥
+    no h = ⊎_elim (λ c. let e : first ≡ None = same_value first None (Ok first) (Ok None) refl refl (sym c.1) in subst (IsOneOf (IsCandidate files listings dir name)) e h) (λ c. c.0 h) rest
+named_second leaves files listings dir name o (Err r, names, rest) second = absurd (cc)
+
+named_by_candidate : (leaves : Text → Text → Option Left → Type 0) (files : Files) (listings : Listings) (dir name v : Text) (file : DefaultFile)
+    → NamedBy leaves files listings dir name file (Ok (Some v)) → IsCandidate files listings dir name v
+named_by_candidate leaves files listings dir name v file (Ok first, names, rest) =
+    ⊎_elim (λ c. let e : first ≡ Some v = same_value first (Some v) (Ok first) (Ok (Some v)) refl refl (sym c.1) in subst (IsOneOf (IsCandidate files listings dir name)) e c.0)
+    (λ c. let e : Some v ≡ None = same_value (Some v) None (Ok (Some v)) (Ok None) refl refl c.1 in absurd (cc)) rest
+named_by_candidate leaves files listings dir name v file (Err r, names, rest) = absurd (cc)
+
+-- what default files name is a candidate
+pub named_is_candidate : (leaves : Text → Text → Option Left → Type 0) (files : Files) (listings : Listings) (dir name v : Text)
+    → NamedDefault leaves files listings dir name (Ok (Some v)) → IsCandidate files listings dir name v
+named_is_candidate leaves files listings dir name v (Ok first, names, rest) =
+    ⊎_elim (λ c. named_by_candidate leaves files listings dir name v Modulerc (Ok first, names, inl c))
+    (λ c. named_by_candidate leaves files listings dir name v Version c.1) rest
+named_is_candidate leaves files listings dir name v (Err r, names, rest) = absurd (cc)

@@ -1,0 +1,37 @@
+-- The search, step by step.
+use Rattle.std.specs.Prelude.{Option, Some, None, Result, Ok, Err}
+use Rattle.modulename.specs.ModuleName.{Text}
+use Rattle.lookup.specs.Agreement.{Files, Listings}
+use Rattle.lookup.specs.Search.{Held, absent, no_cookie, not_utf8, script, modulefile, path_of}
+use Rattle.relations.specs.Relations.{Is, Where, ◌>>◌}
+use Rattle.modulesearch.specs.Reasons.{Reason, not_utf8_at}
+use Rattle.modulesearch.specs.DefaultFiles.{Left}
+use Rattle.modulesearch.specs.Found.{Module, IsModuleAt, HasCandidates, Default}
+
+-- the module that a path holds, if it holds one
+abbrev pub module_in : Text → Text → Held → Result (Option Module) Reason
+module_in name path absent = Ok None
+module_in name path no_cookie = Ok None
+module_in name path not_utf8 = Err (not_utf8_at path)
+module_in name path (script text) = Ok (Some (record { name = name; path = path; text = text }))
+
+abbrev pub module_at : Files → Text → Text → Result (Option Module) Reason
+module_at files dir name = module_in name (path_of dir name) (modulefile (files (path_of dir name)))
+
+-- the default candidate of a folder, if it has a candidate
+abbrev pub DefaultIn : (Text → Text → Option Left → Type 0) → Files → Listings → Text → Text
+    → Result (Option Text) Reason → Type 0
+DefaultIn leaves files listings dir name =
+    Where (HasCandidates files listings dir name) (Default leaves files listings dir name >> (λ v. Is (Ok (Some v))))
+    (Is (Ok None))
+
+abbrev pub OfDefault : Files → Text → Text → Option Text → Result (Option Module) Reason → Type 0
+OfDefault files dir name None = Is (Ok None)
+OfDefault files dir name (Some v) = Is (module_at files dir (path_of name v))
+
+-- the module that one directory gives, if it gives one
+abbrev pub Below : (Text → Text → Option Left → Type 0) → Files → Listings → Text → Text
+    → Result (Option Module) Reason → Type 0
+Below leaves files listings dir name =
+    Where (IsModuleAt files (path_of dir name)) (Is (module_at files dir name))
+    (DefaultIn leaves files listings dir name >> OfDefault files dir name)

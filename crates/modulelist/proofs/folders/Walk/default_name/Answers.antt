@@ -1,0 +1,40 @@
+use Rattle.std.proofs.Common.{string_bytes, option_map, Ok, Err, None, Some, sym, ap, ◌∙◌, subst}
+use Rattle.lookup.specs.Search.{path_of}
+use Rattle.modulesearch.specs.Reasons.{bad_default}
+use Rattle.modulesearch.specs.Found.{NamedDefault}
+use Rattle.modulefind.specs.Sayings.{named_view}
+use Rattle.modulelist.specs.Below.{IsDefaultOf}
+use Rattle.modulelist.proofs.DefaultLemmas.{default_candidate, default_nothing}
+use Rattle.modulelist.proofs.folders.Walk.default_name.Goals as goal
+
+pub returns-in-Candidate-clause-answer : goal.returns-in-Candidate-clause-answer
+returns-in-Candidate-clause-answer g c = λ files folders a.
+    let leaves = g.D.DefaultFiles.leaves c.args.self.now.default_files.now in
+    let law = g.met.D.DefaultFiles.one c.args.self.now.default_files.now in
+    let dir = c.args.self.now.dir.now in
+    let front = c.in-Some.front.now in
+    let default = string_bytes c.in_ok-path_of-in-Candidate.field-0 in
+    subst (λ f. IsDefaultOf leaves files folders dir (option_map (λ x. x.now) f) (Some default)) (sym c.in-Some.is)
+    (default_candidate leaves law files folders dir front (string_bytes c.in-Candidate.version) default
+    (c.in_ok-path_of-in-Candidate.ensures ∙ ap (path_of front) c.deref.ensures)
+    (subst (λ n. NamedDefault leaves files folders dir front (named_view n)) c.in-Candidate.is (c.in_ok-version.ensures.answer files folders a)))
+
+pub returns-in-Nothing-clause-answer : goal.returns-in-Nothing-clause-answer
+returns-in-Nothing-clause-answer g c = λ files folders a.
+    let leaves = g.D.DefaultFiles.leaves c.args.self.now.default_files.now in
+    let law = g.met.D.DefaultFiles.one c.args.self.now.default_files.now in
+    let dir = c.args.self.now.dir.now in
+    let front = c.in-Some.front.now in
+    subst (λ f. IsDefaultOf leaves files folders dir (option_map (λ x. x.now) f) None) (sym c.in-Some.is)
+    (default_nothing leaves law files folders dir front (Ok None)
+    (subst (λ n. NamedDefault leaves files folders dir front (named_view n)) c.in-Nothing.is (c.in_ok-version.ensures.answer files folders a)) (λ v q. absurd (cc)))
+
+pub returns-clause-answer : goal.returns-clause-answer
+returns-clause-answer g c = λ files folders a.
+    let leaves = g.D.DefaultFiles.leaves c.args.self.now.default_files.now in
+    let law = g.met.D.DefaultFiles.one c.args.self.now.default_files.now in
+    let dir = c.args.self.now.dir.now in
+    let front = c.in-Some.front.now in
+    subst (λ f. IsDefaultOf leaves files folders dir (option_map (λ x. x.now) f) None) (sym c.in-Some.is)
+    (default_nothing leaves law files folders dir front (Err (bad_default (string_bytes c.in-BadFile.field-0)))
+    (subst (λ n. NamedDefault leaves files folders dir front (named_view n)) c.in-BadFile.is (c.in_ok-version.ensures.answer files folders a)) (λ v q. absurd (cc)))

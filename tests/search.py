@@ -1,0 +1,233 @@
+"""Searches real directories by the program modulesearch_cases, which answers lines of standard input.
+
+    search.py PROGRAM"""
+
+import os
+import shutil
+import subprocess
+import sys
+import tempfile
+
+from harness import NOBODY, Failed, refuser, refuses_each, same, true
+
+COOKIE = "#%Module\n"
+CASES = []
+
+
+def case(function):
+    CASES.append(function)
+    return function
+
+
+class Disk:
+    """A directory, and the searches in it."""
+
+    def __init__(self, program):
+        self.path = tempfile.mkdtemp(prefix="search-")
+        os.chmod(self.path, 0o755)
+        self.program = os.path.join(self.path, "program")
+        shutil.copy(program, self.program)
+        os.chmod(self.program, 0o755)
+        self.m = os.path.join(self.path, "m")
+        os.mkdir(self.m)
+
+    def file(self, name, text=COOKIE):
+        path = os.path.join(os.fsencode(self.m), os.fsencode(name))
+        os.makedirs(os.path.dirname(path), exist_ok=True)
+        with open(path, "wb") as out:
+            out.write(text if isinstance(text, bytes) else text.encode())
+        return path
+
+    def run(self, line, variables=None, user=None):
+        done = subprocess.run(
+            [self.program],
+            input=line.encode() + b"\n",
+            stdout=subprocess.PIPE,
+            stderr=subprocess.PIPE,
+            env={os.fsencode(k): os.fsencode(v) for k, v in (variables or {}).items()},
+            user=user,
+            timeout=60,
+        )
+        return done.stdout.decode(errors="replace"), done.stderr.decode(errors="replace"), done.returncode
+
+    def answer(self, line, user=None):
+        out, err, status = self.run(line, user=user)
+        true(status == 0, f"{line}: status {status}, {err!r}")
+        return out.rstrip("\n").rsplit(" [", 1)
+
+    def locates(self, name, wanted, user=None):
+        same(self.answer(f"disk locate {self.m} {name}", user)[0].replace(self.m, "M"), wanted, name)
+
+    def lists(self, wanted, user=None):
+        same(self.answer(f"disk avail {self.m}", user)[0].replace(self.m, "M"), wanted, "avail")
+
+    def close(self):
+        subprocess.run(["chmod", "-R", "u+rwx", self.path], check=False)
+        shutil.rmtree(self.path, ignore_errors=True)
+
+
+@case
+def versions_and_default_files(disk):
+    for version in ("1.9", "1.10", "1.10-rc"):
+        disk.file(f"ver/{version}")
+    disk.locates("ver", "ver/1.10-rc M/ver/1.10-rc")
+    disk.lists("M: ver/1.9 ver/1.10 ver/1.10-rc")
+    disk.file("ver/.version", COOKIE + "set ModulesVersion 1.9")
+    disk.locates("ver", "ver/1.9 M/ver/1.9")
+    disk.lists("M: ver/1.9(default) ver/1.10 ver/1.10-rc")
+    disk.file("ver/.modulerc", COOKIE + "module-version ver/1.10")
+    disk.locates("ver", "ver/1.10 M/ver/1.10")
+    disk.file("ver/.modulerc", COOKIE + "error x")
+    disk.locates("ver", "45 Bad default file 'M/ver/.modulerc'")
+    disk.lists("M: ver/1.9 ver/1.10 ver/1.10-rc")
+
+
+@case
+def odd_names_are_passed_over(disk):
+    for name in ("ok/1", "ok/.hidden", "ok/a b", "ok/a:b", "ok/@", "ok/x&y", "ok/x|y", "ok/x\\y", ".dir/1", "a b/1", "new\nline/1"):
+        disk.file(name)
+    disk.lists("M: ok/1")
+    disk.locates("ok", "ok/1 M/ok/1")
+    disk.locates("ok/.hidden", "44 Bad module name 'ok/.hidden'")
+
+
+@case
+def four_levels_and_no_more(disk):
+    disk.file("top")
+    disk.file("a/b/c/d")
+    disk.file("a/b/c/e/f")
+    disk.lists("M: a/b/c/d top")
+    disk.locates("a/b/c", "a/b/c/d M/a/b/c/d")
+    disk.locates("a/b", "42 Unable to locate a modulefile for 'a/b'")
+
+
+@case
+def links(disk):
+    disk.file("ver/1")
+    os.symlink("1", os.path.join(disk.m, "ver", "2"))
+    os.symlink("gone", os.path.join(disk.m, "ver", "3"))
+    disk.locates("ver", "ver/2 M/ver/2")
+    disk.lists("M: ver/1 ver/2")
+    # A directory that leads to itself is as deep as names are.
+    os.symlink(".", os.path.join(disk.m, "ver", "up"))
+    disk.lists("M: ver/1 ver/2 ver/up/1 ver/up/2 ver/up/up/1 ver/up/up/2")
+    os.symlink("ring", os.path.join(disk.m, "ring"))
+    disk.locates("ring", "43 Reading failed")
+    disk.lists("43 Reading failed")
+
+
+@case
+def a_ring_of_links_among_versions(disk):
+    disk.file("ver/1")
+    os.symlink("0", os.path.join(disk.m, "ver", "0"))
+    # Versions are read from the greatest down, so the ring below it is never followed.
+    disk.locates("ver", "ver/1 M/ver/1")
+    os.symlink("2", os.path.join(disk.m, "ver", "2"))
+    disk.locates("ver", "43 Reading failed")
+    # A default file that names a version needs no other one.
+    disk.file("ver/.version", COOKIE + "set ModulesVersion 1")
+    disk.locates("ver", "ver/1 M/ver/1")
+
+
+@case
+def directories_and_pipes_in_place_of_files(disk):
+    disk.file("ver/1")
+    os.mkdir(os.path.join(disk.m, "ver", "2"))
+    os.mkfifo(os.path.join(disk.m, "ver", "3"))
+    os.symlink("/dev/zero", os.path.join(disk.m, "ver", "4"))
+    os.mkfifo(os.path.join(disk.m, "ver", ".version"))
+    os.mkdir(os.path.join(disk.m, "ver", ".modulerc"))
+    os.mkfifo(os.path.join(disk.m, "pipe"))
+    disk.locates("ver", "ver/1 M/ver/1")
+    disk.lists("M: ver/1")
+    disk.locates("pipe", "42 Unable to locate a modulefile for 'pipe'")
+
+
+@case
+def what_may_not_be_read(disk):
+    disk.file("ver/1")
+    secret = disk.file("ver/2")
+    os.chmod(secret, 0)
+    os.chmod(disk.path, 0o755)
+    disk.locates("ver", "43 Reading failed", user=NOBODY)
+    disk.lists("43 Reading failed", user=NOBODY)
+    disk.locates("ver/1", "ver/1 M/ver/1", user=NOBODY)
+    disk.file("ver/.version", COOKIE + "set ModulesVersion 1")
+    disk.locates("ver", "ver/1 M/ver/1", user=NOBODY)
+    os.chmod(secret, 0o644)
+    closed = os.path.join(disk.m, "closed")
+    os.mkdir(closed, 0)
+    disk.locates("closed", "43 Reading failed", user=NOBODY)
+    disk.lists("43 Reading failed", user=NOBODY)
+    disk.locates("ver", "ver/1 M/ver/1", user=NOBODY)
+
+
+@case
+def names_and_texts_that_are_not_utf8(disk):
+    disk.file("raw/1", COOKIE.encode() + b"\xff")
+    disk.locates("raw", "46 Not UTF-8: 'M/raw/1'")
+    disk.lists("M: raw/1")
+    disk.file("raw/.version", COOKIE.encode() + b"\xff")
+    disk.locates("raw", "45 Bad default file 'M/raw/.version'")
+    disk.file(b"odd/\xff")
+    disk.file("odd/1")
+    disk.locates("odd", "43 Reading failed")
+    disk.locates("odd/1", "odd/1 M/odd/1")
+    disk.lists("43 Reading failed")
+
+
+@case
+def a_directory_of_many_names(disk):
+    folder = os.path.join(disk.m, "many")
+    os.mkdir(folder)
+    for number in range(20000):
+        with open(os.path.join(folder, str(number)), "w") as out:
+            out.write(COOKIE)
+    disk.file("one/1")
+    # A load reads what is asked for, and the listing and the greatest version of its folder.
+    same(disk.answer(f"disk locate {disk.m} one")[1], "5 read, 1 listed]", "one")
+    same(disk.answer(f"disk locate {disk.m} many/7")[1], "1 read, 0 listed]", "many/7")
+    said = disk.answer(f"disk locate {disk.m} many")
+    same(said[0], f"many/19999 {folder}/19999", "many")
+    same(said[1], "5 read, 1 listed]", "many")
+    said = disk.answer(f"disk avail {disk.m}")
+    rows = said[0].split()
+    same(rows[0], f"{disk.m}:", "avail")
+    same(rows[1:], [f"many/{number}" for number in range(20000)] + ["one/1"], "avail")
+    # Each file is read once and asked once for a folder, with two default files in each of the two folders.
+    same(said[1], f"{2 + 20001 + 4} read, {3 + 20001} listed]", "avail")
+
+
+@case
+def growths_of_memory_that_are_refused(disk):
+    for version in ("1.9", "1.10"):
+        disk.file(f"ver/{version}")
+    disk.file("ver/.version", COOKIE + "set ModulesVersion 1.9")
+    shim = refuser(os.fsencode(disk.path))
+    for line in (f"disk locate {disk.m} ver", f"disk locate {disk.m} nope", f"disk avail {disk.m}"):
+        refuses_each(
+            shim,
+            lambda variables: disk.run(line, variables=variables),
+            lambda found: found[0].startswith("41 Out of memory [") or "ut of memory" in found[1],
+            line,
+        )
+
+
+def main():
+    passed = failed = 0
+    for function in CASES:
+        disk = Disk(sys.argv[1])
+        try:
+            function(disk)
+            passed += 1
+        except (Failed, OSError, subprocess.SubprocessError) as problem:
+            failed += 1
+            print(f"FAILED {function.__name__}: {problem}")
+        finally:
+            disk.close()
+    print(f"search: {passed} passed, {failed} failed")
+    sys.exit(1 if failed else 0)
+
+
+if __name__ == "__main__":
+    main()
