@@ -48,7 +48,7 @@ module _ (leaves : Text → Text → Option Left → Type 0) (files : Files) (li
   default_absent path at nothing = inr (no, refl)
     where
       no : HasCandidates files listings dir name → ⊥
-      no (v, c) = let e : None ≡ Some c.entry.0 = sym nothing ∙ ap folders at ∙ c.entry.1 in absurd (cc)
+      no (v, c) = let e : None ≡ Some c.entry.0 = sym nothing ∙ ap listings at ∙ c.entry.1 in absurd (cc)
 
   -- the directory gives the module of this name itself
   pub below_first : (o : Result (Option Module) Reason) (held : Held) → modulefile (files (path_of dir name)) ≡ held → o ≡ module_at files dir name → (o ≡ Ok None → ⊥) → Below leaves files listings dir name o
