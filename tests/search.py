@@ -208,7 +208,7 @@ def growths_of_memory_that_are_refused(disk):
         refuses_each(
             shim,
             lambda variables: disk.run(line, variables=variables),
-            lambda found: found[0].startswith("41 Out of memory [") or "ut of memory" in found[1],
+            lambda found: found[0].startswith("41 Out of memory [") or "OutOfMemory" in found[1] or "ut of memory" in found[1],
             line,
         )
 
