@@ -34,7 +34,8 @@ fn named_by_ended(
     path: String,
     ended: Option<Ended>,
 ) -> Result<Named, AllocError>
-    ensures { IfOk result (λ n. named_view n ≡ said (says file name.now) (string_bytes path) (option_map ended_view ended)) }
+    ensures { IfOk result (λ n.
+        named_view n ≡ said (says file name.now) (string_bytes path) (option_map ended_view ended)) }
 {
     let Some(ended) = ended else {
         return Ok(Named::BadFile(path));
@@ -55,8 +56,9 @@ fn said_by<T: Tree, D: DefaultFiles>(
     file: DefaultFile,
 ) -> Result<Named, TreeFault>
     ensures before { Shows (T.agrees tree.new) (λ files listings. T.agrees tree.old files listings) }
-    ensures answer { IfOk result (λ n. Shows (T.agrees tree.new) (λ files listings. Names (D.leaves default_files.now) files
-        (says file name.now) (default_file dir.now name.now (file_name file)) (named_view n))) }
+    ensures answer { IfOk result (λ n. Shows (T.agrees tree.new) (λ files listings.
+        Names (D.leaves default_files.now) files (says file name.now)
+        (default_file dir.now name.now (file_name file)) (named_view n))) }
     ensures cause { HasCause (T.failures tree.old) (T.failures tree.new) result }
 {
     let folder = path_of(alloc, dir, name)?;
@@ -127,8 +129,8 @@ fn named_by<T: Tree, D: DefaultFiles>(
 }
 
 /// The candidate that the default files in the folder of a name say, in which are these entries: `.modulerc`, or else
-/// `.version`, which isn't read where `.modulerc` names a candidate. A default file without the cookie says nothing, and so
-/// does one that names no candidate.
+/// `.version`, which isn't read where `.modulerc` names a candidate. A default file without the cookie says nothing,
+/// and so does one that names no candidate.
 ///
 /// It fails as the tree does, and for want of memory.
 pub fn named_default<T: Tree, D: DefaultFiles>(

@@ -65,7 +65,8 @@ fn default_of<T: Tree, D: DefaultFiles>(
         listings (path_of dir.now name.now) ≡ Some (map string_bytes entries.now)) }
     ensures before { Shows (T.agrees tree.new) (λ files listings. T.agrees tree.old files listings) }
     ensures later { T.failures tree.old ≤ T.failures tree.new }
-    ensures told { Tells (T.agrees tree.new) (T.failures tree.old < T.failures tree.new) (option_map string_bytes) result
+    ensures told { Tells (T.agrees tree.new) (T.failures tree.old < T.failures tree.new) (option_map string_bytes)
+        result
         (λ files listings. DefaultIn (D.leaves default_files.now) files listings dir.now name.now) }
 {
     match named_default(alloc, tree, default_files, dir, name, entries)? {
@@ -88,7 +89,8 @@ fn default_in<T: Tree, D: DefaultFiles>(
 ) -> Result<Option<String>, FindFault>
     ensures before { Shows (T.agrees tree.new) (λ files listings. T.agrees tree.old files listings) }
     ensures later { T.failures tree.old ≤ T.failures tree.new }
-    ensures told { Tells (T.agrees tree.new) (T.failures tree.old < T.failures tree.new) (option_map string_bytes) result
+    ensures told { Tells (T.agrees tree.new) (T.failures tree.old < T.failures tree.new) (option_map string_bytes)
+        result
         (λ files listings. DefaultIn (D.leaves default_files.now) files listings dir.now name.now) }
 {
     let folder = path_of(alloc, dir, name)?;
@@ -144,7 +146,8 @@ fn module_along<T: Tree, D: DefaultFiles>(
     ensures before { Shows (T.agrees tree.new) (λ files listings. T.agrees tree.old files listings) }
     ensures later { T.failures tree.old ≤ T.failures tree.new }
     ensures told { Tells (T.agrees tree.new) (T.failures tree.old < T.failures tree.new) found_view result
-        (λ files listings. meaning.FoundAlong (D.leaves default_files.now) files listings name.now (map (λ dir. dir.now) dirs.now)) }
+        (λ files listings. meaning.FoundAlong (D.leaves default_files.now) files listings name.now
+        (map (λ dir. dir.now) dirs.now)) }
 {
     let mut rest = dirs;
     while let [dir, after @ ..] = rest {
@@ -156,13 +159,14 @@ fn module_along<T: Tree, D: DefaultFiles>(
     Err(FindFault::NotFound(String::from_str(alloc, name)?))
 }
 
-/// Finds the module that a name means: the first directory of MODULEPATH, a list parted by colons, that gives one. A directory
-/// gives the modulefile at directory, `/`, name; or else, where a folder is there with files that begin with `#%Module`, the
-/// one of these that its default files name, or else the greatest by version order.
+/// Finds the module that a name means: the first directory of MODULEPATH, a list parted by colons, that gives one. A
+/// directory gives the modulefile at directory, `/`, name; or else, where a folder is there with files that begin
+/// with `#%Module`, the one of these that its default files name, or else the greatest by version order.
 ///
 /// It fails with `BadName` exactly where the name is ill-spelled, before anything is read; with `NotFound` where no
-/// directory gives a module; with `BadDefaultFile` where a default file of the folder that was meant has a fault; with `NotUtf8`
-/// where the module found is not UTF-8; with `Device` only where the device failed in this call; and with `OutOfMemory`.
+/// directory gives a module; with `BadDefaultFile` where a default file of the folder that was meant has a fault;
+/// with `NotUtf8` where the module found is not UTF-8; with `Device` only where the device failed in this call; and
+/// with `OutOfMemory`.
 pub fn locate<T: Tree, D: DefaultFiles>(
     alloc: Global,
     tree: &mut T,

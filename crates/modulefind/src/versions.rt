@@ -12,7 +12,8 @@ use lookup::{Tree, TreeFault, is_module_name};
 use moduleversion::version_order;
 use std::alloc::{AllocError, Global};
 
-/// Whether an entry of the folder of a name can be a version: it is one part, with which the whole name is well spelled.
+/// Whether an entry of the folder of a name can be a version: it is one part, with which the whole name is well
+/// spelled.
 pub(crate) fn is_version(alloc: Global, name: &str, entry: &str) -> Result<bool, AllocError>
     ensures { IfOk result (λ r. r ≡ is_version name.now entry.now) }
 {
@@ -77,8 +78,8 @@ fn first_module<'a, T: Tree>(
     Ok(None)
 }
 
-/// The greatest candidate of a name, in whose folder are these entries. It reads versions from the greatest down to the first
-/// that is a candidate.
+/// The greatest candidate of a name, in whose folder are these entries. It reads versions from the greatest down to
+/// the first that is a candidate.
 ///
 /// It fails as the tree does, and for want of memory.
 pub(crate) fn greatest_candidate<T: Tree>(

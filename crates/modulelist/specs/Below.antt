@@ -50,7 +50,8 @@ abbrev pub IsMarkRight : (Text → Text → Option Left → Type 0) → Files �
 IsMarkRight leaves files folders dir row = (row.1 ≡ true) ↔ IsNamed leaves files folders dir row.0
 
 -- the name that the default files of a folder say, of the names in that folder
-abbrev pub IsDefaultOf : (Text → Text → Option Left → Type 0) → Files → Listings → Text → Option Text → Option Text → Type 0
+abbrev pub IsDefaultOf : (Text → Text → Option Left → Type 0) → Files → Listings → Text → Option Text → Option Text
+    → Type 0
 IsDefaultOf leaves files folders dir front default = (entry : Text) → is_single entry ≡ true
     → (is_marked_by default (name_below front entry) ≡ true) ↔ IsNamed leaves files folders dir (name_below front entry)
 

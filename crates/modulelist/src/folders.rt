@@ -22,7 +22,8 @@ pub(crate) struct Walk<'a, D> {
 }
 
 impl<D: DefaultFiles> Walk<'_, D> {
-    /// The full name that the default files of a folder say, in which are these entries; those of the directory itself say none.
+    /// The full name that the default files of a folder say, in which are these entries; those of the directory
+    /// itself say none.
     fn default_name<T: Tree>(
         &self,
         tree: &mut T,
@@ -30,10 +31,12 @@ impl<D: DefaultFiles> Walk<'_, D> {
         entries: &[String],
     ) -> Result<Option<String>, TreeFault>
         requires { Shows (T.agrees tree.old) (λ files folders.
-            folders (folder_path self.now.dir.now (option_map (λ f. f.now) front)) ≡ Some (map string_bytes entries.now)) }
+            folders (folder_path self.now.dir.now (option_map (λ f. f.now) front))
+            ≡ Some (map string_bytes entries.now)) }
         ensures before { Shows (T.agrees tree.new) (λ files folders. T.agrees tree.old files folders) }
         ensures answer { IfOk result (λ default. Shows (T.agrees tree.new) (λ files folders.
-            IsDefaultOf (D.leaves self.now.default_files.now) files folders self.now.dir.now (option_map (λ f. f.now) front.entry)
+            IsDefaultOf (D.leaves self.now.default_files.now) files folders self.now.dir.now
+            (option_map (λ f. f.now) front.entry)
             (option_map string_bytes default))) }
         ensures cause { HasCause (T.failures tree.old) (T.failures tree.new) result }
     {
@@ -65,12 +68,15 @@ impl<D: DefaultFiles> Walk<'_, D> {
         rows: &mut Vec<Row>,
     ) -> Result<(), TreeFault>
         requires listed { Shows (T.agrees tree.old) (λ files folders.
-            folders (folder_path self.now.dir.now (option_map (λ f. f.now) front)) ≡ Some (map string_bytes entries.now)) }
-        requires named { map string_bytes names.now ≡ names_in (option_map (λ f. f.now) front) (map string_bytes entries.now) }
+            folders (folder_path self.now.dir.now (option_map (λ f. f.now) front))
+            ≡ Some (map string_bytes entries.now)) }
+        requires named { map string_bytes names.now
+            ≡ names_in (option_map (λ f. f.now) front) (map string_bytes entries.now) }
         ensures before { Shows (T.agrees tree.new) (λ files folders. T.agrees tree.old files folders) }
         ensures added { OnOk result (Shows (T.agrees tree.new) (λ files folders. (more : List listed.Row)
             × (map row_view rows.new.items ≡ map row_view rows.old.items ++ more)
-            × AreFiles (D.leaves self.now.default_files.now) files folders self.now.dir.now (map string_bytes names.now) more)) }
+            × AreFiles (D.leaves self.now.default_files.now) files folders self.now.dir.now
+            (map string_bytes names.now) more)) }
         ensures cause { HasCause (T.failures tree.old) (T.failures tree.new) result }
     {
         let modules = modules_among(self.alloc, tree, self.dir, names)?;

@@ -46,9 +46,10 @@ fn modules_of<T: Tree, D: DefaultFiles>(
     Ok(rows)
 }
 
-/// All modules along a MODULEPATH, a list parted by colons: for each directory, a repeated one again, the well-spelled names of
-/// one to four parts of all files below it that begin with `#%Module`, in the order of versions of the whole name. A module is
-/// marked where a default file of its folder names it; nothing of a folder is marked where its default file has a fault.
+/// All modules along a MODULEPATH, a list parted by colons: for each directory, a repeated one again, the
+/// well-spelled names of one to four parts of all files below it that begin with `#%Module`, in the order of versions
+/// of the whole name. A module is marked where a default file of its folder names it; nothing of a folder is marked
+/// where its default file has a fault.
 ///
 /// It fails as the tree does, and for want of memory.
 pub fn available<T: Tree, D: DefaultFiles>(

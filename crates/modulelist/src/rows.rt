@@ -24,7 +24,8 @@ pub(crate) fn push_rows(
     default: Option<&str>,
 ) -> Result<(), AllocError>
     ensures { OnOk result (map row_view rows.new.items
-        ≡ map row_view rows.old.items ++ map (row_of (option_map (λ d. d.now) default.entry)) (map (λ m. m.now) modules.now)) }
+        ≡ map row_view rows.old.items
+        ++ map (row_of (option_map (λ d. d.now) default.entry)) (map (λ m. m.now) modules.now)) }
 {
     let mut rest = modules;
     while let [name, after @ ..] = rest {

@@ -1,5 +1,5 @@
 -- What the stand-in for an evaluator makes of a default file: its one line after the cookie.
-use Rattle.std.specs.Prelude.{List, [], ◌∷◌, ◌++◌, codes, Option, Some, None}
+use Rattle.std.specs.Prelude.{[], ◌∷◌, ◌++◌, codes, Option, Some, None}
 use Rattle.modulename.specs.ModuleName.{Text}
 use Rattle.modulesearch.specs.DefaultFiles.{Left, after_front}
 

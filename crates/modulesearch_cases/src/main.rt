@@ -1,9 +1,9 @@
 //! Answers searches, one line of standard input after the other.
 //!
-//! `file PATH TEXT` and `bytes PATH TEXT` put a file into a tree in memory, where `;` parts the lines of the text, and `bytes`
-//! adds a byte that is not UTF-8; `folder PATH NAME...` puts a folder; `new` begins a new tree. `locate MODULEPATH NAME` and
-//! `avail MODULEPATH` search it, `disk locate MODULEPATH NAME` and `disk avail MODULEPATH` a disk. Behind an answer stands how
-//! often the tree was read and listed.
+//! `file PATH TEXT` and `bytes PATH TEXT` put a file into a tree in memory, where `;` parts the lines of the text,
+//! and `bytes` adds a byte that is not UTF-8; `folder PATH NAME...` puts a folder; `new` begins a new tree. `locate
+//! MODULEPATH NAME` and `avail MODULEPATH` search it, `disk locate MODULEPATH NAME` and `disk avail MODULEPATH` a
+//! disk. Behind an answer stands how often the tree was read and listed.
 #![tactic(auto)]
 
 mod counted;

@@ -14,8 +14,8 @@ const SET_VERSION: &str = "#%Module\nset ModulesVersion ";
 
 const MODULE_VERSION: &str = "#%Module\nmodule-version ";
 
-/// Reads default files of one line after the cookie: `error TEXT`, `set ModulesVersion VERSION` or `module-version NAME`,
-/// where the word `default` is taken as there.
+/// Reads default files of one line after the cookie: `error TEXT`, `set ModulesVersion VERSION` or `module-version
+/// NAME`, where the word `default` is taken as there.
 pub struct Plain;
 
 /// The command that makes a version the default.
