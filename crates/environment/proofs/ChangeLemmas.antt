@@ -1,25 +1,30 @@
 -- Changes, written over an environment.
-use Rattle.std.proofs.Common.{◌≡◌, Bool, true, false, cond, not, ◌||◌, ◌&&◌, List, [], ◌∷◌, ◌++◌, map, subst, Bor, Ordering, refl, sym, ap, ◌∙◌, Option, Some, None}
+use Rattle.std.proofs.Common.{◌≡◌, Bool, true, false, cond, not, ◌||◌, ◌&&◌, List, [], ◌∷◌, ◌++◌, map, length, subst, arith, Bor, Ordering, refl, sym, ap, ◌∙◌, Option, Some, None, Result, Ok, Err, Vec, Global}
 use Rattle.std.specs.Prelude.{bytes_eq, filter, is_some, unwrap_or, if◌then◌else◌}
-use Rattle.std.specs.List.{filter_map, cons_option, list_any, dedup, dedup_from, AllByRecursion}
+use Rattle.std.specs.List.{dedup, dedup_from, AllByRecursion}
 use Rattle.std.specs.List.Retain.{IsFiltered, DiffersFromLast}
 use Rattle.std.specs.List.Sorted.{IsStrictlySortedBy, IsSorted, IsPermutation}
-use Rattle.std.specs.Ordering.{nat_cmp, eq_by_cmp, is_eq}
+use Rattle.std.specs.Ordering.{nat_cmp, is_eq}
 use Rattle.std.specs.declared.cmp.Ordering.TheVariants.{Less}
 use Rattle.std.specs.Cmp.{IsTotalOrder}
 use Rattle.std.specs.Cmp.Lexicographic.{slice_cmp, nat_list_cmp_total}
 use Rattle.std.specs.FinMap as finite
+use Rattle.std.specs.Result.{IfOk}
+use Rattle.std.proofs.lemmas.List.{map-append}
+use Rattle.std.proofs.lemmas.List.Folds.{list_any-append}
+use Rattle.std.specs.FinMap.{put}
 use Rattle.std.proofs.lemmas.Bool.{false≢true}
 use Rattle.std.proofs.lemmas.Cmp.{on_total}
 use Rattle.std.proofs.lemmas.Map.Text.{is_eq-slice_cmp}
 use Rattle.std.proofs.lemmas.List.Filters.{dedup_is}
-use Rattle.std.proofs.lemmas.List.Folds.{list_any-append}
-use Rattle.std.proofs.lemmas.List.Kept.{IsStrictlySortedBy-dedup, IsStrictlySortedBy-filter}
+use Rattle.std.proofs.lemmas.List.Kept.{IsStrictlySortedBy-dedup}
+use Rattle.std.proofs.lemmas.Map.Views.{any-filter_same}
 use Rattle.std.proofs.lemmas.List.Sorted.{list_any-IsPermutation}
 use Rattle.environment.specs.Texts.{shown, Text, has}
-use Rattle.environment.proofs.TextLemmas.{has-shown, or_left, or_right, same_text, has-push, bytes_eq-symmetric}
+use Rattle.environment.proofs.TextLemmas.{has-shown, or_left, or_right, same_text, has-push, bytes_eq-same, bytes_eq-symmetric}
 use Rattle.environment.specs.Environment.{Environment, lookup, with_value}
-use Rattle.environment.specs.Changes.{Edit, same_value, edit_at, AreChanges, applied, difference_at}
+use Rattle.environment.specs.declared.change.Change.{Change}
+use Rattle.environment.specs.Changes.{Edit, same_value, edit_at, edits_in, AreChanges, applied}
 use Rattle.environment.specs.Fields.{are_distinct}
 use Rattle.environment.proofs.EnvLemmas.{lookup-with_value, same_environment, with_value-commutes}
 
@@ -95,34 +100,6 @@ applied-with_value (c ∷ cs) e name v h =
     let apart = or_no (bytes_eq name c.0) (has name (map (λ (d : Edit). d.0) cs)) h in
     ap (applied cs) (with_value-commutes e name c.0 v c.1 apart.0) ∙ applied-with_value cs (with_value e c.0 c.1) name v apart.1
 
--- the changes among names
-same_cond : {A : Type 0} (b : Bool) (x : A) → x ≡ cond b x x
-same_cond true x = refl
-same_cond false x = refl
-
-twice : (t h : Bool) (v : Option Text) (w : Option (Option Text)) → w ≡ cond h (cond t None (Some v)) None → cond t w (Some v) ≡ cond t None (Some v)
-twice true true v w e = e
-twice true false v w e = e
-twice false h v w e = refl
-
-among_at : (old new : Environment) (n q : Text) (w : Option (Option Text)) (h b : Bool) → bytes_eq q n ≡ b → w ≡ cond h (if same_value (lookup old q) (lookup new q) then None else Some (lookup new q)) None
-    → cond b (cond (same_value (lookup old n) (lookup new n)) w (Some (lookup new n))) w ≡ cond (b || h) (if same_value (lookup old q) (lookup new q) then None else Some (lookup new q)) None
-among_at old new n q w h true e k =
-    ap (λ (t : Text). cond (same_value (lookup old t) (lookup new t)) w (Some (lookup new t))) (sym (same_text q n e)) ∙ twice (same_value (lookup old q) (lookup new q)) h (lookup new q) w k
-among_at old new n q w h false e k = k
-
-edit_at-one : (old new : Environment) (n q : Text) (rest : List Edit) (t : Bool) → same_value (lookup old n) (lookup new n) ≡ t
-    → edit_at (cons_option (cond t None (Some (n, lookup new n))) rest) q ≡ cond (bytes_eq q n) (cond t (edit_at rest q) (Some (lookup new n))) (edit_at rest q)
-edit_at-one old new n q rest true e = same_cond (bytes_eq q n) (edit_at rest q)
-edit_at-one old new n q rest false e = refl
-
-pub edit_at-among : (old new : Environment) (names : List Text) (q : Text)
-    → edit_at (filter_map (difference_at old new) names) q ≡ cond (has q names) (if same_value (lookup old q) (lookup new q) then None else Some (lookup new q)) None
-edit_at-among old new [] q = refl
-edit_at-among old new (n ∷ ns) q =
-    edit_at-one old new n q (filter_map (difference_at old new) ns) (same_value (lookup old n) (lookup new n)) refl
-    ∙ among_at old new n q (edit_at (filter_map (difference_at old new) ns) q) (has q ns) (bytes_eq q n) refl (edit_at-among old new ns q)
-
 -- names sorted, each kept once
 
 abbrev same_names : Bor Text → Bor Text → Bool
@@ -170,38 +147,121 @@ pub once-same : (names xs ys : List (Bor Text)) (q : Text) → IsPermutation nam
 once-same names xs ys q p f =
     ap (λ (l : List (Bor Text)). has q (shown l)) (dedup_is same_names xs ys f) ∙ has-dedup xs q ∙ sym (has-shown q xs) ∙ sym (list_any-IsPermutation (λ y. bytes_eq y.now q) names xs p) ∙ has-shown q names
 
--- names that hold each name that is set give the changes
+-- of the names of which some may differ, those that do
 
-keys_has : (ks : List Text) (q : Text) → list_any (eq_by_cmp (slice_cmp nat_cmp) q) ks ≡ has q ks
-keys_has [] q = refl
-keys_has (k ∷ ks) q = ap (λ (b : Bool). b || list_any (eq_by_cmp (slice_cmp nat_cmp) q) ks) (is_eq-slice_cmp q k) ∙ ap (λ (b : Bool). bytes_eq q k || b) (keys_has ks q)
+abbrev differ : Environment → Environment → Text → Bool
+differ old new n = not (same_value (lookup old n) (lookup new n))
 
-no_value : (o : Option Text) → is_some o ≡ false → o ≡ None
-no_value None h = refl
-no_value (Some x) h = cc
+abbrev change_to : Environment → Text → Edit
+change_to new n = (n, lookup new n)
 
-unset : (e : Environment) (q : Text) → has q (finite.keys e) ≡ false → lookup e q ≡ None
-unset e q h = no_value (lookup e q) (finite.contains_key-keys e q ∙ keys_has (finite.keys e) q ∙ h)
+names_listed : (new : Environment) (names : List Text) → map (λ (c : Edit). c.0) (map (change_to new) names) ≡ names
+names_listed new [] = refl
+names_listed new (n ∷ ns) = ap (λ (l : List Text). n ∷ l) (names_listed new ns)
 
-all_named : (old new : Environment) (q : Text) (h : Bool) → h ≡ (has q (finite.keys old) || has q (finite.keys new)) → cond h (if same_value (lookup old q) (lookup new q) then None else Some (lookup new q)) None ≡ (if same_value (lookup old q) (lookup new q) then None else Some (lookup new q))
-all_named old new q true e = refl
-all_named old new q false e =
-    rw (unset old q (or_left (has q (finite.keys old)) (has q (finite.keys new)) (sym e)), unset new q (or_right (has q (finite.keys old)) (has q (finite.keys new)) (sym e))) refl
+listed_at : (new : Environment) (n q : Text) (h b : Bool) → bytes_eq q n ≡ b → cond b (Some (lookup new n)) (cond h (Some (lookup new q)) None) ≡ cond (b || h) (Some (lookup new q)) None
+listed_at new n q h true e = ap (λ (t : Text). Some (lookup new t)) (sym (same_text q n e))
+listed_at new n q h false e = refl
 
-names_at : (old new : Environment) (n : Text) (rest : List Edit) (t : Bool) → map (λ (c : Edit). c.0) (cons_option (cond t None (Some (n, lookup new n))) rest) ≡ cond (not t) (n ∷ map (λ (c : Edit). c.0) rest) (map (λ (c : Edit). c.0) rest)
-names_at old new n rest true = refl
-names_at old new n rest false = refl
+edit_at-listed : (new : Environment) (names : List Text) (q : Text) → edit_at (map (change_to new) names) q ≡ cond (has q names) (Some (lookup new q)) None
+edit_at-listed new [] q = refl
+edit_at-listed new (n ∷ ns) q =
+    ap (cond (bytes_eq q n) (Some (lookup new n))) (edit_at-listed new ns q) ∙ listed_at new n q (has q ns) (bytes_eq q n) refl
 
-names-among : (old new : Environment) (names : List Text) → map (λ (c : Edit). c.0) (filter_map (difference_at old new) names) ≡ filter (λ n. not (same_value (lookup old n) (lookup new n))) names
-names-among old new [] = refl
-names-among old new (n ∷ ns) =
-    names_at old new n (filter_map (difference_at old new) ns) (same_value (lookup old n) (lookup new n))
-    ∙ ap (λ (l : List Text). cond (not (same_value (lookup old n) (lookup new n))) (n ∷ l) l) (names-among old new ns)
+same_as_itself : (o : Option Text) → same_value o o ≡ true
+same_as_itself None = refl
+same_as_itself (Some x) = bytes_eq-same x
 
-pub AreChanges-among : (old new : Environment) (names before after : List Text) → IsStrictlySortedBy (slice_cmp nat_cmp) names → ((q : Text) → has q names ≡ has q (before ++ after)) → before ≡ finite.keys old → after ≡ finite.keys new
-    → AreChanges old new (filter_map (difference_at old new) names)
-AreChanges-among old new names before after o h b a = record {
-  ordered = subst (IsStrictlySortedBy (slice_cmp nat_cmp)) (sym (names-among old new names)) (IsStrictlySortedBy-filter (slice_cmp nat_cmp) (λ n. not (same_value (lookup old n) (lookup new n))) names o);
-  each = λ q. edit_at-among old new names q
-      ∙ all_named old new q (has q names) (h q ∙ list_any-append (bytes_eq q) before after ∙ ap (λ (l : List Text). has q l || has q after) b ∙ ap (λ (l : List Text). has q (finite.keys old) || has q l) a);
+difference_is : (h s : Bool) (y : Option Text) → (h ≡ false → s ≡ true) → cond (not s && h) (Some y) None ≡ (if s then None else Some y)
+difference_is h true y e = refl
+difference_is true false y e = refl
+difference_is false false y e = absurd (false≢true (e refl))
+
+has-filter : (p : Text → Bool) (q : Text) (xs : List Text) → has q (filter p xs) ≡ (p q && has q xs)
+has-filter p q xs = any-filter_same (bytes_eq q) p (p q) (λ z e. ap p (sym (same_text q z e))) xs
+
+pub AreChanges-among : (old new : Environment) (all names : List Text) → ((q : Text) → has q all ≡ false → lookup old q ≡ lookup new q)
+    → IsStrictlySortedBy (slice_cmp nat_cmp) names → ((q : Text) → has q names ≡ has q (filter (differ old new) all)) → AreChanges old new (map (change_to new) names)
+AreChanges-among old new all names k o h = record {
+  ordered = subst (IsStrictlySortedBy (slice_cmp nat_cmp)) (sym (names_listed new names)) o;
+  each = λ q. edit_at-listed new names q
+      ∙ ap (λ (b : Bool). cond b (Some (lookup new q)) None) (h q ∙ has-filter (differ old new) q all)
+      ∙ difference_is (has q all) (same_value (lookup old q) (lookup new q)) (lookup new q)
+      (λ e. ap (λ (x : Option Text). same_value x (lookup new q)) (k q e) ∙ same_as_itself (lookup new q));
 }
+
+pub all_changes : {E : Type 0} (r : Result (Vec Change Global) E) (old new : Environment) (all : List Text) (names slice : List (Bor Text)) → slice ≡ names → ((q : Text) → has q all ≡ false → lookup old q ≡ lookup new q)
+    → IsStrictlySortedBy (slice_cmp nat_cmp) (shown names) → ((q : Text) → has q (shown names) ≡ has q (filter (differ old new) all))
+    → IfOk r (λ v. edits_in v ≡ map (change_to new) (shown slice)) → IfOk r (λ v. AreChanges old new (edits_in v))
+all_changes (Ok v) old new all names slice s k o h e =
+    subst (AreChanges old new) (sym (e ∙ ap (λ (l : List (Bor Text)). map (change_to new) (shown l)) s)) (AreChanges-among old new all (shown names) k o h)
+all_changes (Err x) old new all names slice s k o h e = e
+
+-- the names of two environments
+pub both_given : (d e : Environment) (xs ys : List (Bor Text)) (n : Text) → ((q : Text) → has q (shown xs) ≡ false → lookup d q ≡ None) → ((q : Text) → has q (shown ys) ≡ false → lookup e q ≡ None)
+    → has n (shown (xs ++ ys)) ≡ false → lookup d n ≡ lookup e n
+both_given d e xs ys n f g h =
+    let apart : (has n (shown xs) || has n (shown ys)) ≡ false = sym (ap (has n) (map-append (λ (x : Bor Text). x.now) xs ys) ∙ list_any-append (bytes_eq n) (shown xs) (shown ys)) ∙ h in
+    f n (or_left (has n (shown xs)) (has n (shown ys)) apart) ∙ sym (g n (or_right (has n (shown xs)) (has n (shown ys)) apart))
+
+-- the names of an environment
+
+-- what an environment has at these names
+filled : Environment → List Text → Environment
+filled e [] = finite.empty
+filled e (n ∷ ns) = with_value (filled e ns) n (lookup e n)
+
+filled_at : (e : Environment) (n q : Text) (h b : Bool) → bytes_eq q n ≡ b → cond b (lookup e n) (cond h (lookup e q) None) ≡ cond (b || h) (lookup e q) None
+filled_at e n q h true k = ap (lookup e) (sym (same_text q n k))
+filled_at e n q h false k = refl
+
+lookup-filled : (e : Environment) (ns : List Text) (q : Text) → lookup (filled e ns) q ≡ cond (has q ns) (lookup e q) None
+unfolding filled
+lookup-filled e [] q = finite.get-empty (slice_cmp nat_cmp) q
+lookup-filled e (n ∷ ns) q =
+    lookup-with_value (filled e ns) n (lookup e n) q ∙ ap (cond (bytes_eq q n) (lookup e n)) (lookup-filled e ns q) ∙ filled_at e n q (has q ns) (bytes_eq q n) refl
+
+all_filled : (h : Bool) (o : Option Text) → h ≡ is_some o → cond h o None ≡ o
+all_filled true o e = refl
+all_filled false None e = refl
+all_filled false (Some x) e = absurd (false≢true e)
+
+put_first : (x : Text × Text) (es : List (Text × Text)) → AllByRecursion (λ (y : Text). slice_cmp nat_cmp x.0 y ≡ Less) (map (λ (p : Text × Text). p.0) es) → put (slice_cmp nat_cmp) x.0 x.1 es ≡ x ∷ es
+put_first x [] h = refl
+put_first x (f ∷ fs) h = rw h.0 refl
+
+nothing : {X : Type 0} (xs : List X) → length xs ≡ 0 → xs ≡ []
+nothing [] h = refl
+nothing (x ∷ xs) h = absurd (omega arith)
+
+one_more_key : (e : Environment) (n : Text) (o : Option Text) (ns : List Text) → is_some o ≡ true → finite.keys e ≡ ns → AllByRecursion (λ (y : Text). slice_cmp nat_cmp n y ≡ Less) ns
+    → finite.keys (with_value e n o) ≡ n ∷ ns
+one_more_key e n None ns s k a = absurd (false≢true s)
+one_more_key e n (Some v) ns s k a =
+    ap (map (λ (p : Text × Text). p.0)) (finite.entries-insert nat_list_cmp_total e n v ∙ put_first (n, v) (finite.entries e) (subst (AllByRecursion (λ (y : Text). slice_cmp nat_cmp n y ≡ Less)) (sym k) a))
+    ∙ ap (λ (l : List Text). n ∷ l) k
+
+keys-filled : (e : Environment) (ns : List Text) → IsStrictlySortedBy (slice_cmp nat_cmp) ns → ((q : Text) → has q ns ≡ true → is_some (lookup e q) ≡ true) → finite.keys (filled e ns) ≡ ns
+unfolding filled IsStrictlySortedBy
+keys-filled e [] o h = ap (map (λ (p : Text × Text). p.0)) (nothing (finite.entries (finite.empty)) (sym (finite.len-entries finite.empty) ∙ finite.len-empty (slice_cmp nat_cmp) Text))
+keys-filled e (n ∷ ns) o h =
+    one_more_key (filled e ns) n (lookup e n) ns (h n (ap (λ (b : Bool). b || has n ns) (bytes_eq-same n)))
+    (keys-filled e ns o.1 (λ q k. h q (ap (λ (b : Bool). bytes_eq q n || b) k ∙ or_true (bytes_eq q n)))) o.0
+  where
+    or_true : (b : Bool) → (b || true) ≡ true
+    or_true true = refl
+    or_true false = refl
+
+set_among : (s h : Bool) (o : Option Text) → s ≡ is_some o → (h ≡ false → o ≡ None) → (s && h) ≡ is_some o
+set_among true true o e f = e
+set_among true false o e f = absurd (false≢true (sym (e ∙ ap is_some (f refl))))
+set_among false h o e f = e
+
+-- the names that are set, in order, are those of the environment
+pub keys-set : (e : Environment) (all names : List Text) → ((q : Text) → has q all ≡ false → lookup e q ≡ None) → IsStrictlySortedBy (slice_cmp nat_cmp) names
+    → ((q : Text) → has q names ≡ has q (filter (λ n. is_some (lookup e n)) all)) → names ≡ finite.keys e
+keys-set e all names k o h =
+    let same : (q : Text) → has q names ≡ is_some (lookup e q) = λ q.
+    h q ∙ has-filter (λ n. is_some (lookup e n)) q all ∙ set_among (is_some (lookup e q)) (has q all) (lookup e q) refl (k q) in
+    sym (keys-filled e names o (λ q t. sym (same q) ∙ t))
+    ∙ ap finite.keys (same_environment (filled e names) e (λ q. lookup-filled e names q ∙ all_filled (has q names) (lookup e q) (same q)))

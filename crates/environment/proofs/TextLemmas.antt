@@ -59,3 +59,11 @@ or_right false b e = e
 pub has-shown : (x : Text) (xs : List (Bor Text)) → list_any (λ y. bytes_eq y.now x) xs ≡ has x (shown xs)
 has-shown x [] = refl
 has-shown x (y ∷ ys) = ap (λ (b : Bool). b || list_any (λ z. bytes_eq z.now x) ys) (bytes_eq-symmetric y.now x) ∙ ap (λ (b : Bool). bytes_eq x y.now || b) (has-shown x ys)
+
+shown_cond : (b : Bool) (x : Bor Text) (xs : List (Bor Text)) → shown (cond b (x ∷ xs) xs) ≡ cond b (x.now ∷ shown xs) (shown xs)
+shown_cond true x xs = refl
+shown_cond false x xs = refl
+
+pub shown-filter : (p : Text → Bool) (xs : List (Bor Text)) → shown (filter (λ y. p y.now) xs) ≡ filter p (shown xs)
+shown-filter p [] = refl
+shown-filter p (z ∷ zs) = shown_cond (p z.now) z _ ∙ ap (λ (l : List Text). cond (p z.now) (z.now ∷ l) l) (shown-filter p zs)

@@ -43,7 +43,3 @@ edit_of c = (string_bytes c.name, option_map string_bytes c.value)
 -- what the changes of a vector say
 abbrev pub edits_in : Vec Change Global → List Edit
 edits_in v = map edit_of v.items
-
--- the change of one name, if it has one
-abbrev pub difference_at : Environment → Environment → Text → Option Edit
-difference_at old new q = if same_value (lookup old q) (lookup new q) then None else Some (q, lookup new q)

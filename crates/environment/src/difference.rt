@@ -1,84 +1,77 @@
 //! The difference of two environments.
-ghost use Rattle.std.specs.Prelude.{◌≡◌, ◌++◌, ℕ, List, map, OnOk, IfOk, IfErr, string_bytes};
-ghost use Rattle.std.specs.List.{filter_map};
-ghost use Rattle.std.specs.Option.{option_map, option_to_list};
-ghost use Rattle.std.specs.List.Sorted.{IsStrictlySortedBy};
-ghost use Rattle.std.specs.Cmp.Lexicographic.{slice_cmp};
-ghost use Rattle.std.specs.Ordering.{nat_cmp};
+ghost use Rattle.std.specs.Prelude.{◌≡◌, ◌++◌, not, false, map, filter, IfOk, IfErr};
 ghost use Rattle.environment.specs.Texts.{Text, has, shown};
-ghost use Rattle.environment.specs.Environment.{Environment};
+ghost use Rattle.environment.specs.Environment.{lookup};
 ghost use Rattle.environment.specs.declared.fault.EnvFault.TheVariants.{OutOfMemory};
-ghost use Rattle.environment.specs.Changes.{Edit, AreChanges, applied, edits_in, difference_at};
+ghost use Rattle.environment.specs.Changes.{AreChanges, edit_of, edits_in, same_value};
 
 use crate::change::Change;
 use crate::env::Env;
 use crate::fault::EnvFault;
-use crate::fields::copy;
+use crate::fields::{copy, sorted_once};
+use crate::vars::Vars;
 use std::alloc::{AllocError, Global};
 
-/// Notes the change of one name, if it has one.
-fn note_change(
-    alloc: Global,
-    changes: &mut Vec<Change>,
-    old: &Env,
-    new: &Env,
-    name: &str,
-) -> Result<(), AllocError>
-    ensures { OnOk result (edits_in changes.new ≡ edits_in changes.old ++ option_to_list (difference_at old.now new.now name.now)) }
+/// Whether the variable has another value, or is set in one of the two alone.
+fn differs<V: Vars>(old: &Env, new: &V, name: &str) -> bool
+    ensures { result ≡ not (same_value (lookup old.now name.now) (lookup (V.vars new.now) name.now)) }
 {
-    let before = old.get(name);
-    let after = new.get(name);
-    if before != after {
-        let name = String::from_str(alloc, name)?;
-        let value = copy(alloc, after)?;
-        changes.push(Change { name, value })?;
-    }
-    Ok(())
+    old.get(name) != new.get(name)
 }
 
-/// The changes of the names.
-fn changes_among(
-    alloc: Global,
-    old: &Env,
-    new: &Env,
-    names: &[&str],
-) -> Result<Vec<Change>, AllocError>
-    ensures { IfOk result (λ v. edits_in v ≡ filter_map (difference_at old.now new.now) (shown names.now)) }
+/// Leaves the names whose values differ.
+fn keep_differing<V: Vars>(names: &mut Vec<&str>, old: &Env, new: &V)
+    ensures { shown names.new.items
+        ≡ filter (λ n. not (same_value (lookup old.now n) (lookup (V.vars new.now) n))) (shown names.old.items) }
+{
+    names.retain(|name| differs(old, new, *name));
+}
+
+/// The change of a variable to its value now.
+fn change_to<V: Vars>(alloc: Global, new: &V, name: &str) -> Result<Change, AllocError>
+    ensures { IfOk result (λ c. edit_of c ≡ (name.now, lookup (V.vars new.now) name.now)) }
+{
+    let value = copy(alloc, new.get(name))?;
+    let name = String::from_str(alloc, name)?;
+    Ok(Change { name, value })
+}
+
+/// The change of each variable to its value now.
+fn changes_to<V: Vars>(alloc: Global, new: &V, names: &[&str]) -> Result<Vec<Change>, AllocError>
+    ensures { IfOk result (λ v. edits_in v ≡ map (λ n. (n, lookup (V.vars new.now) n)) (shown names.now)) }
 {
     let mut changes = Vec::new(alloc);
-    let mut rest = names;
-    while let [name, after @ ..] = rest {
-        note_change(alloc, &mut changes, old, new, name)?;
-        rest = after;
+    for name in names {
+        changes.push(change_to(alloc, new, *name)?)?;
     }
     Ok(changes)
 }
 
-/// The names of both, each once, in the order of their bytes.
-fn sorted_once<'a>(mut names: Vec<&'a str>) -> Vec<&'a str>
-    ensures ordered { IsStrictlySortedBy (slice_cmp nat_cmp) (shown result.items) }
-    ensures same { (x : Text) → has x (shown result.items) ≡ has x (shown names.entry.items) }
+/// What differs, where the values of all other names are the same.
+pub(crate) fn changes_among<V: Vars>(
+    alloc: Global,
+    old: &Env,
+    new: &V,
+    names: Vec<&str>,
+) -> Result<Vec<Change>, AllocError>
+    requires { (n : Text) → has n (shown names.items) ≡ false
+        → lookup old.now n ≡ lookup (V.vars new.now) n }
+    ensures { IfOk result (λ v. AreChanges old.now (V.vars new.now) (edits_in v)) }
 {
-    names.sort_unstable();
-    names.dedup();
-    names
+    let mut names = names;
+    keep_differing(&mut names, old, new);
+    let names = sorted_once(names);
+    changes_to(alloc, new, names.as_slice())
 }
 
-/// The names of both environments, each once, in the order of their bytes.
-fn names_of_both<'a>(
-    alloc: Global,
-    old: &'a [String],
-    new: &'a [String],
-) -> Result<Vec<&'a str>, AllocError>
-    ensures { IfOk result (λ v. shown v.items ≡ map string_bytes old.entry.now ++ map string_bytes new.entry.now) }
+/// The names of both environments.
+fn names_of_both<'a>(alloc: Global, old: &'a Env, new: &'a Env) -> Result<Vec<&'a str>, AllocError>
+    ensures { IfOk result (λ v. (n : Text) → has n (shown v.items) ≡ false
+        → lookup old.entry.now n ≡ lookup new.entry.now n) }
 {
-    let mut names = Vec::new(alloc);
-    for name in old {
-        names.push(name.as_str())?;
-    }
-    for name in new {
-        names.push(name.as_str())?;
-    }
+    let mut names = old.names_given(alloc)?;
+    let more = new.names_given(alloc)?;
+    names.extend_from_slice(more.as_slice())?;
     Ok(names)
 }
 
@@ -89,8 +82,6 @@ pub fn changes(alloc: Global, old: &Env, new: &Env) -> Result<Vec<Change>, EnvFa
     ensures ok { IfOk result (λ v. AreChanges old.now new.now (edits_in v)) }
     ensures only { IfErr result (λ e. e ≡ OutOfMemory) }
 {
-    let before = old.names()?;
-    let after = new.names()?;
-    let names = sorted_once(names_of_both(alloc, before.as_slice(), after.as_slice())?);
-    Ok(changes_among(alloc, old, new, names.as_slice())?)
+    let names = names_of_both(alloc, old, new)?;
+    Ok(changes_among(alloc, old, new, names)?)
 }

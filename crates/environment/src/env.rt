@@ -1,20 +1,19 @@
 //! The environment.
-ghost use Rattle.std.specs.Prelude.{◌≡◌, map, string_bytes, OnOk, OnErr, IfOk, IfErr};
+ghost use Rattle.std.specs.Prelude.{◌≡◌, false, None, map, filter, is_some, string_bytes, OnOk, OnErr, IfOk, IfErr};
 ghost use Rattle.std.specs.Option.{option_map};
 ghost use Rattle.std.specs.FinMap as finite;
-ghost use Rattle.std.specs.BTreeMap.{IsOrdered};
-ghost use Rattle.std.specs.String.{string_cmp};
+ghost use Rattle.environment.specs.Texts.{Text, has, shown};
 ghost use Rattle.environment.specs.Environment.{lookup};
 ghost use Rattle.environment.specs.Changes.{applied, edits_in};
-ghost use Rattle.environment.specs.Tables.{names_set};
 ghost use Rattle.environment.specs.declared.fault.EnvFault.TheVariants.{OutOfMemory};
 
 use crate::change::Change;
 use crate::fault::EnvFault;
-use crate::table::{Table, enter, found, make_changes};
+use crate::fields::{copies, sorted_once};
+use crate::table::{Table, enter, found, make_changes, names_of};
 use crate::vars::Vars;
+use indexmap::IndexMap;
 use std::alloc::{AllocError, Global};
-use std::collections::BTreeMap;
 use std::marker::Model;
 
 /// The variables that are set, with their values (environ(7)): a finite map from names to texts.
@@ -43,7 +42,7 @@ impl Env {
         ensures { result ≡ finite.empty }
     {
         Env {
-            vars: BTreeMap::new(alloc),
+            vars: IndexMap::new(alloc),
             alloc,
         }
     }
@@ -78,7 +77,7 @@ impl Env {
     pub fn unset(&mut self, name: &str)
         ensures { self.new ≡ finite.remove self.old name.now }
     {
-        let _ = self.vars.remove(name);
+        let _ = self.vars.swap_remove(name);
     }
 
     /// The same variables and values once more. It is refused for want of memory alone.
@@ -97,7 +96,17 @@ impl Env {
         ensures ok { IfOk result (λ names. map string_bytes names.items ≡ finite.keys self.now) }
         ensures only { IfErr result (λ e. e ≡ OutOfMemory) }
     {
-        Ok(names_of(self.alloc, &self.vars)?)
+        let mut names = self.names_given(self.alloc)?;
+        keep_set(&mut names, self);
+        let names = sorted_once(names);
+        Ok(copies(self.alloc, names.as_slice())?)
+    }
+
+    /// The names that were ever set: every variable that is set is among them.
+    pub(crate) fn names_given(&self, alloc: Global) -> Result<Vec<&str>, AllocError>
+        ensures { IfOk result (λ v. (n : Text) → has n (shown v.items) ≡ false → lookup self.now n ≡ None) }
+    {
+        names_of(alloc, &self.vars)
     }
 }
 
@@ -122,22 +131,14 @@ impl Vars for Env {
     }
 
     fn apply(&mut self, changes: Vec<Change>) -> Result<(), EnvFault> {
-        let nothing = Env::new(self.alloc);
-        make_changes(self.alloc, &mut self.vars, &nothing, changes)?;
+        make_changes(&mut self.vars, changes)?;
         Ok(())
     }
 }
 
-/// The names of a table that have a value, copied.
-fn names_of(alloc: Global, vars: &Table) -> Result<Vec<String>, AllocError>
-    ensures copied { IfOk result (λ names. map string_bytes names.items ≡ names_set vars.now.entries) }
-    ensures ordered { IsOrdered string_cmp vars.now }
+/// Leaves the names that are set.
+fn keep_set(names: &mut Vec<&str>, env: &Env)
+    ensures { shown names.new.items ≡ filter (λ n. is_some (lookup env.now n)) (shown names.old.items) }
 {
-    let mut names = Vec::new(alloc);
-    for (name, value) in vars {
-        if value.is_some() {
-            names.push(name.clone()?)?;
-        }
-    }
-    Ok(names)
+    names.retain(|name| env.get(*name).is_some());
 }

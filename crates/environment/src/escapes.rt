@@ -115,7 +115,11 @@ fn push_char(text: &mut String, c: char) -> Result<(), AllocError>
 fn has_special(text: &str) -> bool
     ensures { result ≡ list_any is_special text.now }
 {
-    text.as_bytes().iter().any(|b| *b == b'\\' || *b == b':')
+    let mut found = false;
+    for b in text.as_bytes() {
+        found |= *b == b'\\' || *b == b':';
+    }
+    found
 }
 
 /// Puts a field, or a part of one, at the end, with its escapes.

@@ -1,8 +1,11 @@
 //! Texts made of fields: parted, joined, each once.
 ghost use Rattle.std.specs.Prelude.{◌≡◌, ◌==◌, ◌<◌, map, IfOk, string_bytes};
 ghost use Rattle.std.specs.List.{slice_split, join_with_byte};
+ghost use Rattle.std.specs.List.Sorted.{IsStrictlySortedBy};
+ghost use Rattle.std.specs.Cmp.Lexicographic.{slice_cmp};
+ghost use Rattle.std.specs.Ordering.{nat_cmp};
 ghost use Rattle.std.specs.Option.{option_map};
-ghost use Rattle.environment.specs.Texts.{shown, texts_in};
+ghost use Rattle.environment.specs.Texts.{Text, has, shown, texts_in};
 ghost use Rattle.environment.specs.Fields.{elements_in, text_of, firsts, are_distinct};
 
 use indexmap::IndexSet;
@@ -71,6 +74,16 @@ pub fn once<'a>(alloc: Global, texts: &[&'a str]) -> Result<Vec<&'a str>, AllocE
         rest = after;
     }
     done.into_iter().collect(alloc)
+}
+
+/// The texts, each once, in the order of their bytes.
+pub(crate) fn sorted_once<'a>(mut texts: Vec<&'a str>) -> Vec<&'a str>
+    ensures ordered { IsStrictlySortedBy (slice_cmp nat_cmp) (shown result.items) }
+    ensures same { (x : Text) → has x (shown result.items) ≡ has x (shown texts.entry.items) }
+{
+    texts.sort_unstable();
+    texts.dedup();
+    texts
 }
 
 /// Whether no text stands twice.

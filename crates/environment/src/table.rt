@@ -1,19 +1,19 @@
 //! Tables of names, each with the value that it was given, or none where it was unset.
-ghost use Rattle.std.specs.Prelude.{◌≡◌, List, map, Some, None, OnOk, OnErr, true, string_bytes, bytes_eq, is_some, if◌then◌else◌};
-ghost use Rattle.std.specs.Option.{option_map, option_or};
-ghost use Rattle.environment.specs.Texts.{Text};
+ghost use Rattle.std.specs.Prelude.{◌≡◌, ◌+◌, ◌<◌, ◌≤◌, ◌++◌, map, Some, OnOk, OnErr, IfOk, string_bytes, bytes_eq, vec_len, if◌then◌else◌};
+ghost use Rattle.std.specs.Option.{option_map};
+ghost use Rattle.indexmap.specs.IndexMap.{spare};
+ghost use Rattle.environment.specs.Texts.{Text, shown};
 ghost use Rattle.environment.specs.Environment.{Environment};
-ghost use Rattle.environment.specs.Changes.{applied, edit_of, edits_in};
-ghost use Rattle.environment.specs.Tables.{slot, are_noted, written_over};
+ghost use Rattle.environment.specs.Changes.{applied, edits_in};
+ghost use Rattle.environment.specs.Tables.{slot, names_of, written_over};
 
 use crate::change::Change;
-use crate::env::Env;
 use crate::fields::copy;
+use indexmap::IndexMap;
 use std::alloc::{AllocError, Global};
-use std::collections::BTreeMap;
 
 /// Names, each with the value that it was given, or none where it was unset.
-pub(crate) type Table = BTreeMap<String, Option<String>>;
+pub(crate) type Table = IndexMap<String, Option<String>>;
 
 /// What the table has for a name, if it has the name.
 pub(crate) fn found<'a>(table: &'a Table, name: &str) -> Option<Option<&'a str>>
@@ -26,6 +26,17 @@ pub(crate) fn found<'a>(table: &'a Table, name: &str) -> Option<Option<&'a str>>
     }
 }
 
+/// The names that the table has.
+pub(crate) fn names_of(alloc: Global, table: &Table) -> Result<Vec<&str>, AllocError>
+    ensures { IfOk result (λ v. shown v.items ≡ names_of table.now.entries) }
+{
+    let mut names = Vec::new(alloc);
+    for (name, _) in table {
+        names.push(name.as_str())?;
+    }
+    Ok(names)
+}
+
 /// Gives a name a value, or none.
 pub(crate) fn enter(
     alloc: Global,
@@ -33,7 +44,8 @@ pub(crate) fn enter(
     name: &str,
     value: Option<&str>,
 ) -> Result<(), AllocError>
-    ensures ok { OnOk result ((x : Text) → slot table.new x ≡ (if bytes_eq x name.now then Some (option_map (λ t. t.now) value.entry) else slot table.old x)) }
+    ensures ok { OnOk result ((x : Text) → slot table.new x
+        ≡ (if bytes_eq x name.now then Some (option_map (λ t. t.now) value.entry) else slot table.old x)) }
     ensures err { OnErr result ((x : Text) → slot table.new x ≡ slot table.old x) }
 {
     let key = String::from_str(alloc, name)?;
@@ -42,66 +54,35 @@ pub(crate) fn enter(
     Ok(())
 }
 
-/// Gives a name this value, unless the table has the name.
-fn note(alloc: Global, table: &mut Table, name: &str, value: Option<&str>) -> Result<(), AllocError>
-    ensures ok { OnOk result ((x : Text) → slot table.new x ≡ option_or (slot table.old x) (if bytes_eq x name.now then Some (option_map (λ t. t.now) value.entry) else None)) }
-    ensures err { OnErr result ((x : Text) → slot table.new x ≡ slot table.old x) }
+/// Makes a change, for which the table has room.
+fn write(table: &mut Table, name: String, value: Option<String>)
+    requires { 0 < spare table.old }
+    ensures written { (x : Text) → slot table.new x
+        ≡ (if bytes_eq x (string_bytes name) then Some (option_map string_bytes value) else slot table.old x) }
+    ensures room { spare table.old ≤ spare table.new + 1 }
 {
-    if table.contains_key(name) {
-        return Ok(());
-    }
-    enter(alloc, table, name, value)
+    let _ = table.insert(name, value);
 }
 
-/// Gives each name that is changed the value that it has, so that what the table says stays the same.
-fn note_all(
-    alloc: Global,
-    table: &mut Table,
-    under: &Env,
-    changes: &[Change],
-) -> Result<(), AllocError>
-    ensures same { written_over under.now table.new.entries ≡ written_over under.now table.old.entries }
-    ensures noted { OnOk result (are_noted table.new (map edit_of changes.now) ≡ true) }
-{
-    for change in changes {
-        let name = change.name.as_str();
-        note(alloc, table, name, under.get(name))?;
-    }
-    Ok(())
-}
-
-/// Gives a name of the table another value, which takes no memory.
-fn write(table: &mut Table, name: &str, value: Option<String>)
-    requires { is_some (slot table.old name.now) ≡ true }
-    ensures { (x : Text) → slot table.new x ≡ (if bytes_eq x name.now then Some (option_map string_bytes value) else slot table.old x) }
-{
-    if let Some(slot) = table.get_mut(name) {
-        *slot = value;
-    }
-}
-
-/// Makes changes of names of the table, which takes no memory.
+/// Makes changes, from the first to the last, for which the table has room.
 fn write_all(table: &mut Table, changes: Vec<Change>)
-    requires { are_noted table.old (edits_in changes) ≡ true }
-    ensures { (under : Environment) → written_over under table.new.entries ≡ applied (edits_in changes) (written_over under table.old.entries) }
+    requires { vec_len changes ≤ spare table.old }
+    ensures { (under : Environment) → written_over under table.new.entries
+        ≡ applied (edits_in changes) (written_over under table.old.entries) }
 {
     for change in changes {
         let Change { name, value } = change;
-        write(table, name.as_str(), value);
+        write(table, name, value);
     }
 }
 
 /// Makes all the changes, from the first to the last, or none of them.
-pub(crate) fn make_changes(
-    alloc: Global,
-    table: &mut Table,
-    under: &Env,
-    changes: Vec<Change>,
-) -> Result<(), AllocError>
-    ensures ok { OnOk result (written_over under.now table.new.entries ≡ applied (edits_in changes) (written_over under.now table.old.entries)) }
-    ensures err { OnErr result (written_over under.now table.new.entries ≡ written_over under.now table.old.entries) }
+pub(crate) fn make_changes(table: &mut Table, changes: Vec<Change>) -> Result<(), AllocError>
+    ensures ok { OnOk result ((under : Environment) → written_over under table.new.entries
+        ≡ applied (edits_in changes) (written_over under table.old.entries)) }
+    ensures err { OnErr result (table.new.entries ≡ table.old.entries) }
 {
-    note_all(alloc, table, under, changes.as_slice())?;
+    table.reserve(changes.len())?;
     write_all(table, changes);
     Ok(())
 }

@@ -1,16 +1,15 @@
 //! A working environment: changes over an environment that stays as it is.
-ghost use Rattle.std.specs.Prelude.{◌≡◌, ◌++◌, [], ◌∷◌, OnOk, IfOk, IfErr};
+ghost use Rattle.std.specs.Prelude.{◌≡◌, IfOk, IfErr};
 ghost use Rattle.environment.specs.Changes.{AreChanges, edits_in};
-ghost use Rattle.environment.specs.Tables.{differing, written_over};
 ghost use Rattle.environment.specs.declared.fault.EnvFault.TheVariants.{OutOfMemory};
 
 use crate::change::Change;
+use crate::difference::changes_among;
 use crate::env::Env;
 use crate::fault::EnvFault;
-use crate::table::{Table, enter, found, make_changes};
+use crate::table::{Table, enter, found, make_changes, names_of};
 use crate::vars::Vars;
-use std::alloc::AllocError;
-use std::collections::BTreeMap;
+use indexmap::IndexMap;
 use std::marker::Model;
 
 /// Changes over an environment that stays as it is. An edit costs what it touches, whatever else is set.
@@ -40,7 +39,7 @@ impl<'a> Working<'a> {
     {
         Working {
             old,
-            touched: BTreeMap::new(old.alloc()),
+            touched: IndexMap::new(old.alloc()),
         }
     }
 
@@ -50,8 +49,9 @@ impl<'a> Working<'a> {
         ensures ok { IfOk result (λ v. AreChanges self.entry.old self.entry.new (edits_in v)) }
         ensures only { IfErr result (λ e. e ≡ OutOfMemory) }
     {
-        let Working { old, touched } = self;
-        Ok(differing(old, touched)?)
+        let alloc = self.old.alloc();
+        let names = names_of(alloc, &self.touched)?;
+        Ok(changes_among(alloc, self.old, &self, names)?)
     }
 }
 
@@ -78,33 +78,7 @@ impl<'a> Vars for Working<'a> {
     }
 
     fn apply(&mut self, changes: Vec<Change>) -> Result<(), EnvFault> {
-        make_changes(self.old.alloc(), &mut self.touched, self.old, changes)?;
+        make_changes(&mut self.touched, changes)?;
         Ok(())
     }
-}
-
-/// Puts the change of a name at the end, if its value isn't the old one.
-fn push_change(
-    changes: &mut Vec<Change>,
-    old: &Env,
-    name: String,
-    value: Option<String>,
-) -> Result<(), AllocError>
-    ensures { OnOk result (edits_in changes.new ≡ edits_in changes.old ++ differing old.now ((name, value) ∷ [])) }
-{
-    if old.get(name.as_str()) != value.as_deref() {
-        changes.push(Change { name, value })?;
-    }
-    Ok(())
-}
-
-/// The changes of the names whose values aren't the old ones.
-fn differing(old: &Env, touched: Table) -> Result<Vec<Change>, AllocError>
-    ensures { IfOk result (λ v. AreChanges old.now (written_over old.now touched.entries) (edits_in v)) }
-{
-    let mut changes = Vec::new(old.alloc());
-    for (name, value) in touched {
-        push_change(&mut changes, old, name, value)?;
-    }
-    Ok(changes)
 }

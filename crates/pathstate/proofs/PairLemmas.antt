@@ -1,7 +1,6 @@
 -- The texts of a path variable.
-use Rattle.std.proofs.Common.{◌≡◌, ℕ, ◌-◌, ◌<◌, ◌≤◌, Bool, true, false, cond, not, ◌||◌, ◌&&◌, ◌≢◌, eqb, suc, List, [], ◌∷◌, refl, sym, ap, ◌∙◌, arith, Option, Some, None, Bor, take, get_or, take_all}
-use Rattle.std.specs.Prelude.{bytes_eq, if◌then◌else◌}
-use Rattle.std.specs.Option.{option_or, option_copied, is_some}
+use Rattle.std.proofs.Common.{◌≡◌, ℕ, ◌<◌, ◌≤◌, Bool, true, false, cond, ◌||◌, ◌&&◌, ◌≢◌, eqb, suc, List, [], ◌∷◌, refl, sym, ap, arith, Option, Some, None, get_or}
+use Rattle.std.specs.Option.{option_or}
 use Rattle.std.specs.List.{onto_first}
 use Rattle.std.specs.Bool.{MatchBool}
 use Rattle.std.specs.Str.Pattern.{FindsChar}
@@ -11,16 +10,7 @@ use Rattle.std.proofs.lemmas.Str.Pattern.{contains_char}
 use Rattle.environment.specs.Fields.{fields}
 use Rattle.environment.specs.Escapes.{is_special, unescaped_fields}
 use Rattle.std.proofs.Math.ListN.{length}
-use Rattle.std.proofs.Common.{drop as cut}
-use Rattle.std.specs.HashMap.{UpdatesBy}
-use Rattle.std.proofs.lemmas.Map.Text.{hash_map_updates_str}
-use Rattle.indexmap.specs.IndexMap.{IndexMap}
 use Rattle.environment.specs.Texts.{Text}
-use Rattle.pathstate.specs.Counters.{counter_of}
-use Rattle.pathstate.specs.PathTexts.{counted, paired}
-use Rattle.pathstate.specs.Tables.{counter_in}
-use Rattle.environment.specs.Texts.{shown}
-use Rattle.environment.proofs.TextLemmas.{same_text, bytes_eq-symmetric}
 
 pub or_assoc : {A : Type 0} (a b c : Option A) → option_or (option_or a b) c ≡ option_or a (option_or b c)
 or_assoc (Some x) b c = refl

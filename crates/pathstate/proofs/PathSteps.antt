@@ -22,7 +22,7 @@ use Rattle.pathstate.specs.PathVariables.{counters_fit}
 use Rattle.pathstate.specs.PathEdits.{IsFull}
 use Rattle.environment.specs.Reasons.{EnvReason, reason_of, counter_full}
 use Rattle.environment.specs.declared.fault.EnvFault.{EnvFault}
-use Rattle.pathstate.specs.Tables.{Table, counter_in, count_in, one_each, noted_over, stated, IsTable, raised, lowered, with_other, kept}
+use Rattle.pathstate.specs.Tables.{Table, counter_in, count_in, one_each, noted_over, stated, IsTable, HaveSame, raised, lowered, with_other, kept}
 use Rattle.pathstate.specs.declared.paths.End.{End}
 use Rattle.pathstate.specs.declared.paths.End.TheVariants.{Front, Back}
 use Rattle.environment.proofs.TextLemmas.{same_text, bytes_eq-same, bytes_eq-symmetric}
@@ -472,13 +472,24 @@ filter_every p (x ∷ xs) h =
 pub kept_all : (xs : List Text) (table : Table) → IsTable xs table → kept xs table ≡ xs
 kept_all xs table h = filter_every (λ x. is_some (table x)) xs (λ y e. h y ∙ e)
 
-shown_cond : (b : Bool) (z : Bor Text) (zs : List (Bor Text)) → shown (cond b (z ∷ zs) zs) ≡ cond b (z.now ∷ shown zs) (shown zs)
-shown_cond true z zs = refl
-shown_cond false z zs = refl
+-- every element has kept its counter, or was taken out
+pub taken_out : (xs ys less : List Text) (m n : Table) → IsTable xs m → ((zs : List Text) → stated (kept zs n) n ≡ drop_all (stated (kept zs m) m) less) → ys ≡ kept xs n
+    → stated ys n ≡ drop_all (stated xs m) less
+taken_out xs ys less m n t h k = ap (λ (l : List Text). stated l n) k ∙ h xs ∙ ap (λ (l : List Text). drop_all (stated l m) less) (kept_all xs m t)
 
-pub shown-filter : (p : Text → Bool) (xs : List (Bor Text)) → shown (filter (λ y. p y.now) xs) ≡ filter p (shown xs)
-shown-filter p [] = refl
-shown-filter p (z ∷ zs) = shown_cond (p z.now) z _ ∙ ap (λ (l : List Text). cond (p z.now) (z.now ∷ l) l) (shown-filter p zs)
+pub kept_where_same : (xs : List Text) (m n : Table) → IsTable xs m → HaveSame m n → xs ≡ kept xs n
+kept_where_same xs m n t h = sym (kept_all xs n (λ x. h x ∙ t x))
+
+lowered_at : (b : Bool) (o w : Option ℕ) (k : ℕ) → k ≡ unwrap_or o 0 → 1 < k → (b ≡ true → w ≡ o) → is_some (cond b (if leb (unwrap_or o 0) 1 then None else Some (unwrap_or o 0 - 1)) w) ≡ is_some w
+lowered_at false o w k e l h = refl
+lowered_at true None w k e l h = absurd (omega arith)
+lowered_at true (Some c) w k e l h =
+    let more : leb c 1 ≡ false = grind (arith, nat_tests) in
+    rw (h refl, more) refl
+
+-- a counter that is two or more stays one
+pub lowered_same : (m n : Table) (x : Text) (k : ℕ) → k ≡ count_in m x → 1 < k → ((y : Text) → n y ≡ lowered m x y) → HaveSame m n
+lowered_same m n x k e l h y = ap is_some (h y) ∙ lowered_at (bytes_eq y x) (m x) (m y) k e l (λ b. ap m (same_text y x b))
 
 pub small_read : (xs : List Text) (table : Table) (delim : ℕ) (t : Option Text) (ps : List (Text × Text)) → stated xs table ≡ state_beside delim t ps → (x : Text) → count_in table x ≤ most
 small_read xs table delim t ps e x = subst (λ (s : PathState). s.counter x ≤ most) (sym e) ((IsWritable-state_beside delim t ps).fit x)

@@ -1,5 +1,5 @@
 -- The text of the counters as it is written.
-use Rattle.std.proofs.Common.{◌≡◌, ℕ, ◌-◌, ◌≤◌, Bool, true, false, cond, not, ◌||◌, List, [], ◌∷◌, ◌++◌, refl, sym, ap, ◌∙◌, arith, leb, Option, Some, None, Result, Ok, Err, Bor, take, get_or, append_assoc, take_all, string_bytes}
+use Rattle.std.proofs.Common.{◌≡◌, ◌≢◌, ℕ, ◌-◌, ◌≤◌, Bool, true, false, cond, not, ◌||◌, List, [], ◌∷◌, ◌++◌, refl, sym, ap, ◌∙◌, arith, leb, Option, Some, None, Result, Ok, Err, Bor, take, get_or, append_assoc, take_all, string_bytes}
 use Rattle.std.proofs.Common.{drop as cut}
 use Rattle.std.specs.Prelude.{filter, flat_map, bytes_eq, unwrap_or, decimal, encode_utf8, if◌then◌else◌}
 use Rattle.std.specs.Option.{option_map}
@@ -16,7 +16,7 @@ use Rattle.environment.specs.Texts.{Text, shown}
 use Rattle.environment.specs.Fields.{joined, text_of, without, firsts}
 use Rattle.environment.specs.Escapes.{escaped}
 use Rattle.pathstate.specs.PathTexts.{is_lone_empty, counter_fields, pairs_text}
-use Rattle.pathstate.specs.Tables.{Table, counter_in, count_in, stated, pair_fields}
+use Rattle.pathstate.specs.Tables.{Table, counter_in, count_in, stated, pair_fields, parted_from, unless_empty}
 use Rattle.pathstate.proofs.PairLemmas.{or_left, or_right}
 
 -- a field behind others
@@ -24,13 +24,6 @@ use Rattle.pathstate.proofs.PairLemmas.{or_left, or_right}
 joined-push : (f : Text) (fs : List Text) (x : Text) → joined (f ∷ (fs ++ x ∷ [])) ≡ joined (f ∷ fs) ++ 58 ∷ x
 joined-push f [] x = refl
 joined-push f (g ∷ gs) x = ap (λ (l : Text). f ++ 58 ∷ l) (joined-push g gs x) ∙ sym (append_assoc f (58 ∷ joined (g ∷ gs)) (58 ∷ x))
-
-pub text-opened : (t text : Text) (fs : List Text) (x : Text) → Some text ≡ text_of fs → t ≡ text ++ encode_utf8 58 → Some (t ++ x) ≡ text_of (fs ++ x ∷ [])
-text-opened t text [] x e h = cc
-text-opened t text (f ∷ fs) x e h =
-    let same : text ≡ joined (f ∷ fs) = cc in
-    let one : t ≡ text ++ 58 ∷ [] = h ∙ ap (λ (l : Text). text ++ l) (encode_ascii 58 (omega arith)) in
-    ap (λ (l : Text). Some (l ++ x)) one ∙ ap Some (append_assoc text (58 ∷ []) x ∙ ap (λ (l : Text). l ++ 58 ∷ x) same ∙ sym (joined-push f fs x))
 
 two_fields : (f : Text) (fs : List Text) (x d : Text) → joined (f ∷ (fs ++ (x ++ 58 ∷ d) ∷ [])) ≡ joined (f ∷ (fs ++ x ∷ d ∷ []))
 two_fields f [] x d = refl
@@ -40,13 +33,31 @@ two : (fs : List Text) (x d : Text) → text_of (fs ++ (x ++ 58 ∷ d) ∷ []) �
 two [] x d = refl
 two (f ∷ fs) x d = ap Some (two_fields f fs x d)
 
+filled : (x y : Text) → unless_empty (x ++ 58 ∷ y) ≡ Some (x ++ 58 ∷ y)
+filled [] y = refl
+filled (b ∷ bs) y = refl
+
+pushed_behind : (old new x d : Text) (fs : List Text) → unless_empty old ≡ text_of fs → new ≡ parted_from old ++ (x ++ 58 ∷ d) → unless_empty new ≡ text_of (fs ++ x ∷ d ∷ [])
+pushed_behind [] new x d [] e h = ap unless_empty h ∙ filled x d
+pushed_behind [] new x d (f ∷ fs) e h = cc
+pushed_behind (b ∷ bs) new x d [] e h = cc
+pushed_behind (b ∷ bs) new x d (f ∷ fs) e h =
+    let same : b ∷ bs ≡ joined (f ∷ fs) = cc in
+    ap unless_empty (h ∙ append_assoc (b ∷ bs) (58 ∷ []) (x ++ 58 ∷ d)) ∙ filled (b ∷ bs) (x ++ 58 ∷ d)
+    ∙ ap (λ (l : Text). Some (l ++ 58 ∷ (x ++ 58 ∷ d))) same ∙ ap Some (sym (joined-push f fs (x ++ 58 ∷ d))) ∙ two (f ∷ fs) x d
+
 -- the pair of an element behind others, where its counter is written
-pub text-counted : (t old element : Text) (fs : List Text) (count : ℕ) → 2 ≤ count → t ≡ old ++ (escaped element ++ 58 ∷ decimal count)
-    → ((x : Text) → Some (old ++ x) ≡ text_of (fs ++ x ∷ [])) → Some t ≡ text_of (fs ++ pair_fields (λ x. count) element)
-text-counted t old element fs count l e h =
+pub pair-pushed : (old parted new element : Text) (fs : List Text) (count : ℕ) → 2 ≤ count → parted ≡ parted_from old → new ≡ parted ++ (escaped element ++ 58 ∷ decimal count) → unless_empty old ≡ text_of fs
+    → unless_empty new ≡ text_of (fs ++ pair_fields (λ x. count) element)
+pair-pushed old parted new element fs count l p h e =
     let b : leb 2 count ≡ true = grind (arith, nat_tests) in
-    ap Some e ∙ h (escaped element ++ 58 ∷ decimal count) ∙ two fs (escaped element) (decimal count)
+    pushed_behind old new (escaped element) (decimal count) fs e (h ∙ ap (λ (t : Text). t ++ (escaped element ++ 58 ∷ decimal count)) p)
     ∙ ap (λ (c : Bool). text_of (fs ++ cond c (escaped element ∷ decimal count ∷ []) [])) (sym b)
+
+-- a text behind which a field is put
+pub parted-text : (text : Text) → length text ≢ 0 → text ++ encode_utf8 58 ≡ parted_from text
+parted-text [] h = absurd (h refl)
+parted-text (b ∷ bs) h = ap (λ (l : Text). (b ∷ bs) ++ l) (encode_ascii 58 (omega arith))
 
 -- one element after another
 

@@ -3,6 +3,7 @@ use Rattle.std.specs.Prelude.{◌≡◌, ℕ, ◌+◌, ◌-◌, List, [], ◌∷
 use Rattle.std.specs.Borrow.{Bor}
 use Rattle.indexmap.specs.IndexMap.{IndexMap, get_by}
 use Rattle.environment.specs.Texts.{Text, has}
+use Rattle.environment.specs.Fields.{colon}
 use Rattle.environment.specs.Escapes.{escaped}
 use Rattle.std.specs.Option.{option_map}
 use Rattle.pathstate.specs.Paths.{PathState}
@@ -36,6 +37,10 @@ stated xs table = record { elements = xs; counter = λ x. count_in table x }
 abbrev pub IsTable : List Text → Table → Type 0
 IsTable xs table = (x : Text) → is_some (table x) ≡ has x xs
 
+-- two tables have counters of the same elements
+abbrev pub HaveSame : Table → Table → Type 0
+HaveSame old new = (x : Text) → is_some (new x) ≡ is_some (old x)
+
 -- one more of x
 abbrev pub raised : Table → Text → Table
 raised table x y = if bytes_eq y x then Some (count_in table x + 1) else table y
@@ -56,3 +61,13 @@ kept xs table = filter (λ x. is_some (table x)) xs
 -- the pair of one element, where its counter is two or more
 abbrev pub pair_fields : (Text → ℕ) → Text → List Text
 pair_fields count x = if nat_le 2 (count x) then escaped x ∷ decimal (count x) ∷ [] else []
+
+-- a text that a further field can be put behind
+abbrev pub parted_from : Text → Text
+parted_from [] = []
+parted_from (b ∷ bs) = b ∷ bs ++ colon ∷ []
+
+-- a text, or none where it is empty
+abbrev pub unless_empty : Text → Option Text
+unless_empty [] = None
+unless_empty (b ∷ bs) = Some (b ∷ bs)

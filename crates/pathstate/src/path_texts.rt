@@ -8,7 +8,7 @@ ghost use Rattle.environment.specs.Fields.{text_of, firsts};
 ghost use Rattle.environment.specs.Escapes.{escaped};
 ghost use Rattle.pathstate.specs.Paths.{most};
 ghost use Rattle.pathstate.specs.Counters.{counter_of};
-ghost use Rattle.pathstate.specs.Tables.{counter_in, count_in, noted_over, one_each, stated, IsTable, pair_fields};
+ghost use Rattle.pathstate.specs.Tables.{counter_in, count_in, noted_over, one_each, stated, IsTable, pair_fields, parted_from, unless_empty};
 ghost use Rattle.pathstate.specs.PathEdits.{AreTexts};
 ghost use Rattle.pathstate.specs.PathTexts.{counted, paired, elements_text, pairs_text, is_lone_empty, elements_of, state_beside, state_of};
 
@@ -145,16 +145,17 @@ pub(crate) fn read_path<'a>(
     path_of(alloc, delim, text, fields.as_slice())
 }
 
-/// The text that a further field can be put behind.
-fn opened(alloc: Global, text: Option<String>) -> Result<String, AllocError>
-    ensures { IfOk result (λ t. (fs : List Text) (x : Text) → option_map string_bytes text ≡ text_of fs
-        → Some (string_bytes t ++ x) ≡ text_of (fs ++ x ∷ [])) }
+/// The least counter that is written.
+const WRITTEN: u32 = 2;
+
+/// Puts a colon behind what a text has.
+fn part_fields(text: &mut String) -> Result<(), AllocError>
+    ensures { OnOk result (string_bytes text.new ≡ parted_from (string_bytes text.old)) }
 {
-    let Some(mut text) = text else {
-        return Ok(String::new(alloc));
-    };
-    text.push(':')?;
-    Ok(text)
+    if text.is_empty() {
+        return Ok(());
+    }
+    text.push(':')
 }
 
 /// Puts an element, with escapes, and its counter at the end of a text.
@@ -167,22 +168,26 @@ fn push_pair(text: &mut String, element: &str, count: u32) -> Result<(), AllocEr
     text.push_str(Buffer::new().format(count))
 }
 
-/// The text with the pair of an element at its end, where its counter is two or more.
-fn with_count(
-    alloc: Global,
-    text: Option<String>,
-    element: &str,
-    count: u32,
-) -> Result<Option<String>, AllocError>
-    ensures { IfOk result (λ t. (fs : List Text) → option_map string_bytes text ≡ text_of fs
-        → option_map string_bytes t ≡ text_of (fs ++ pair_fields (λ x. count) element.now)) }
+/// Puts the pair of an element behind those of a text, where its counter is two or more.
+fn push_count(text: &mut String, element: &str, count: u32) -> Result<(), AllocError>
+    ensures { OnOk result ((fs : List Text) → unless_empty (string_bytes text.old) ≡ text_of fs
+        → unless_empty (string_bytes text.new) ≡ text_of (fs ++ pair_fields (λ x. count) element.now)) }
 {
-    if count < 2 {
-        return Ok(text);
+    if count < WRITTEN {
+        return Ok(());
     }
-    let mut text = opened(alloc, text)?;
-    push_pair(&mut text, element, count)?;
-    Ok(Some(text))
+    part_fields(text)?;
+    push_pair(text, element, count)
+}
+
+/// The text, unless it is empty.
+fn unless_empty(text: String) -> Option<String>
+    ensures { option_map string_bytes result ≡ unless_empty (string_bytes text) }
+{
+    if text.is_empty() {
+        return None;
+    }
+    Some(text)
 }
 
 /// The text of the counters of two or more. An element that stands twice is written at its first place.
@@ -194,14 +199,14 @@ fn counts_text<'a>(
     ensures { IfOk result (λ t. option_map string_bytes t
         ≡ text_of (flat_map (pair_fields (count_in (counter_in counters.entry))) (firsts (shown elements.now)))) }
 {
-    let mut text = None;
+    let mut text = String::new(alloc);
     let mut rest = elements;
     while let [element, after @ ..] = rest {
         let count = counters.insert(*element, 1)?.unwrap_or(0);
-        text = with_count(alloc, text, element, count)?;
+        push_count(&mut text, element, count)?;
         rest = after;
     }
-    Ok(text)
+    Ok(unless_empty(text))
 }
 
 /// The text of the counter of an empty element alone.

@@ -9,7 +9,7 @@ ghost use Rattle.environment.specs.Names.{share_name};
 ghost use Rattle.environment.specs.declared.fault.EnvFault.TheVariants.{OutOfMemory};
 ghost use Rattle.pathstate.specs.Paths.{most, add_all, add_front, add_back, drop_all};
 ghost use Rattle.pathstate.specs.PathTexts.{is_delimiter, state_of};
-ghost use Rattle.pathstate.specs.Tables.{counter_in, count_in, stated, IsTable, raised, lowered, with_other, kept};
+ghost use Rattle.pathstate.specs.Tables.{counter_in, count_in, stated, IsTable, HaveSame, raised, lowered, with_other, kept};
 ghost use Rattle.pathstate.specs.PathVariables.{is_element, path_reason, added_path, dropped_path};
 ghost use Rattle.pathstate.specs.PathEdits.{AreTexts, IsFull, IsWrittenOr};
 
@@ -233,30 +233,35 @@ pub fn add_path<V: Vars>(
     write_both(alloc, env, var, share, texts)
 }
 
-/// Counts an element once less, and takes it out of the counters at 0.
-fn drop_one(counters: &mut Counters<'_>, element: &str)
-    ensures { (x : Text) → counter_in counters.new x ≡ lowered (counter_in counters.old) element.now x }
+/// Counts an element once less, and takes it out of the counters at 0. The answer is whether one may have left them.
+fn drop_one(counters: &mut Counters<'_>, element: &str) -> bool
+    ensures lowered { (x : Text) → counter_in counters.new x ≡ lowered (counter_in counters.old) element.now x }
+    ensures left { result ≡ false → HaveSame (counter_in counters.old) (counter_in counters.new) }
 {
     let count = counters.get(element).copied().unwrap_or(0);
     if count <= LAST {
         let _ = counters.swap_remove(element);
-        return;
+        return true;
     }
     if let Some(slot) = counters.get_mut(element) {
         *slot = count - 1;
     }
+    false
 }
 
-/// Counts elements once less, from the first to the last.
-fn drop_each(counters: &mut Counters<'_>, less: &[&str])
-    ensures { (xs : List Text) → stated (kept xs (counter_in counters.new)) (counter_in counters.new)
+/// Counts elements once less, from the first to the last. The answer is whether one may have left the counters.
+fn drop_each(counters: &mut Counters<'_>, less: &[&str]) -> bool
+    ensures dropped { (xs : List Text) → stated (kept xs (counter_in counters.new)) (counter_in counters.new)
         ≡ drop_all (stated (kept xs (counter_in counters.old)) (counter_in counters.old)) (shown less.now) }
+    ensures left { result ≡ false → HaveSame (counter_in counters.old) (counter_in counters.new) }
 {
+    let mut left = false;
     let mut rest = less;
     while let [element, after @ ..] = rest {
-        drop_one(counters, element);
+        left |= drop_one(counters, element);
         rest = after;
     }
+    left
 }
 
 /// Leaves the elements that have a counter.
@@ -264,6 +269,17 @@ fn keep_counted(elements: &mut Vec<&str>, counters: &Counters<'_>)
     ensures { shown elements.new.items ≡ kept (shown elements.old.items) (counter_in counters.now) }
 {
     elements.retain(|element| counters.contains_key(*element));
+}
+
+/// Takes elements out of a path variable that was read.
+fn take_out(elements: &mut Vec<&str>, counters: &mut Counters<'_>, less: &[&str])
+    requires { IsTable (shown elements.old.items) (counter_in counters.old) }
+    ensures { stated (shown elements.new.items) (counter_in counters.new)
+        ≡ drop_all (stated (shown elements.old.items) (counter_in counters.old)) (shown less.now) }
+{
+    if drop_each(counters, less) {
+        keep_counted(elements, counters);
+    }
 }
 
 /// The texts after elements were dropped.
@@ -282,8 +298,7 @@ fn dropped(
         mut elements,
         mut counters,
     } = read_path(alloc, delim, text, counts)?;
-    drop_each(&mut counters, less);
-    keep_counted(&mut elements, &counters);
+    take_out(&mut elements, &mut counters, less);
     write_path(alloc, delim, Path { elements, counters })
 }
 

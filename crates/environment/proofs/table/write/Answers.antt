@@ -1,6 +1,6 @@
-use Rattle.std.proofs.Common.{Some, rules}
-use Rattle.environment.proofs.TableLemmas.{slot-updated}
+use Rattle.std.proofs.Common.{Some, string_bytes}
+use Rattle.environment.proofs.TableLemmas.{ok_then, slot-updated}
 use Rattle.environment.proofs.table.write.Goals as goal
 
-pub returns-in-Some : goal.returns-in-Some
-returns-in-Some c = λ x. slot-updated c.args.table.now (c.get_mut.follows.lender c.args.value) c.args.name.now (Some c.args.value) ((c.get_mut.follows.holds c.args.value).3 (search rules)) x
+pub returns-clause-written : goal.returns-clause-written
+returns-clause-written c = slot-updated c.args.table.now c.insert.new.self (string_bytes c.args.name) (Some c.args.value) (ok_then c.insert.result (c.insert.ensures.succeeds c.requires) c.insert.ensures.updates)

@@ -3,7 +3,7 @@ use Rattle.std.specs.Prelude.{is_some}
 use Rattle.std.proofs.lemmas.Fn.{filter_same}
 use Rattle.environment.specs.Texts.{shown}
 use Rattle.pathstate.specs.Tables.{counter_in}
-use Rattle.pathstate.proofs.PathSteps.{shown-filter}
+use Rattle.environment.proofs.TextLemmas.{shown-filter}
 use Rattle.pathstate.proofs.paths.keep_counted.Goals as goal
 
 pub returns : goal.returns
