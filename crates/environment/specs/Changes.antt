@@ -26,10 +26,14 @@ abbrev pub edit_at : List Edit → Text → Option (Option Text)
 edit_at [] q = None
 edit_at (c ∷ cs) q = if bytes_eq q c.0 then Some c.1 else edit_at cs q
 
+-- the new value, where it is another than the old one
+abbrev pub difference : Option Text → Option Text → Option (Option Text)
+difference old new = if same_value old new then None else Some new
+
 -- each name whose value differs, once, in the order of bytes, with its new value or none
 pub record AreChanges (old new : Environment) (cs : List Edit) : Type 0 where
   pub ordered : IsStrictlySortedBy (slice_cmp nat_cmp) (map (λ c. c.0) cs)
-  pub each : (q : Text) → edit_at cs q ≡ (if same_value (lookup old q) (lookup new q) then None else Some (lookup new q))
+  pub each : (q : Text) → edit_at cs q ≡ difference (lookup old q) (lookup new q)
 
 -- the environment with each change made, from the first to the last
 abbrev pub applied : List Edit → Environment → Environment

@@ -11,4 +11,5 @@ pub record Edited : Type 0 where
 -- the two are coded as a pair
 abbrev pub edited_code : Coded Edited
 edited_code =
-    code_by (Environment × Environment) (coded× environment_code environment_code) (λ e. (e.old, e.new)) (λ p. record { old = p.0; new = p.1 }) (λ _. refl)
+    code_by (Environment × Environment) (coded× environment_code environment_code) (λ e. (e.old, e.new))
+    (λ p. record { old = p.0; new = p.1 }) (λ _. refl)

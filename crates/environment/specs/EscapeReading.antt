@@ -15,4 +15,6 @@ after_escape escapes rest = if escapes then backslash ∷ rest else rest
 
 -- the fields of a text, of which so much has been read, and this is left
 abbrev pub read_on : Reading → Text → List Text
-read_on reading rest = map string_bytes reading.fields.items ++ begun (string_bytes reading.field) (unescaped_fields (after_escape reading.escapes rest))
+read_on reading rest =
+    map string_bytes reading.fields.items
+    ++ begun (string_bytes reading.field) (unescaped_fields (after_escape reading.escapes rest))

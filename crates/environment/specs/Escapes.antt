@@ -17,12 +17,13 @@ abbrev pub escaped : Text → Text
 escaped [] = []
 escaped (c ∷ cs) = if is_special c then backslash ∷ c ∷ escaped cs else c ∷ escaped cs
 
--- The fields, without their escapes. They are parted by the colons that no backslash escapes. A backslash before another
--- character, or at the end, is itself.
+-- The fields, without their escapes. They are parted by the colons that no backslash escapes. A backslash before
+-- another character, or at the end, is itself.
 abbrev pub unescaped_fields : Text → List Text
 unescaped_fields [] = [] ∷ []
 unescaped_fields (c ∷ []) = if c == colon then [] ∷ [] ∷ [] else (c ∷ []) ∷ []
 unescaped_fields (c ∷ k ∷ cs) =
     if c == colon
     then [] ∷ unescaped_fields (k ∷ cs)
-    else if c == backslash && is_special k then onto_first k (unescaped_fields cs) else onto_first c (unescaped_fields (k ∷ cs))
+    else if c == backslash && is_special k then onto_first k (unescaped_fields cs)
+    else onto_first c (unescaped_fields (k ∷ cs))

@@ -19,7 +19,9 @@ is_variable_name (b ∷ bs) = is_name_start b && list_all is_name_byte bs
 
 -- the variables that hold the tool's own state
 abbrev pub is_protected : Text → Bool
-is_protected name = bytes_eq name (codes "LOADEDMODULES") || bytes_eq name (codes "_LMFILES_") || starts_with nat_eq name (codes "__MODULES_")
+is_protected name =
+    bytes_eq name (codes "LOADEDMODULES") || bytes_eq name (codes "_LMFILES_")
+    || starts_with nat_eq name (codes "__MODULES_")
 
 -- the variable that holds the counters of a path variable
 abbrev pub share_name : Text → Text

@@ -1,4 +1,4 @@
--- Why edits are refused, as contracts see it: the cause and the variable, and nothing of memory.
+-- Why edits are refused, as contracts see it: the reason and the variable, and nothing of memory.
 use Rattle.std.specs.Prelude.{◌≡◌, ℕ, codes, string_bytes, Option, Some, None, IfSome, Result, Ok, Err}
 use Rattle.message.specs.Messages.{around, quoting}
 use Rattle.environment.specs.Texts.{Text}
@@ -57,5 +57,5 @@ Edits (Err e) old new outcome = (new ≡ old) × IfSome (reason_of e) (λ r. out
 
 -- A judgment ends well where there is no reason against it, and else for that reason, or out of memory.
 abbrev pub Judges : Result (Unit {0}) EnvFault → Option EnvReason → Type 0
-Judges (Ok u) refusal = refusal ≡ None
-Judges (Err e) refusal = IfSome (reason_of e) (λ r. refusal ≡ Some r)
+Judges (Ok u) reason = reason ≡ None
+Judges (Err e) reason = IfSome (reason_of e) (λ r. reason ≡ Some r)

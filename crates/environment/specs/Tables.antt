@@ -22,4 +22,5 @@ names_of entries = map (λ entry. string_bytes entry.0) entries
 -- the environment with the entries written over it, of which the first counts
 abbrev pub written_over : Environment → List Slot → Environment
 written_over e [] = e
-written_over e (entry ∷ entries) = with_value (written_over e entries) (string_bytes entry.0) (option_map string_bytes entry.1)
+written_over e (entry ∷ entries) =
+    with_value (written_over e entries) (string_bytes entry.0) (option_map string_bytes entry.1)

@@ -5,7 +5,7 @@ use std::error::Error;
 use std::fmt;
 use std::fmt::Display;
 
-/// Why an edit of the environment was refused. After a refusal the environment is as it was.
+/// Why an edit of the environment was refused. The environment is then as it was.
 #[derive(Debug, Drop)]
 pub enum EnvFault {
     /// Memory ran out.
@@ -29,7 +29,7 @@ impl EnvFault {
     ghost use Rattle.message.specs.Messages.{text_of};
     ghost use Rattle.environment.specs.Reasons.{message_of, number_of};
 
-    /// The number of the refusal.
+    /// The number of the fault.
     pub fn number(&self) -> u16
         ensures { result ≡ number_of self.now }
     {

@@ -49,8 +49,8 @@ pub fn is_protected(name: &str) -> bool
     name == "LOADEDMODULES" || name == "_LMFILES_" || is_kept(name)
 }
 
-/// Refuses the names of variables that can't be edited: by `BadVariable` one that isn't spelled as a variable's, then by
-/// `Protected` one that holds the tool's own state. Memory can run out.
+/// Refuses the names of variables that can't be edited: by `BadVariable` one that isn't spelled as a variable's, then
+/// by `Protected` one that holds the tool's own state. Memory can run out.
 pub fn judge_name(alloc: Global, name: &str) -> Result<(), EnvFault>
     ensures { Judges result (name_reason name.now) }
 {

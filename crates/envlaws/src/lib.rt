@@ -9,8 +9,8 @@ ghost use Rattle.envlaws.specs.EnvLaws.{OrderGivesStart, StrangerIsAbsent, Paths
 ghost use Rattle.envlaws.specs.EnvLaws.{AddNames, DropNames, OrderGivesList, DropLeavesList};
 
 /// Each name stands for one thing: a variable that modulefiles may edit, the counters or the stack of one, a text of
-/// the loaded list, or something else. So the names that the tool keeps are apart from one another and from every variable
-/// that an accepted edit names, and those of two variables are two.
+/// the loaded list, or something else. So the names that the tool keeps are apart from one another and from every
+/// variable that an accepted edit names, and those of two variables are two.
 pub fn names()
     ensures places { PlacesName }
     ensures variables { VariablesHavePlaces }

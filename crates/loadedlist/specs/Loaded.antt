@@ -21,17 +21,22 @@ pub record Entry : Type 0 where
 abbrev pub names_of : List Entry → List Text
 names_of entries = map (λ x. x.name) entries
 
+-- a name with its file, and with what the elements of the other two texts say, if there are some
+abbrev pub entry_from : Text → Text → Option Text → Option Text → Entry
+entry_from name file conflicts prereqs =
+    record {
+      name = name;
+      path = file;
+      conflicts = conflicts_among (words_in conflicts);
+      prereqs = prereqs_among (words_in prereqs);
+    }
+
 -- each name with its file, and with what the element that either of the other two texts has for it says
 abbrev pub entries_from : (Text → Option Text) → (Text → Option Text) → List Text → List Text → List Entry
 entries_from conflicts prereqs [] files = []
 entries_from conflicts prereqs (name ∷ names) [] = []
 entries_from conflicts prereqs (name ∷ names) (file ∷ files) =
-    record {
-      name = name;
-      path = file;
-      conflicts = conflicts_among (words_in (conflicts name));
-      prereqs = prereqs_among (words_in (prereqs name));
-    } ∷ entries_from conflicts prereqs names files
+    entry_from name file (conflicts name) (prereqs name) ∷ entries_from conflicts prereqs names files
 
 -- the first element that a text has for a module
 abbrev pub first_in : Option Text → Text → Option Text
@@ -46,7 +51,9 @@ entries_in names files conflicts prereqs =
 
 -- the loaded modules of an environment; none where they are inconsistent
 abbrev pub loaded_in : Environment → Option (List Entry)
-loaded_in e = entries_in (lookup e names_variable) (lookup e files_variable) (lookup e conflicts_variable) (lookup e prereqs_variable)
+loaded_in e =
+    entries_in (lookup e names_variable) (lookup e files_variable) (lookup e conflicts_variable)
+    (lookup e prereqs_variable)
 
 -- Writing: a list without elements unsets its variable.
 abbrev pub names_text : List Entry → Option Text
@@ -59,7 +66,8 @@ files_text entries = text_of (map (λ x. x.path) entries)
 -- an element for each module that conflicts with some
 abbrev pub conflict_elements : List Entry → List Text
 conflict_elements [] = []
-conflict_elements (x ∷ xs) = if has_names x.conflicts then element_of x.name x.conflicts ∷ conflict_elements xs else conflict_elements xs
+conflict_elements (x ∷ xs) =
+    if has_names x.conflicts then element_of x.name x.conflicts ∷ conflict_elements xs else conflict_elements xs
 
 -- what the modules conflict with
 abbrev pub conflicts_text : List Entry → Option Text
@@ -73,7 +81,10 @@ has_groups (group ∷ groups) = true
 -- an element for each module that needs some
 abbrev pub prereq_elements : List Entry → List Text
 prereq_elements [] = []
-prereq_elements (x ∷ xs) = if has_groups x.prereqs then element_of x.name (map group_text x.prereqs) ∷ prereq_elements xs else prereq_elements xs
+prereq_elements (x ∷ xs) =
+    if has_groups x.prereqs
+    then element_of x.name (map group_text x.prereqs) ∷ prereq_elements xs
+    else prereq_elements xs
 
 -- what the modules need
 abbrev pub prereqs_text : List Entry → Option Text
@@ -82,7 +93,8 @@ prereqs_text entries = text_of (prereq_elements entries)
 -- what is written of the list
 abbrev pub loaded_edits : List Entry → List Edit
 loaded_edits entries =
-    (names_variable, names_text entries) ∷ (files_variable, files_text entries) ∷ (conflicts_variable, conflicts_text entries) ∷ (prereqs_variable, prereqs_text entries) ∷ []
+    (names_variable, names_text entries) ∷ (files_variable, files_text entries)
+    ∷ (conflicts_variable, conflicts_text entries) ∷ (prereqs_variable, prereqs_text entries) ∷ []
 
 -- the environment with this list in the four variables
 abbrev pub with_loaded : Environment → List Entry → Environment
@@ -98,7 +110,9 @@ is_group group = has_names group && list_all is_module_name group
 
 -- an entry that is read again as it was written, but for repeated conflicts
 abbrev pub is_entry : Entry → Bool
-is_entry x = (is_module_name x.name && is_path x.path) && (list_all is_module_name x.conflicts && list_all is_group x.prereqs)
+is_entry x =
+    (is_module_name x.name && is_path x.path)
+    && (list_all is_module_name x.conflicts && list_all is_group x.prereqs)
 
 -- Each entry can be written, no module stands twice, and no entry has a conflict twice.
 pub record IsLoadedList (entries : List Entry) : Type 0 where
@@ -123,7 +137,8 @@ kept_once x = record { name = x.name; path = x.path; conflicts = firsts x.confli
 -- an entry added to the list that was read
 abbrev pub added_to : Environment → Entry → Option (List Entry) → Result Environment EnvReason
 added_to e x None = Err inconsistent
-added_to e x (Some entries) = if can_be_added entries x then Ok (with_loaded e (entries ++ kept_once x ∷ [])) else Err inconsistent
+added_to e x (Some entries) =
+    if can_be_added entries x then Ok (with_loaded e (entries ++ kept_once x ∷ [])) else Err inconsistent
 
 -- a new last entry
 abbrev pub added_loaded : Environment → Entry → Result Environment EnvReason
@@ -136,7 +151,8 @@ without_entry name entries = filter (λ x. not (bytes_eq name x.name)) entries
 -- a module dropped from the list that was read
 abbrev pub dropped_from : Environment → Text → Option (List Entry) → Result Environment EnvReason
 dropped_from e name None = Err inconsistent
-dropped_from e name (Some entries) = if has name (names_of entries) then Ok (with_loaded e (without_entry name entries)) else Ok e
+dropped_from e name (Some entries) =
+    if has name (names_of entries) then Ok (with_loaded e (without_entry name entries)) else Ok e
 
 -- the module's entry leaves; where it is not loaded nothing changes
 abbrev pub dropped_loaded : Environment → Text → Result Environment EnvReason

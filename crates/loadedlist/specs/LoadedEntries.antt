@@ -18,7 +18,13 @@ groups_in v = map texts_in v.items
 
 -- the entry that a value of the code is
 abbrev pub entry_of : Loaded → Entry
-entry_of x = record { name = string_bytes x.name; path = string_bytes x.path; conflicts = texts_in x.conflicts; prereqs = groups_in x.prereqs }
+entry_of x =
+    record {
+      name = string_bytes x.name;
+      path = string_bytes x.path;
+      conflicts = texts_in x.conflicts;
+      prereqs = groups_in x.prereqs;
+    }
 
 -- The answer is this; inconsistent exactly where there is none.
 abbrev pub Answers : {A B : Type 0} → (A → B) → Result A EnvFault → Option B → Type 0

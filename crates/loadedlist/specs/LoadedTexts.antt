@@ -41,7 +41,8 @@ is_empty (b ∷ bs) = false
 -- The names and the files are those of one list: as many, each name well spelled and once, each path with a byte.
 abbrev pub are_consistent : List Text → List Text → Bool
 are_consistent names files =
-    length names == length files && list_all is_module_name names && list_all (λ file. not (is_empty file)) files && are_distinct names
+    length names == length files && list_all is_module_name names && list_all (λ file. not (is_empty file)) files
+    && are_distinct names
 
 -- the parts of an element: a module, and then its words
 abbrev pub parts_of : Text → List Text
@@ -61,7 +62,8 @@ is_of name (part ∷ word ∷ words) = bytes_eq name part
 -- The first element of a module counts, later ones never.
 abbrev pub first_element : Text → List Text → Option Text
 first_element name [] = None
-first_element name (element ∷ elements) = if is_of name (parts_of element) then Some element else first_element name elements
+first_element name (element ∷ elements) =
+    if is_of name (parts_of element) then Some element else first_element name elements
 
 -- the words of an element, if there is one
 abbrev pub words_in : Option Text → List Text

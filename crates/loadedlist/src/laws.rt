@@ -15,7 +15,8 @@ pub fn loaded_edits()
     ensures leaves { WritingLeaves }
 {}
 
-/// An accepted edit that writes the list leaves it in order, and a list in order stays so where the module isn't loaded.
+/// An accepted edit that writes the list leaves it in order, and a list in order stays so where the module isn't
+/// loaded.
 pub fn loaded_orders()
     ensures add { AddOrders }
     ensures drop { DropOrders }

@@ -58,7 +58,8 @@ fn push_conflicts(
     elements: &mut Vec<String>,
     entry: &Loaded,
 ) -> Result<(), AllocError>
-    ensures { OnOk result (texts_in elements.new ≡ texts_in elements.old ++ conflict_elements (entry_of entry.now ∷ [])) }
+    ensures { OnOk result (texts_in elements.new
+        ≡ texts_in elements.old ++ conflict_elements (entry_of entry.now ∷ [])) }
 {
     if entry.conflicts.is_empty() {
         return Ok(());
@@ -178,7 +179,8 @@ fn can_name(entry: &Loaded) -> bool
 
 /// Whether the conflicts and the prereqs of the entry can be written.
 fn can_say(entry: &Loaded) -> bool
-    ensures { result ≡ (list_all (λ name. is_module_name (string_bytes name)) entry.now.conflicts.items && list_all (λ group. is_group (texts_in group)) entry.now.prereqs.items) }
+    ensures { result ≡ (list_all (λ name. is_module_name (string_bytes name)) entry.now.conflicts.items
+        && list_all (λ group. is_group (texts_in group)) entry.now.prereqs.items) }
 {
     are_names(entry.conflicts.as_slice()) && are_groups(entry.prereqs.as_slice())
 }
@@ -217,12 +219,14 @@ fn kept_once(alloc: Global, entry: &Loaded) -> Result<Loaded, AllocError>
     })
 }
 
-/// Adds a module behind the loaded ones, and writes the four variables anew. A conflict that is there twice is kept once.
+/// Adds a module behind the loaded ones, and writes the four variables anew. A conflict that is there twice is kept
+/// once.
 ///
 /// The answer is `Inconsistent` where that of `loaded` is, and where the entry could not be read again: its module is
 /// loaded, a name in it is ill spelled, its path is empty or holds a colon, or one of its groups has no names.
 pub fn add_loaded<V: Vars>(alloc: Global, env: &mut V, entry: &Loaded) -> Result<(), EnvFault>
-    ensures edits { Edits result (V.vars env.old) (V.vars env.new) (added_loaded (V.vars env.old) (entry_of entry.now)) }
+    ensures edits { Edits result (V.vars env.old) (V.vars env.new)
+        (added_loaded (V.vars env.old) (entry_of entry.now)) }
     ensures under { V.under env.new ≡ V.under env.old }
 {
     let mut list = loaded(alloc, env)?;

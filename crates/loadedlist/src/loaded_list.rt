@@ -6,7 +6,7 @@ ghost use Rattle.modulename.specs.ModuleName.{is_module_name};
 ghost use Rattle.environment.specs.Texts.{Text, shown, texts_in};
 ghost use Rattle.loadedlist.specs.LoadedTexts.{are_consistent, parts_of, is_of, first_element, words_in, conflicts_among, prereqs_among, names_of_group, has_names};
 ghost use Rattle.loadedlist.specs.LoadedEntries.{element_in, Lists, Answers, groups_in, entry_of};
-ghost use Rattle.loadedlist.specs.Loaded.{entries_from, loaded_in, entry_named, conflicts_in, prereqs_in};
+ghost use Rattle.loadedlist.specs.Loaded.{entry_from, entries_from, loaded_in, entry_named, conflicts_in, prereqs_in};
 
 use crate::entry::Loaded;
 use environment::fields::{are_distinct, copies, elements, once, parts, slices};
@@ -51,7 +51,8 @@ fn are_paths(files: &[&str]) -> bool
 
 /// Whether the names and the files are as many, and spelled as they must be.
 fn fit_together(names: &[&str], files: &[&str]) -> bool
-    ensures { result ≡ (length names.now == length files.now && list_all (λ name. is_module_name name.now) names.now && list_all (λ file. not (length file.now == 0)) files.now) }
+    ensures { result ≡ (length names.now == length files.now && list_all (λ name. is_module_name name.now) names.now
+        && list_all (λ file. not (length file.now == 0)) files.now) }
 {
     names.len() == files.len() && are_names(names) && are_paths(files)
 }
@@ -72,7 +73,8 @@ fn note_first<'a>(
     module_name: &'a str,
     element: &'a str,
 ) -> Result<(), AllocError>
-    ensures { OnOk result ((name : Text) → element_in firsts.new name ≡ option_or (element_in firsts.old name) (if bytes_eq name module_name.entry.now then Some element.entry.now else None)) }
+    ensures { OnOk result ((name : Text) → element_in firsts.new name ≡ option_or (element_in firsts.old name)
+        (if bytes_eq name module_name.entry.now then Some element.entry.now else None)) }
 {
     if firsts.get(module_name).is_none() {
         firsts.insert(module_name, element)?;
@@ -82,7 +84,8 @@ fn note_first<'a>(
 
 /// Notes an element, unless it names no module or an earlier one is of the same module.
 fn note<'a>(firsts: &mut FirstElements<'a>, element: &'a str) -> Result<(), AllocError>
-    ensures { OnOk result ((name : Text) → element_in firsts.new name ≡ option_or (element_in firsts.old name) (if is_of name (parts_of element.entry.now) then Some element.entry.now else None)) }
+    ensures { OnOk result ((name : Text) → element_in firsts.new name ≡ option_or (element_in firsts.old name)
+        (if is_of name (parts_of element.entry.now) then Some element.entry.now else None)) }
 {
     let Some((module, _)) = element.split_once('&') else {
         return Ok(());
@@ -128,7 +131,8 @@ fn conflict_names(alloc: Global, element: Option<&str>) -> Result<Vec<String>, A
 
 /// Puts a group at the end, if it has names.
 fn push_group(alloc: Global, groups: &mut Vec<Vec<String>>, word: &str) -> Result<(), AllocError>
-    ensures { OnOk result (groups_in groups.new ≡ groups_in groups.old ++ filter has_names (names_of_group word.now ∷ [])) }
+    ensures { OnOk result (groups_in groups.new
+        ≡ groups_in groups.old ++ filter has_names (names_of_group word.now ∷ [])) }
 {
     let alternatives = parts(alloc, word, '|')?;
     let names = names_among(alloc, alternatives.as_slice())?;
@@ -168,7 +172,8 @@ fn entry(
     conflicts: Option<&str>,
     prereqs: Option<&str>,
 ) -> Result<Loaded, AllocError>
-    ensures { IfOk result (λ x. entry_of x ≡ record { name = name.now; path = path.now; conflicts = conflicts_among (words_in (option_map (λ t. t.now) conflicts.entry)); prereqs = prereqs_among (words_in (option_map (λ t. t.now) prereqs.entry)) }) }
+    ensures { IfOk result (λ x. entry_of x ≡ entry_from name.now path.now (option_map (λ t. t.now) conflicts.entry)
+        (option_map (λ t. t.now) prereqs.entry)) }
 {
     Ok(Loaded {
         name: String::from_str(alloc, name)?,
@@ -186,7 +191,8 @@ fn entries(
     conflicts: &FirstElements<'_>,
     prereqs: &FirstElements<'_>,
 ) -> Result<Vec<Loaded>, AllocError>
-    ensures { IfOk result (λ v. map entry_of v.items ≡ entries_from (element_in conflicts.now) (element_in prereqs.now) (shown names.now) (shown files.now)) }
+    ensures { IfOk result (λ v. map entry_of v.items
+        ≡ entries_from (element_in conflicts.now) (element_in prereqs.now) (shown names.now) (shown files.now)) }
 {
     let mut entries = Vec::new(alloc);
     let mut names_left = names;
@@ -208,7 +214,8 @@ fn entries(
 /// say them (modulefile(5)).
 ///
 /// The answer is `Inconsistent` where the names and the files are not as many, a path is empty, or a name is empty,
-/// ill spelled or there twice. The other two texts are never a cause: what is ill spelled in them is passed over.
+/// ill spelled or there twice. The other two texts are never a reason: what is ill spelled in them is passed
+/// over.
 pub fn loaded<V: Vars>(alloc: Global, env: &V) -> Result<Vec<Loaded>, EnvFault>
     ensures { Lists result (loaded_in (V.vars env.now)) }
 {

@@ -18,7 +18,7 @@ pub record AreTexts (texts : PathTexts) (delim : ℕ) (s : PathState) : Type 0 w
 abbrev pub IsFull : EnvFault → Text → PathState → Type 0
 IsFull e name s = IfSome (reason_of e) (λ r. (r ≡ counter_full name) × (counters_fit s ≡ false))
 
--- the state's texts where its counters fit, and else the refusal
+-- the state's texts where its counters fit, and else that one is full
 abbrev pub IsWrittenOr : Result PathTexts EnvFault → Text → ℕ → PathState → Type 0
 IsWrittenOr (Ok texts) name delim s = (counters_fit s ≡ true) × AreTexts texts delim s
 IsWrittenOr (Err e) name delim s = IsFull e name s

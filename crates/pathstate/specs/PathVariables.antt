@@ -28,7 +28,7 @@ abbrev pub value_reason : Text → ℕ → List Text → Option EnvReason
 value_reason name delim xs =
     if is_delimiter delim && list_all (is_element delim) xs then None else Some (bad_value name)
 
--- the refusal of the name, and then of the delimiter and the elements
+-- the reason against the name, and then that against the delimiter and the elements
 abbrev pub path_reason : Text → ℕ → List Text → Option EnvReason
 path_reason name delim xs = option_or (name_reason name) (value_reason name delim xs)
 

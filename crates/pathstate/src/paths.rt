@@ -204,9 +204,12 @@ fn added(
 /// Adds elements to a path variable that is parted by `delim`, in front of its elements from the last to the first,
 /// or behind them from the first to the last.
 ///
-/// An element that is there already stays where it is and is counted once more. A refusal is, in this order,
-/// `BadVariable`, `Protected`, `BadValue` (the delimiter isn't one from the space to the tilde, or an element holds it
-/// or NUL), `CounterFull` (a counter would pass 4294967295), or `OutOfMemory`; the environment is then as it was.
+/// An element that is there already stays where it is and is counted once more.
+///
+/// It is refused, in this order, by `BadVariable` where `var` isn't spelled as a variable's name, by `Protected` where
+/// the variable holds the tool's own state, by `BadValue` where the delimiter isn't one from the space to the tilde or
+/// an element holds it or NUL, and by `CounterFull` where a counter would pass 4294967295. Memory can run out. After
+/// each of these the environment is as it was.
 pub fn add_path<V: Vars>(
     alloc: Global,
     env: &mut V,
@@ -331,9 +334,9 @@ fn write_both<V: Vars>(
 
 /// Drops elements from a path variable that is parted by `delim`, from the first to the last.
 ///
-/// An element is counted once less, and at 0 leaves the list; one that isn't there changes nothing. A refusal is, in
-/// this order, `BadVariable`, `Protected`, `BadValue` (the delimiter isn't one from the space to the tilde, or an
-/// element holds it or NUL), or `OutOfMemory`; the environment is then as it was.
+/// An element is counted once less, and at 0 leaves the list; one that isn't there changes nothing.
+///
+/// It is refused as an add is, but for `CounterFull`.
 pub fn drop_path<V: Vars>(
     alloc: Global,
     env: &mut V,

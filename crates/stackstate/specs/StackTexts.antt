@@ -43,7 +43,8 @@ item_of element = option_map (λ p. (owner_of p.0, p.1)) (cut element)
 -- the items that the elements say; none where one of them says none
 abbrev pub items_of_elements : List Text → Option (List Item)
 items_of_elements [] = Some []
-items_of_elements (element ∷ elements) = option_and_then (λ item. option_map (λ items. item ∷ items) (items_of_elements elements)) (item_of element)
+items_of_elements (element ∷ elements) =
+    option_and_then (λ item. option_map (λ items. item ∷ items) (items_of_elements elements)) (item_of element)
 
 -- whether there is no item
 abbrev pub is_nothing : List Item → Bool

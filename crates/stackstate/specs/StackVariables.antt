@@ -23,11 +23,13 @@ stack_in e name = stack_from (items_in (lookup e (stack_name name))) (lookup e n
 abbrev pub with_stack : Environment → Text → StackState → Environment
 with_stack e name s = with_value (with_value e name s.value) (stack_name name) (stack_text s.items)
 
--- the refusal of the variable's name, and then that of the module's name and of the value
+-- the reason against the variable's name, and then that against the module's name and the value
 abbrev pub push_reason : Text → Text → Text → Option EnvReason
-push_reason name owner value = option_or (name_reason name) (if is_module_name owner && is_plain_value value then None else Some (bad_value name))
+push_reason name owner value =
+    option_or (name_reason name)
+    (if is_module_name owner && is_plain_value value then None else Some (bad_value name))
 
--- the refusal of the variable's name, and then that of the module's name
+-- the reason against the variable's name, and then that against the module's name
 abbrev pub pop_reason : Text → Text → Option EnvReason
 pop_reason name owner = option_or (name_reason name) (if is_module_name owner then None else Some (bad_value name))
 

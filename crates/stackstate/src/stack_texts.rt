@@ -70,7 +70,8 @@ fn bottoms_last(items: &[StackItem]) -> bool
 
 /// Puts the owner of an item at the end, if it has one.
 fn push_owner<'a>(owners: &mut Vec<&'a str>, item: &'a StackItem) -> Result<(), AllocError>
-    ensures { OnOk result (map (λ x. x.now) owners.new.items ≡ map (λ x. x.now) owners.old.items ++ owners_of (item_in item.entry.now ∷ [])) }
+    ensures { OnOk result (map (λ x. x.now) owners.new.items
+        ≡ map (λ x. x.now) owners.old.items ++ owners_of (item_in item.entry.now ∷ [])) }
 {
     let Some(owner) = &item.owner else {
         return Ok(());

@@ -5,7 +5,7 @@ ghost use Rattle.std.specs.Option.{option_map};
 ghost use Rattle.modulename.specs.ModuleName.{is_module_name};
 ghost use Rattle.environment.specs.Names.{is_plain_value, stack_name};
 ghost use Rattle.stackstate.specs.Stacks.{is_owner, without_owner, visible, base, push, settled, on_top};
-ghost use Rattle.stackstate.specs.StackItems.{item_in, items_seen, state_seen};
+ghost use Rattle.stackstate.specs.StackItems.{item_in, items_seen, state_read, state_seen};
 ghost use Rattle.stackstate.specs.StackVariables.{push_reason, pop_reason, with_stack, pushed_value, popped_value};
 ghost use Rattle.environment.specs.Reasons.{Judges, Edits};
 ghost use Rattle.environment.specs.declared.fault.EnvFault.TheVariants.{OutOfMemory};
@@ -103,7 +103,8 @@ fn pushed(
     owner: &str,
     value: &str,
 ) -> Result<Vec<StackItem>, AllocError>
-    ensures { IfOk result (λ v. items_seen v ≡ (push (record { items = items_seen items; value = option_map (λ x. x.now) current.entry }) owner.now value.now).items) }
+    ensures { IfOk result (λ v. items_seen v
+        ≡ (push (state_read items current.entry) owner.now value.now).items) }
 {
     let mut stack = items;
     make_bottom(alloc, &mut stack, current)?;
@@ -121,7 +122,8 @@ fn value_after(
     items: &[StackItem],
     current: Option<&str>,
 ) -> Result<Option<String>, AllocError>
-    ensures { IfOk result (λ v. option_map string_bytes v ≡ (if was_top then visible (map item_in items.now) else option_map (λ x. x.now) current.entry)) }
+    ensures { IfOk result (λ v. option_map string_bytes v
+        ≡ (if was_top then visible (map item_in items.now) else option_map (λ x. x.now) current.entry)) }
 {
     if !was_top {
         return copy(alloc, current);
@@ -172,12 +174,12 @@ fn write_stack<V: Vars>(
     env.apply(changes)
 }
 
-/// Pushes a module's value: the variable takes it, and the module's older value leaves the stack (modulefile(5), pushenv).
-/// Where there is no stack yet, the variable's value goes to its bottom.
+/// Pushes a module's value: the variable takes it, and the module's older value leaves the stack (modulefile(5),
+/// pushenv). Where there is no stack yet, the variable's value goes to its bottom.
 ///
-/// It is refused, in this order, by `BadVariable` where `var` isn't spelled as a variable's name, by `Protected` where the
-/// variable holds the tool's own state, by `BadValue` where the module's name is ill spelled or the value holds NUL, and by
-/// `BadStack` where the text in `__MODULES_PUSHENV_` and `var` is no stack.
+/// It is refused, in this order, by `BadVariable` where `var` isn't spelled as a variable's name, by `Protected` where
+/// the variable holds the tool's own state, by `BadValue` where the module's name is ill spelled or the value holds
+/// NUL, and by `BadStack` where the text in `__MODULES_PUSHENV_` and `var` is no stack.
 pub fn push_value<V: Vars>(
     alloc: Global,
     env: &mut V,
@@ -185,7 +187,8 @@ pub fn push_value<V: Vars>(
     owner: &str,
     value: &str,
 ) -> Result<(), EnvFault>
-    ensures edits { Edits result (V.vars env.old) (V.vars env.new) (pushed_value (V.vars env.old) var.now owner.now value.now) }
+    ensures edits { Edits result (V.vars env.old) (V.vars env.new)
+        (pushed_value (V.vars env.old) var.now owner.now value.now) }
     ensures under { V.under env.new ≡ V.under env.old }
 {
     judge_push(alloc, var, owner, value)?;
