@@ -38,9 +38,11 @@ def module(folder, name, text):
     return path
 
 
-def environment(folder, variables=0, entries=0):
-    path = "/usr/bin:/bin" + "".join(f":/opt/entry{number}/bin" for number in range(entries))
-    env = {"MODULEPATH": os.path.join(folder, "m"), "PATH": path}
+def environment(folder, variables=0, entries=0, counter=1):
+    entries = [f"/opt/entry{number}/bin" for number in range(entries)]
+    env = {"MODULEPATH": os.path.join(folder, "m"), "PATH": ":".join(["/usr/bin", "/bin", *entries])}
+    if counter > 1:
+        env["__MODULES_SHARE_PATH"] = ":".join(f"{entry}:{counter}" for entry in entries)
     for number in range(variables):
         env[f"VARIABLE_{number}"] = f"value {number}"
     return env
@@ -89,6 +91,10 @@ def print_instructions(folder, null, program):
         ],
     )
     growth("entries of PATH", [(count, load("foo/1.0", environment(folder, entries=count))) for count in sizes])
+    growth(
+        "entries of PATH, each counted twice",
+        [(count, load("foo/1.0", environment(folder, entries=count, counter=2))) for count in sizes],
+    )
     for form, title in (
         ("setenv V{0} v{0}\n", "setenv, each of another variable"),
         ("prepend-path V{0} /v{0}\n", "prepend-path, each of another variable"),

@@ -17,11 +17,20 @@ use std::alloc::{AllocError, Global};
 use std::marker::Model;
 
 /// The variables that are set, with their values (environ(7)): a finite map from names to texts.
-#[derive(Drop)]
 pub struct Env {
     /// The names that were ever set, where a name that is unset now may have no value.
     vars: Table,
     alloc: Global,
+}
+
+// Not derived, so that an environment is dropped by one call, and no caller's proof opens its table there.
+impl Drop for Env {
+    fn drop(self) {
+        let Env {
+            vars: _vars,
+            alloc: _alloc,
+        } = self;
+    }
 }
 
 impl Model for Env {

@@ -13,11 +13,20 @@ use indexmap::IndexMap;
 use std::marker::Model;
 
 /// Changes over an environment that stays as it is. An edit costs what it touches, whatever else is set.
-#[derive(Drop)]
 pub struct Working<'a> {
     old: &'a Env,
     /// The names that were touched, with their values now.
     touched: Table,
+}
+
+// Not derived, as for `Env`.
+impl<'a> Drop for Working<'a> {
+    fn drop(self) {
+        let Working {
+            old: _old,
+            touched: _touched,
+        } = self;
+    }
 }
 
 impl<'a> Model for Working<'a> {
