@@ -21,13 +21,21 @@ use Rattle.modules.specs.Requests.{load, unload, only}
 use Rattle.modules.specs.Evaluation.{limited, records_of, evaluated}
 use Rattle.modules.specs.Steps.{Module, Move, Loads, Unloads, done, entry_of, move_by, move_at, load_move, unload_move, unload_meant, script_at, modulepath, entries_in, step}
 use Rattle.modules.specs.Running.{run_limited, left_by, left_loaded, left_unloaded}
-use Rattle.modules.specs.Answers.{IsOrigin, edit_origin}
+use Rattle.modules.specs.Answers.{Origin, IsOrigin, edit_origin}
+use Rattle.modules.specs.Answers.Origin.{memory, device, because, never}
 use Rattle.modules.proofs.RunLemmas.{Both, Makes, limited_together}
 
 -- the refusal of an edit is that of the step, where the edit's outcome decides it
 pub edit_origin_of : {A : Type 0} (refused : Option EnvReason) (x : Result A EnvReason) (P : Reason → Type 0) → IfSome refused (λ r. x ≡ Err r) → ((r : EnvReason) → x ≡ Err r → P (bad_edit r)) → IsOrigin (edit_origin refused) P ⊥
 edit_origin_of None x P h step_of = tt
 edit_origin_of (Some r) x P h step_of = step_of r h
+
+-- where a refusal comes from, of an outcome that follows from another
+pub origin_then : (o : Origin) (P Q : Reason → Type 0) → ((r : Reason) → P r → Q r) → IsOrigin o P ⊥ → IsOrigin o Q ⊥
+origin_then memory P Q f h = tt
+origin_then device P Q f h = h
+origin_then (because r) P Q f h = f r h
+origin_then never P Q f h = h
 
 -- a text's records, and what they make of the environment
 pub record Recorded (mode : Mode) (owner : Text) (limits : Limits) (e : Environment) (outcome : Result (List Record) Reason) (d : Environment) : Type 0 where

@@ -7,7 +7,7 @@ use Rattle.modules.specs.Then.{◌>>=◌, refused_as}
 use Rattle.modules.specs.Reasons.{bad_edit}
 use Rattle.modules.specs.Steps.{Loads}
 use Rattle.modules.specs.Running.{left_by}
-use Rattle.modules.proofs.StepLemmas.{recorded, loaded_left, edit_origin_of, bare_entry}
+use Rattle.modules.proofs.StepLemmas.{recorded, loaded_left, edit_origin_of, left_refused, origin_then, bare_entry}
 use Rattle.modules.proofs.running.load_text.Goals as goal
 
 pub returns-in_err-add_loaded : goal.returns-in_err-add_loaded
@@ -30,3 +30,11 @@ returns c =
     let outcome = rw (c.new.ensures.items, c.new-2.ensures.items) at c.in_ok-add_loaded.ensures.edits in
     rw (c.in_ok-loaded.ensures, c.as_str.ensures.value, c.new-3.ensures.bytes, c.new-4.ensures.bytes)
     (left ∙ ap (λ x. refused_as bad_edit x >>= (λ t. Ok (record { env = t; loaded = name ∷ []; messages = []; report = [] }))) outcome)
+
+pub returns-in_err-run : goal.returns-in_err-run
+returns-in_err-run c =
+    let p = err_from_is_err_and c.from_residual-in_err-run.result c.from_residual-in_err-run.ensures.1 in
+    let name = string_bytes c.args.found.name in
+    let path = string_bytes c.args.found.path in
+    let refused = rw c.in_ok-after.ensures.ok at (c.in_err-run.ensures name) in
+    rw (p.1, p.2) (origin_then _ _ _ (λ r h. left_refused Loads Load c.args.limits c.args.env.now name path c.args.text.now r h) refused)
