@@ -1,0 +1,6 @@
+-- What never goes back while a script is evaluated.
+use Rattle.std.specs.Prelude.{◌≤◌}
+use Rattle.tcleval.specs.declared.evaluator.Evaluator.{Evaluator}
+
+pub record Later (old new : Evaluator) : Type 0 where
+  pub rises : old.used ≤ new.used

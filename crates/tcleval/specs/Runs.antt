@@ -1,0 +1,49 @@
+-- What is left of a plan after a script.
+use Rattle.std.specs.Prelude.{◌≡◌, [], Bool, true, false, Result, Ok, Err, string_bytes, String}
+use Rattle.std.specs.declared.alloc.Global.{Global}
+use Rattle.tclchars.specs.Runs.{Text}
+use Rattle.tclchars.specs.declared.fault.TextFault.{TextFault}
+use Rattle.tclchars.specs.declared.fault.TextFault.TheVariants as texts
+use Rattle.tcloperators.specs.declared.fault.ValueFault.{ValueFault}
+use Rattle.tcloperators.specs.declared.fault.ValueFault.TheVariants as faults
+use Rattle.tclvalue.specs.Faults.{HasReason}
+use Rattle.tclrules.specs.Expressions.{fault_of}
+use Rattle.tclrules.specs.Variables.{State}
+use Rattle.tclrules.specs.Plans.{Ending, Normal, Raised, Returned, Broken, Continued, Bounds, Step, ended, halt}
+use Rattle.tclrules.specs.Rules.{turn}
+use Rattle.tclsteps.specs.Stops.{halt_of}
+use Rattle.tclsteps.specs.declared.stop.Stop.{Stop}
+use Rattle.tclsteps.specs.declared.stop.Stop.TheVariants as stops
+
+-- a script that ended with its result
+abbrev pub finish : String Global → State → Step
+finish t s = ended (Normal (string_bytes t) s)
+
+-- what is left of a plan that goes on with how a script ended
+abbrev pub ran : Result (String Global) Stop → (Ending → Step) → State → Step
+ran (Ok t) k s = k (Normal (string_bytes t) s)
+ran (Err (stops.Raised m)) k s = k (Raised (string_bytes m) s)
+ran (Err (stops.Returned t)) k s = k (Returned (string_bytes t) s)
+ran (Err stops.Broken) k s = k (Broken s)
+ran (Err stops.Continued) k s = k (Continued s)
+ran (Err (stops.Halted h)) k s = halt (halt_of h)
+
+-- a loop goes on with another turn, or has ended
+abbrev pub turned : (State → Step) → Bool → State → Step
+turned again true s = again s
+turned again false s = ended (Normal [] s)
+
+-- a turn where a condition holds, else the loop has ended
+abbrev pub guarded : Bounds → Text → (State → Step) → Bool → State → Step
+guarded b body again true s = turn b body s again
+guarded b body again false s = ended (Normal [] s)
+
+-- the fault of an evaluation of this text as an expression that has this fault, unless memory ran out
+abbrev pub IsReasonOf : Text → TextFault → ValueFault → Type 0
+IsReasonOf t texts.OutOfMemory e = e ≡ faults.OutOfMemory
+IsReasonOf t f e = HasReason (fault_of t f) e
+
+-- and a fault of a text that is no expression
+abbrev pub value_fault : TextFault → ValueFault
+value_fault texts.OutOfMemory = faults.OutOfMemory
+value_fault f = faults.Text f

@@ -1,0 +1,507 @@
+//! Scripts, commands, words and expressions, which evaluate one another.
+ghost use Rattle.std.specs.Prelude.{◌≡◌, ◌<◌, [], Bool, true, List, map, option_map, IfOk, string_bytes};
+ghost use Rattle.tclchars.specs.Runs.{Text};
+ghost use Rattle.tclscript.specs.Tree.{commands_of, words_of};
+ghost use Rattle.tclscript.specs.View.{script_view, command_view, word_view};
+ghost use Rattle.tclrules.specs.Derivation.{Counts, Runs};
+ghost use Rattle.tclrules.specs.Leads.{Leads, point};
+ghost use Rattle.tclrules.specs.Variables.{State};
+ghost use Rattle.tclrules.specs.Plans as plans;
+ghost use Rattle.tclrules.specs.Plans.{Next, on_normal, sized};
+ghost use Rattle.tclrules.specs.Words as pieces;
+ghost use Rattle.tclrules.specs.Expressions.{express, decide};
+ghost use Rattle.tclrules.specs.Rules as rules;
+ghost use Rattle.tclrules.specs.Rules.{rule, called, turn};
+ghost use Rattle.tclrules.specs.Forms as forms;
+ghost use Rattle.tclforms.specs.Views.{form_view, pair_texts};
+ghost use Rattle.tclsteps.specs.Machine.{shown, bounds, control_plan};
+ghost use Rattle.tclsteps.specs.Stops.{after};
+ghost use Rattle.tcleval.specs.Runs.{finish, turned, guarded};
+ghost use Rattle.tcleval.specs.Later.{Later};
+
+use crate::endings::{after_next, after_turn};
+use crate::evaluator::{Evaluator, sized};
+use crate::trees::{express_tree, normal, tree_of};
+use crate::words::push_words;
+use tclforms::{Form, core_form};
+use tclrules::{Host, Limits};
+use tclscript::{ByteRange, Command, Script, Word};
+use tclsteps::{Context, Control, Halt, Step, Stop, advance};
+use tclvalue::{concatenated, truth, value_command};
+
+impl Evaluator {
+    /// A text evaluated as a script.
+    #[cycle(evaluate)]
+    #[tactic(none)]
+    pub(crate) fn script<H: Host>(
+        &mut self,
+        host: &mut H,
+        limits: Limits,
+        left: u32,
+        text: &str,
+    ) -> Result<String, Stop>
+        ensures comes { Leads limits.commands (rule limits.value_bytes)
+            (rule limits.value_bytes (plans.Script left text.now self.old.variables))
+            (point (H.oracle host.old) (H.told host.old) self.old.used)
+            (after result finish self.new.variables)
+            (point (H.oracle host.new) (H.told host.new) self.new.used) }
+        ensures later { Later self.old self.new }
+    {
+        if left == 0 {
+            return Err(Stop::Halted(Halt::TooDeep));
+        }
+        match tree_of(self.alloc, text) {
+            Ok(tree) => self.commands(host, limits, left - 1, tree.text.as_str(), &tree.script),
+            Err(fault) => Err(Stop::of_text(fault)),
+        }
+    }
+
+    /// The script of a bracket.
+    #[cycle(evaluate)]
+    #[tactic(none)]
+    fn bracket<H: Host>(
+        &mut self,
+        host: &mut H,
+        limits: Limits,
+        left: u32,
+        source: &str,
+        script: &Script<ByteRange>,
+    ) -> Result<String, Stop>
+        ensures comes { (k : Next) → Leads limits.commands (rule limits.value_bytes)
+            (Runs (plans.Bracket left (script_view (shown source.now) script.now) self.old.variables) (on_normal k))
+            (point (H.oracle host.old) (H.told host.old) self.old.used)
+            (after result (λ t s. k (string_bytes t) s) self.new.variables)
+            (point (H.oracle host.new) (H.told host.new) self.new.used) }
+        ensures later { Later self.old self.new }
+    {
+        if left == 0 {
+            return Err(Stop::Halted(Halt::TooDeep));
+        }
+        self.commands(host, limits, left - 1, source, script)
+    }
+
+    /// The commands of a script, one after the other.
+    #[cycle(evaluate)]
+    #[tactic(none)]
+    fn commands<H: Host>(
+        &mut self,
+        host: &mut H,
+        limits: Limits,
+        left: u32,
+        source: &str,
+        script: &Script<ByteRange>,
+    ) -> Result<String, Stop>
+        ensures comes { Leads limits.commands (rule limits.value_bytes)
+            (rules.commands (bounds limits.value_bytes left) (script_view (shown source.now) script.now) [] self.old.variables)
+            (point (H.oracle host.old) (H.told host.old) self.old.used)
+            (after result finish self.new.variables)
+            (point (H.oracle host.new) (H.told host.new) self.new.used) }
+        ensures later { Later self.old self.new }
+    {
+        let mut last = String::new(self.alloc);
+        for command in &script.commands {
+            last = self.command(host, limits, left, source, command)?;
+        }
+        Ok(last)
+    }
+
+    /// A command, which is counted before its words are looked at.
+    #[cycle(evaluate)]
+    #[tactic(none)]
+    pub(crate) fn command<H: Host>(
+        &mut self,
+        host: &mut H,
+        limits: Limits,
+        left: u32,
+        source: &str,
+        command: &Command<ByteRange>,
+    ) -> Result<String, Stop>
+        ensures comes { (k : Next) → Leads limits.commands (rule limits.value_bytes)
+            (Counts (pieces.words (bounds limits.value_bytes left) (command_view (shown source.now) command.now).words []
+                self.old.variables (λ texts s1. called (bounds limits.value_bytes left) texts s1
+                    (λ u s2. sized limits.value_bytes u (k u s2)))))
+            (point (H.oracle host.old) (H.told host.old) self.old.used)
+            (after result (λ t s. k (string_bytes t) s) self.new.variables)
+            (point (H.oracle host.new) (H.told host.new) self.new.used) }
+        ensures later { Later self.old self.new }
+    {
+        self.count(limits)?;
+        let texts = self.words(host, limits, left, source, &command.words)?;
+        let value = self.called(host, limits, left, &texts)?;
+        sized(limits, value)
+    }
+
+    /// The words of a command, with their values.
+    #[cycle(evaluate)]
+    #[tactic(none)]
+    fn words<H: Host>(
+        &mut self,
+        host: &mut H,
+        limits: Limits,
+        left: u32,
+        source: &str,
+        words: &[Word<ByteRange>],
+    ) -> Result<Vec<String>, Stop>
+        ensures comes { (k : List Text → State → plans.Step) → Leads limits.commands (rule limits.value_bytes)
+            (pieces.words (bounds limits.value_bytes left) (words_of (map (word_view (shown source.now)) words.now)) []
+                self.old.variables k)
+            (point (H.oracle host.old) (H.told host.old) self.old.used)
+            (after result (λ ts s. k (map string_bytes ts.items) s) self.new.variables)
+            (point (H.oracle host.new) (H.told host.new) self.new.used) }
+        ensures later { Later self.old self.new }
+    {
+        let mut texts = Vec::new(self.alloc);
+        for word in words {
+            let start = Control::Parts(String::new(self.alloc), word.parts.as_slice());
+            let text = self.value(host, limits, left, source, start)?;
+            push_words(self.alloc, &mut texts, word.expands, text)?;
+        }
+        Ok(texts)
+    }
+
+    /// The value of a word or of an expression.
+    #[cycle(evaluate)]
+    #[tactic(none)]
+    fn value<'a, H: Host>(
+        &mut self,
+        host: &mut H,
+        limits: Limits,
+        left: u32,
+        source: &'a str,
+        start: Control<'a>,
+    ) -> Result<String, Stop>
+        ensures comes { (k : Next) → Leads limits.commands (rule limits.value_bytes)
+            (control_plan source.entry.now (bounds limits.value_bytes left) start.entry self.old.variables k)
+            (point (H.oracle host.old) (H.told host.old) self.old.used)
+            (after result (λ t s. k (string_bytes t) s) self.new.variables)
+            (point (H.oracle host.new) (H.told host.new) self.new.used) }
+        ensures later { Later self.old self.new }
+    {
+        let mut stack = Vec::new(self.alloc);
+        let mut control = start;
+        loop {
+            let context = Context {
+                alloc: self.alloc,
+                limits,
+                source,
+                variables: &self.variables,
+            };
+            match advance(context, host, &mut stack, control)? {
+                Step::Next(next) => control = next,
+                Step::Done(value) => return Ok(value),
+                Step::Bracket(script) => {
+                    let value = self.bracket(host, limits, left, source, script)?;
+                    control = Control::Value(value);
+                }
+            }
+        }
+    }
+
+    /// A text evaluated as an expression.
+    #[cycle(evaluate)]
+    #[tactic(none)]
+    fn express<H: Host>(
+        &mut self,
+        host: &mut H,
+        limits: Limits,
+        left: u32,
+        text: &str,
+    ) -> Result<String, Stop>
+        ensures comes { (k : Next) → Leads limits.commands (rule limits.value_bytes)
+            (express (bounds limits.value_bytes left) text.now self.old.variables k)
+            (point (H.oracle host.old) (H.told host.old) self.old.used)
+            (after result (λ t s. k (string_bytes t) s) self.new.variables)
+            (point (H.oracle host.new) (H.told host.new) self.new.used) }
+        ensures later { Later self.old self.new }
+    {
+        let tree = express_tree(self.alloc, text)?;
+        let start = Control::Expression(&tree.expression);
+        let value = self.value(host, limits, left, tree.text.as_str(), start)?;
+        let value = normal(self.alloc, value)?;
+        sized(limits, value)
+    }
+
+    /// A text evaluated as a condition.
+    #[cycle(evaluate)]
+    #[tactic(none)]
+    fn decide<H: Host>(
+        &mut self,
+        host: &mut H,
+        limits: Limits,
+        left: u32,
+        text: &str,
+    ) -> Result<bool, Stop>
+        ensures comes { (k : Bool → State → plans.Step) → Leads limits.commands (rule limits.value_bytes)
+            (decide (bounds limits.value_bytes left) text.now self.old.variables k)
+            (point (H.oracle host.old) (H.told host.old) self.old.used)
+            (after result k self.new.variables)
+            (point (H.oracle host.new) (H.told host.new) self.new.used) }
+        ensures later { Later self.old self.new }
+    {
+        let value = self.express(host, limits, left, text)?;
+        Ok(truth(self.alloc, value.as_str())?)
+    }
+
+    /// A turn of a loop: whether the loop goes on.
+    #[cycle(evaluate)]
+    #[tactic(none)]
+    fn turn<H: Host>(
+        &mut self,
+        host: &mut H,
+        limits: Limits,
+        left: u32,
+        body: &str,
+    ) -> Result<bool, Stop>
+        ensures comes { (again : State → plans.Step) → Leads limits.commands (rule limits.value_bytes)
+            (turn (bounds limits.value_bytes left) body.now self.old.variables again)
+            (point (H.oracle host.old) (H.told host.old) self.old.used)
+            (after result (turned again) self.new.variables)
+            (point (H.oracle host.new) (H.told host.new) self.new.used) }
+        ensures later { Later self.old self.new }
+        ensures counted { IfOk result (λ more. (self.old.used < limits.commands) × (self.old.used < self.new.used)) }
+    {
+        self.count(limits)?;
+        after_turn(self.script(host, limits, left, body))
+    }
+
+    /// A condition and, where it holds, a turn of a loop: whether the loop goes on.
+    #[cycle(evaluate)]
+    #[tactic(none)]
+    fn guarded_turn<H: Host>(
+        &mut self,
+        host: &mut H,
+        limits: Limits,
+        left: u32,
+        condition: &str,
+        body: &str,
+    ) -> Result<bool, Stop>
+        ensures comes { (again : State → plans.Step) → Leads limits.commands (rule limits.value_bytes)
+            (decide (bounds limits.value_bytes left) condition.now self.old.variables
+                (guarded (bounds limits.value_bytes left) body.now again))
+            (point (H.oracle host.old) (H.told host.old) self.old.used)
+            (after result (turned again) self.new.variables)
+            (point (H.oracle host.new) (H.told host.new) self.new.used) }
+        ensures later { Later self.old self.new }
+        ensures counted { IfOk result (λ more. more ≡ true
+            → (self.old.used < limits.commands) × (self.old.used < self.new.used)) }
+    {
+        if self.decide(host, limits, left, condition)? {
+            return self.turn(host, limits, left, body);
+        }
+        Ok(false)
+    }
+
+    /// The turns of while(n) that are left.
+    #[cycle(evaluate)]
+    #[tactic(none)]
+    fn while_turns<H: Host>(
+        &mut self,
+        host: &mut H,
+        limits: Limits,
+        left: u32,
+        condition: &str,
+        body: &str,
+    ) -> Result<String, Stop>
+        ensures comes { (k : Next) → Leads limits.commands (rule limits.value_bytes)
+            (Runs (plans.While left condition.now body.now self.old.variables) (on_normal k))
+            (point (H.oracle host.old) (H.told host.old) self.old.used)
+            (after result (λ t s. k (string_bytes t) s) self.new.variables)
+            (point (H.oracle host.new) (H.told host.new) self.new.used) }
+        ensures later { Later self.old self.new }
+    {
+        loop {
+            if !self.guarded_turn(host, limits, left, condition, body)? {
+                return Ok(String::new(self.alloc));
+            }
+        }
+    }
+
+    /// for(n)
+    #[cycle(evaluate)]
+    #[tactic(none)]
+    fn for_loop<H: Host>(
+        &mut self,
+        host: &mut H,
+        limits: Limits,
+        left: u32,
+        start: &str,
+        condition: &str,
+        next: &str,
+        body: &str,
+    ) -> Result<String, Stop>
+        ensures comes { (k : Next) → Leads limits.commands (rule limits.value_bytes)
+            (rules.form (bounds limits.value_bytes left) (forms.For start.now condition.now next.now body.now) self.old.variables k)
+            (point (H.oracle host.old) (H.told host.old) self.old.used)
+            (after result (λ t s. k (string_bytes t) s) self.new.variables)
+            (point (H.oracle host.new) (H.told host.new) self.new.used) }
+        ensures later { Later self.old self.new }
+    {
+        let _ = self.script(host, limits, left, start)?;
+        self.for_turns(host, limits, left, condition, next, body)
+    }
+
+    /// The turns of for(n) that are left.
+    #[cycle(evaluate)]
+    #[tactic(none)]
+    fn for_turns<H: Host>(
+        &mut self,
+        host: &mut H,
+        limits: Limits,
+        left: u32,
+        condition: &str,
+        next: &str,
+        body: &str,
+    ) -> Result<String, Stop>
+        ensures comes { (k : Next) → Leads limits.commands (rule limits.value_bytes)
+            (Runs (plans.For left condition.now next.now body.now self.old.variables) (on_normal k))
+            (point (H.oracle host.old) (H.told host.old) self.old.used)
+            (after result (λ t s. k (string_bytes t) s) self.new.variables)
+            (point (H.oracle host.new) (H.told host.new) self.new.used) }
+        ensures later { Later self.old self.new }
+    {
+        loop {
+            if !self.guarded_turn(host, limits, left, condition, body)? {
+                return Ok(String::new(self.alloc));
+            }
+            if !after_next(self.script(host, limits, left, next))? {
+                return Ok(String::new(self.alloc));
+            }
+        }
+    }
+
+    /// The body of if(n) or switch(n) that is chosen; without one the result is empty.
+    #[cycle(evaluate)]
+    #[tactic(none)]
+    fn otherwise<H: Host>(
+        &mut self,
+        host: &mut H,
+        limits: Limits,
+        left: u32,
+        body: Option<&str>,
+    ) -> Result<String, Stop>
+        ensures comes { (k : Next) → Leads limits.commands (rule limits.value_bytes)
+            (rules.otherwise (bounds limits.value_bytes left) (option_map (λ t. t.now) body.entry) self.old.variables k)
+            (point (H.oracle host.old) (H.told host.old) self.old.used)
+            (after result (λ t s. k (string_bytes t) s) self.new.variables)
+            (point (H.oracle host.new) (H.told host.new) self.new.used) }
+        ensures later { Later self.old self.new }
+    {
+        match body {
+            None => Ok(String::new(self.alloc)),
+            Some(body) => self.script(host, limits, left, body),
+        }
+    }
+
+    /// if(n): the first body whose condition holds, or the last.
+    #[cycle(evaluate)]
+    #[tactic(none)]
+    fn branches<H: Host>(
+        &mut self,
+        host: &mut H,
+        limits: Limits,
+        left: u32,
+        branches: &[(&str, &str)],
+        other: Option<&str>,
+    ) -> Result<String, Stop>
+        ensures comes { (k : Next) → Leads limits.commands (rule limits.value_bytes)
+            (rules.branches (bounds limits.value_bytes left) (pair_texts branches.now) (option_map (λ t. t.now) other.entry)
+                self.old.variables k)
+            (point (H.oracle host.old) (H.told host.old) self.old.used)
+            (after result (λ t s. k (string_bytes t) s) self.new.variables)
+            (point (H.oracle host.new) (H.told host.new) self.new.used) }
+        ensures later { Later self.old self.new }
+    {
+        for (condition, body) in branches {
+            if self.decide(host, limits, left, condition)? {
+                return self.script(host, limits, left, body);
+            }
+        }
+        self.otherwise(host, limits, left, other)
+    }
+
+    /// catch(n)
+    #[cycle(evaluate)]
+    #[tactic(none)]
+    fn catch<H: Host>(
+        &mut self,
+        host: &mut H,
+        limits: Limits,
+        left: u32,
+        body: &str,
+        name: Option<&str>,
+    ) -> Result<String, Stop>
+        ensures comes { (k : Next) → Leads limits.commands (rule limits.value_bytes)
+            (rules.form (bounds limits.value_bytes left) (forms.Catch body.now (option_map (λ v. v.now) name.entry))
+                self.old.variables k)
+            (point (H.oracle host.old) (H.told host.old) self.old.used)
+            (after result (λ t s. k (string_bytes t) s) self.new.variables)
+            (point (H.oracle host.new) (H.told host.new) self.new.used) }
+        ensures later { Later self.old self.new }
+    {
+        let outcome = self.script(host, limits, left, body);
+        self.keep_caught(limits, name, outcome)
+    }
+
+    /// What the form of a core command does.
+    #[cycle(evaluate)]
+    #[tactic(none)]
+    fn form<H: Host>(
+        &mut self,
+        host: &mut H,
+        limits: Limits,
+        left: u32,
+        form: Form<'_>,
+    ) -> Result<String, Stop>
+        ensures comes { (k : Next) → Leads limits.commands (rule limits.value_bytes)
+            (rules.form (bounds limits.value_bytes left) (form_view form.entry) self.old.variables k)
+            (point (H.oracle host.old) (H.told host.old) self.old.used)
+            (after result (λ t s. k (string_bytes t) s) self.new.variables)
+            (point (H.oracle host.new) (H.told host.new) self.new.used) }
+        ensures later { Later self.old self.new }
+    {
+        match form {
+            Form::Express(texts) => {
+                let text = concatenated(self.alloc, texts, limits.value_bytes)?;
+                self.express(host, limits, left, text.as_str())
+            }
+            Form::If(branches, other) => {
+                self.branches(host, limits, left, branches.as_slice(), other)
+            }
+            Form::While(condition, body) => self.while_turns(host, limits, left, condition, body),
+            Form::For(start, condition, next, body) => {
+                self.for_loop(host, limits, left, start, condition, next, body)
+            }
+            Form::Catch(body, name) => self.catch(host, limits, left, body, name),
+            form => self.plain(host, limits, form),
+        }
+    }
+
+    /// A command by its words, of which the first names it.
+    #[cycle(evaluate)]
+    #[tactic(none)]
+    fn called<H: Host>(
+        &mut self,
+        host: &mut H,
+        limits: Limits,
+        left: u32,
+        words: &[String],
+    ) -> Result<String, Stop>
+        ensures comes { (k : Next) → Leads limits.commands (rule limits.value_bytes)
+            (called (bounds limits.value_bytes left) (map string_bytes words.now) self.old.variables k)
+            (point (H.oracle host.old) (H.told host.old) self.old.used)
+            (after result (λ t s. k (string_bytes t) s) self.new.variables)
+            (point (H.oracle host.new) (H.told host.new) self.new.used) }
+        ensures later { Later self.old self.new }
+    {
+        let [name, rest @ ..] = words else {
+            return Ok(String::new(self.alloc));
+        };
+        if let Some(value) = value_command(self.alloc, words, limits.value_bytes)? {
+            return Ok(value);
+        }
+        match core_form(self.alloc, name.as_str(), rest)? {
+            Some(form) => self.form(host, limits, left, form),
+            None => Err(Stop::Halted(Halt::OutOfMemory)),
+        }
+    }
+}

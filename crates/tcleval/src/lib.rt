@@ -1,0 +1,8 @@
+//! Evaluation of Tcl's scripts, proved against the rules of evaluation, for every lawful host.
+#![tactic(auto)]
+
+mod cycle;
+mod endings;
+mod evaluator;
+mod trees;
+mod words;

@@ -1,0 +1,135 @@
+//! The trees of texts that are evaluated, and the values of whole expressions.
+ghost use Rattle.std.specs.Prelude.{◌≡◌, None, MatchOption, drop, option_map, string_bytes};
+ghost use Rattle.tclscript.specs.Text.{script_of};
+ghost use Rattle.tclscript.specs.Owned as scripts;
+ghost use Rattle.tclexpr.specs.Text.{expr_of};
+ghost use Rattle.tclexpr.specs.Owned as expressions;
+ghost use Rattle.tcltext.specs.Numerals.{numeral};
+ghost use Rattle.tclvalue.specs.Faults.{Gives, GivesText, HasReason};
+ghost use Rattle.tclchars.specs.Whole.{Reads};
+ghost use Rattle.tclrules.specs.Expressions.{omitted_at, function_named, fault_of, parsed, normal};
+ghost use Rattle.tcleval.specs.Runs.{IsReasonOf, value_fault};
+
+use std::alloc::{AllocError, Global};
+use std::rc::Rc;
+use tclchars::{Class, TextFault, split_front};
+use tclexpr::{OwnedExpr, own_expr};
+use tcloperators::left_out;
+use tclscript::{OwnedScript, own_script};
+use tcltext::{Numeral, read_number};
+use tclvalue::ValueFault;
+
+/// The tree of a script.
+pub(crate) fn tree_of(alloc: Global, text: &str) -> Result<Rc<OwnedScript>, TextFault>
+    ensures { Reads (λ o. scripts.owned_view o.value) result (script_of text.now) }
+{
+    let Ok(copy) = String::from_str(alloc, text) else {
+        return Err(TextFault::OutOfMemory);
+    };
+    let tree = own_script(alloc, copy)?;
+    match Rc::new(alloc, tree) {
+        Ok(tree) => Ok(tree),
+        Err(_) => Err(TextFault::OutOfMemory),
+    }
+}
+
+/// The tree of an expression.
+fn expr_tree_of(alloc: Global, text: &str) -> Result<Rc<OwnedExpr>, TextFault>
+    ensures { Reads (λ o. expressions.owned_view o.value) result (expr_of text.now) }
+{
+    let Ok(copy) = String::from_str(alloc, text) else {
+        return Err(TextFault::OutOfMemory);
+    };
+    let tree = own_expr(alloc, copy)?;
+    match Rc::new(alloc, tree) {
+        Ok(tree) => Ok(tree),
+        Err(_) => Err(TextFault::OutOfMemory),
+    }
+}
+
+/// What stands in a text from a place on, where a character begins there.
+fn behind(text: &str, place: usize) -> Option<&str>
+    ensures { MatchOption result (omitted_at (drop place text.now) ≡ None) (λ rest. rest.now ≡ drop place text.now) }
+{
+    if text.is_char_boundary(place) {
+        Some(text.split_at(place).1)
+    } else {
+        None
+    }
+}
+
+fn begins_letter(text: &str) -> bool {
+    match text.as_bytes() {
+        [first, ..] => first.is_ascii_alphabetic() || *first == b'_',
+        [] => false,
+    }
+}
+
+/// The name of a function before its parenthesis.
+fn function_named(text: &str) -> Option<&str>
+    ensures { option_map (λ name. name.now) result ≡ function_named text.now }
+{
+    let (name, rest) = split_front(text, Class::Name);
+    if begins_letter(text) && rest.as_bytes().first() == Some(&b'(') && !matches!(name, "eq" | "ne" | "in" | "ni") {
+        return Some(name);
+    }
+    None
+}
+
+/// The name of the operator or function that is left out, where a text begins with one.
+fn omitted_at(text: &str) -> Option<&str>
+    ensures { option_map (λ name. name.now) result ≡ omitted_at text.now }
+{
+    if text.strip_prefix("**").is_some() {
+        return Some("**");
+    }
+    function_named(text)
+}
+
+fn of_text(fault: TextFault) -> ValueFault
+    ensures { result ≡ value_fault fault }
+{
+    match fault {
+        TextFault::OutOfMemory => ValueFault::OutOfMemory,
+        fault => ValueFault::Text(fault),
+    }
+}
+
+/// What the fault of an expression is to whoever evaluates it.
+fn expr_fault(alloc: Global, text: &str, fault: TextFault) -> ValueFault
+    ensures { IsReasonOf text.now fault result }
+{
+    let TextFault::BadExpression(place) = fault else {
+        return of_text(fault);
+    };
+    match behind(text, place).and_then(omitted_at) {
+        Some(name) => left_out(alloc, name),
+        None => ValueFault::Text(TextFault::BadExpression(place)),
+    }
+}
+
+/// The tree of an expression, or the fault of its evaluation.
+pub(crate) fn express_tree(alloc: Global, text: &str) -> Result<Rc<OwnedExpr>, ValueFault>
+    ensures { Gives (λ o. expressions.owned_view o.value) result (parsed text.now (expr_of text.now)) }
+{
+    match expr_tree_of(alloc, text) {
+        Ok(tree) => Ok(tree),
+        Err(fault) => Err(expr_fault(alloc, text, fault)),
+    }
+}
+
+fn decimal(alloc: Global, number: i64) -> Result<String, AllocError> {
+    format!(in alloc; "{number}")
+}
+
+/// The value of a whole expression: a whole number in decimal, any other text as it is.
+pub(crate) fn normal(alloc: Global, value: String) -> Result<String, ValueFault>
+    ensures { GivesText result (normal (string_bytes value) (numeral (string_bytes value))) }
+{
+    match read_number(value.as_str()) {
+        Numeral::Whole(number) => Ok(decimal(alloc, number)?),
+        Numeral::TooLarge => Err(ValueFault::NumberTooLarge),
+        Numeral::Fraction => Err(ValueFault::FractionOperand),
+        Numeral::Text => Ok(value),
+    }
+}
