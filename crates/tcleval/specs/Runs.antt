@@ -35,8 +35,7 @@ turned again false s = ended (Normal [] s)
 
 -- a turn where a condition holds, else the loop has ended
 abbrev pub guarded : Bounds → Text → (State → Step) → Bool → State → Step
-guarded b body again true s = turn b body s again
-guarded b body again false s = ended (Normal [] s)
+guarded b body again = elim [ true ↦ (λ s. turn b body s again) | false ↦ (λ s. ended (Normal [] s)) ]
 
 -- the fault of an evaluation of this text as an expression that has this fault, unless memory ran out
 abbrev pub IsReasonOf : Text → TextFault → ValueFault → Type 0

@@ -493,13 +493,36 @@ impl Evaluator {
             (point (H.oracle host.new) (H.told host.new) self.new.used) }
         ensures later { Later self.old self.new }
     {
-        let [name, rest @ ..] = words else {
+        let Some((name, operands)) = words.split_first() else {
             return Ok(String::new(self.alloc));
         };
-        if let Some(value) = value_command(self.alloc, words, limits.value_bytes)? {
-            return Ok(value);
+        match value_command(self.alloc, words, limits.value_bytes)? {
+            Some(value) => Ok(value),
+            None => self.core_command(host, limits, left, name.as_str(), operands, words),
         }
-        match core_form(self.alloc, name.as_str(), rest)? {
+    }
+
+    /// A core command, or one of another name.
+    #[cycle(evaluate)]
+    #[tactic(none)]
+    fn core_command<H: Host>(
+        &mut self,
+        host: &mut H,
+        limits: Limits,
+        left: u32,
+        name: &str,
+        operands: &[String],
+        words: &[String],
+    ) -> Result<String, Stop>
+        ensures comes { (k : Next) → Leads limits.commands (rule limits.value_bytes)
+            (rules.core_command (bounds limits.value_bytes left) name.now (map string_bytes operands.now) self.old.variables k
+                (forms.core_form name.now (map string_bytes operands.now)))
+            (point (H.oracle host.old) (H.told host.old) self.old.used)
+            (after result (λ t s. k (string_bytes t) s) self.new.variables)
+            (point (H.oracle host.new) (H.told host.new) self.new.used) }
+        ensures later { Later self.old self.new }
+    {
+        match core_form(self.alloc, name, operands)? {
             Some(form) => self.form(host, limits, left, form),
             None => Err(Stop::Halted(Halt::OutOfMemory)),
         }

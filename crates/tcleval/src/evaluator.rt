@@ -10,7 +10,8 @@ ghost use Rattle.tclsteps.specs.declared.stop.Halt.TheVariants.{TooManyCommands}
 
 use std::alloc::Global;
 use tclrules::Limits;
-use tclsteps::{Halt, Stop, Variables};
+use tclsteps::{Halt, Stop};
+use tclvariables::Variables;
 
 /// The variables, and how many commands and turns of loops were counted.
 #[derive(Drop)]

@@ -6,8 +6,9 @@ ghost use Rattle.tclexpr.specs.Text.{expr_of};
 ghost use Rattle.tclexpr.specs.Owned as expressions;
 ghost use Rattle.tcltext.specs.Numerals.{numeral};
 ghost use Rattle.tclvalue.specs.Faults.{Gives, GivesText, HasReason};
+ghost use Rattle.tclchars.specs.Runs.{begins};
 ghost use Rattle.tclchars.specs.Whole.{Reads};
-ghost use Rattle.tclrules.specs.Expressions.{omitted_at, function_named, fault_of, parsed, normal};
+ghost use Rattle.tclrules.specs.Expressions.{omitted_at, begins_letter, is_operator, function_named, fault_of, parsed, normal};
 ghost use Rattle.tcleval.specs.Runs.{IsReasonOf, value_fault};
 
 use std::alloc::{AllocError, Global};
@@ -58,11 +59,25 @@ fn behind(text: &str, place: usize) -> Option<&str>
     }
 }
 
-fn begins_letter(text: &str) -> bool {
+fn begins_letter(text: &str) -> bool
+    ensures { result ≡ begins_letter text.now }
+{
     match text.as_bytes() {
-        [first, ..] => first.is_ascii_alphabetic() || *first == b'_',
+        [first, ..] => *first == b'_' || first.is_ascii_alphabetic(),
         [] => false,
     }
+}
+
+fn opens(text: &str) -> bool
+    ensures { result ≡ begins 40 text.now }
+{
+    text.as_bytes().first() == Some(&b'(')
+}
+
+fn is_operator(text: &str) -> bool
+    ensures { result ≡ is_operator text.now }
+{
+    matches!(text, "eq" | "ne" | "in" | "ni")
 }
 
 /// The name of a function before its parenthesis.
@@ -70,10 +85,11 @@ fn function_named(text: &str) -> Option<&str>
     ensures { option_map (λ name. name.now) result ≡ function_named text.now }
 {
     let (name, rest) = split_front(text, Class::Name);
-    if begins_letter(text) && rest.as_bytes().first() == Some(&b'(') && !matches!(name, "eq" | "ne" | "in" | "ni") {
-        return Some(name);
+    if begins_letter(text) && opens(rest) && !is_operator(name) {
+        Some(name)
+    } else {
+        None
     }
-    None
 }
 
 /// The name of the operator or function that is left out, where a text begins with one.
@@ -95,16 +111,26 @@ fn of_text(fault: TextFault) -> ValueFault
     }
 }
 
+/// What is left out at a place of a text.
+fn omitted_from(text: &str, place: usize) -> Option<&str>
+    ensures { option_map (λ name. name.now) result ≡ omitted_at (drop place text.now) }
+{
+    match behind(text, place) {
+        Some(rest) => omitted_at(rest),
+        None => None,
+    }
+}
+
 /// What the fault of an expression is to whoever evaluates it.
 fn expr_fault(alloc: Global, text: &str, fault: TextFault) -> ValueFault
     ensures { IsReasonOf text.now fault result }
 {
-    let TextFault::BadExpression(place) = fault else {
-        return of_text(fault);
-    };
-    match behind(text, place).and_then(omitted_at) {
-        Some(name) => left_out(alloc, name),
-        None => ValueFault::Text(TextFault::BadExpression(place)),
+    match fault {
+        TextFault::BadExpression(place) => match omitted_from(text, place) {
+            Some(name) => left_out(alloc, name),
+            None => ValueFault::Text(TextFault::BadExpression(place)),
+        },
+        fault => of_text(fault),
     }
 }
 

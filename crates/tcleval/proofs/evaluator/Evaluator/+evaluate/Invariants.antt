@@ -60,16 +60,19 @@ abbrev pub decreases-form : goal.decreases-form
 decreases-form g l = 16 * l.left + 7
 
 abbrev pub decreases-called : goal.decreases-called
-decreases-called g l = 16 * l.left + 8
+decreases-called g l = 16 * l.left + 9
+
+abbrev pub decreases-core_command : goal.decreases-core_command
+decreases-core_command g l = 16 * l.left + 8
 
 abbrev pub decreases-words : goal.decreases-words
 decreases-words g l = 16 * l.left + 2
 
 abbrev pub decreases-command : goal.decreases-command
-decreases-command g l = 16 * l.left + 9
+decreases-command g l = 16 * l.left + 10
 
 abbrev pub decreases-commands : goal.decreases-commands
-decreases-commands g l = 16 * l.left + 10
+decreases-commands g l = 16 * l.left + 11
 
 abbrev pub invariant-branches-loop-condition : goal.invariant-branches-loop-condition
 invariant-branches-loop-condition g l =
