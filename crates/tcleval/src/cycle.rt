@@ -19,8 +19,9 @@ ghost use Rattle.tclsteps.specs.Stops.{after};
 ghost use Rattle.tcleval.specs.Runs.{finish, turned, guarded};
 ghost use Rattle.tcleval.specs.Later.{Later};
 
-use crate::endings::{after_next, after_turn};
+use crate::endings::{after_catch, after_next, after_turn};
 use crate::evaluator::{Evaluator, sized};
+use crate::plain::plain;
 use crate::trees::{express_tree, normal, tree_of};
 use crate::words::push_words;
 use tclforms::{Form, core_form};
@@ -439,7 +440,7 @@ impl Evaluator {
         ensures later { Later self.old self.new }
     {
         let outcome = self.script(host, limits, left, body);
-        self.keep_caught(limits, name, outcome)
+        after_catch(self.alloc, &mut self.variables, limits, name, outcome)
     }
 
     /// What the form of a core command does.
@@ -472,7 +473,7 @@ impl Evaluator {
                 self.for_loop(host, limits, left, start, condition, next, body)
             }
             Form::Catch(body, name) => self.catch(host, limits, left, body, name),
-            form => self.plain(host, limits, form),
+            form => plain(self.alloc, &mut self.variables, host, limits, form),
         }
     }
 

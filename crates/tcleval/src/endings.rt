@@ -1,22 +1,20 @@
 //! How a script ended, as what evaluated it goes on.
 ghost use Rattle.std.specs.Prelude.{◌≡◌, ℕ, Option, option_map, string_bytes};
-ghost use Rattle.tclrules.specs.Leads.{Leads, Point, point};
-ghost use Rattle.tclforms.specs.Views.{form_view};
+ghost use Rattle.tclrules.specs.Leads.{Leads, Point};
 ghost use Rattle.tclsteps.specs.Machine.{bounds};
-ghost use Rattle.tclrules.specs.Variables.{State, Frame, in_frame};
+ghost use Rattle.tclrules.specs.Variables.{State};
 ghost use Rattle.tclrules.specs.Plans as plans;
 ghost use Rattle.tclrules.specs.Plans.{Bounds, Job, Next};
-ghost use Rattle.tclrules.specs.Rules as rules;
 ghost use Rattle.tclrules.specs.Rules.{after_turn, after_next, caught, catch_into};
 ghost use Rattle.tclchars.specs.Runs.{Text};
 ghost use Rattle.tclsteps.specs.Stops.{after};
 ghost use Rattle.tcleval.specs.Runs.{ran, turned};
 
-use crate::evaluator::Evaluator;
 use std::alloc::Global;
-use tclforms::Form;
-use tclrules::{Host, Limits};
-use tclsteps::{Halt, Stop};
+use tclcommands::write;
+use tclrules::Limits;
+use tclsteps::Stop;
+use tclvariables::Variables;
 
 /// Whether a loop goes on after its body.
 pub(crate) fn after_turn(outcome: Result<String, Stop>) -> Result<bool, Stop>
@@ -63,43 +61,43 @@ pub(crate) fn catch_outcome(alloc: Global, outcome: Result<String, Stop>) -> Res
     Ok(Caught { code, value })
 }
 
-impl Evaluator {
-    /// Keeps what `catch` makes of a script in the variable, and answers its code.
-    #[tactic(none)]
-    pub(crate) fn keep_caught(
-        &mut self,
-        limits: Limits,
-        name: Option<&str>,
-        outcome: Result<String, Stop>,
-    ) -> Result<String, Stop>
-        ensures comes { (most left : ℕ) (r : Job → plans.Step) (k : Next) (x : Point) → Leads most r
-            (ran outcome (caught (bounds limits.value_bytes left) (option_map (λ v. v.now) name.entry) k) self.old.variables) x
-            (after result (λ t s. k (string_bytes t) s) self.new.variables) x }
-        ensures used { self.new.used ≡ self.old.used }
-    {
-        let caught = catch_outcome(self.alloc, outcome)?;
-        if name.is_some() && limits.value_bytes > 0 {
-            return Err(Stop::Halted(Halt::OutOfMemory));
+/// Keeps what was caught in the variable, where one is named, and answers the code.
+#[tactic(none)]
+fn keep_caught(
+    alloc: Global,
+    variables: &mut Variables,
+    limits: Limits,
+    name: Option<&str>,
+    caught: Caught,
+) -> Result<String, Stop>
+    ensures { (most left : ℕ) (r : Job → plans.Step) (k : Next) (x : Point) → Leads most r
+        (catch_into (bounds limits.value_bytes left) (option_map (λ v. v.now) name.entry) caught.code.now
+            (string_bytes caught.value) variables.old k) x
+        (after result (λ t s. k (string_bytes t) s) variables.new) x }
+{
+    let Caught { code, value } = caught;
+    match name {
+        None => Ok(String::from_str(alloc, code)?),
+        Some(name) => {
+            write(alloc, variables, limits.value_bytes, name, value)?;
+            Ok(String::from_str(alloc, code)?)
         }
-        Ok(String::from_str(self.alloc, caught.code)?)
     }
+}
 
-    /// What the form of a command does that evaluates no script.
-    #[tactic(none)]
-    pub(crate) fn plain<H: Host>(
-        &mut self,
-        host: &mut H,
-        limits: Limits,
-        form: Form<'_>,
-    ) -> Result<String, Stop>
-        ensures comes { (most left : ℕ) (r : Job → plans.Step) (k : Next) → Leads most r
-            (rules.form (bounds limits.value_bytes left) (form_view form.entry) self.old.variables k)
-            (point (H.oracle host.old) (H.told host.old) self.old.used)
-            (after result (λ t s. k (string_bytes t) s) self.new.variables)
-            (point (H.oracle host.new) (H.told host.new) self.new.used) }
-        ensures used { self.new.used ≡ self.old.used }
-    {
-        let _ = (host, limits, form);
-        Err(Stop::Halted(Halt::OutOfMemory))
-    }
+/// What `catch` makes of how a script ended.
+#[tactic(none)]
+pub(crate) fn after_catch(
+    alloc: Global,
+    variables: &mut Variables,
+    limits: Limits,
+    name: Option<&str>,
+    outcome: Result<String, Stop>,
+) -> Result<String, Stop>
+    ensures { (most left : ℕ) (r : Job → plans.Step) (k : Next) (x : Point) → Leads most r
+        (ran outcome (caught (bounds limits.value_bytes left) (option_map (λ v. v.now) name.entry) k) variables.old) x
+        (after result (λ t s. k (string_bytes t) s) variables.new) x }
+{
+    let caught = catch_outcome(alloc, outcome)?;
+    keep_caught(alloc, variables, limits, name, caught)
 }

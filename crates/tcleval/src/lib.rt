@@ -4,5 +4,6 @@
 mod cycle;
 mod endings;
 mod evaluator;
+mod plain;
 mod trees;
 mod words;

@@ -165,7 +165,7 @@ pub catch-script-outcome-requires-text-text : goal.catch-script-outcome-requires
 catch-script-outcome-requires-text-text g t c κs within = search rules
 
 pub catch-returns-clause-comes : goal.catch-returns-clause-comes
-catch-returns-clause-comes g t c = λ k. rw c.keep_caught.ensures.used (go_on (run_after _ _ _ c.script-outcome.ensures.comes) (c.keep_caught.ensures.comes _ c.args.left _ k _))
+catch-returns-clause-comes g t c = λ k. go_on (run_after _ _ _ c.script-outcome.ensures.comes) (c.after_catch.ensures _ c.args.left _ k _)
 
 pub catch-returns-clause-later : goal.catch-returns-clause-later
 catch-returns-clause-later g t c = record { rises = omega arith }
@@ -515,8 +515,8 @@ form-returns-in-Catch-clause-later g t c = record { rises = omega arith }
 
 pub form-returns-in_default : goal.form-returns-in_default
 form-returns-in_default g t c = record {
-  comes = c.plain.ensures.comes _ c.args.left _;
-  later = record { rises = omega (arith, c.plain.ensures.used) };
+  comes = c.plain.ensures _ c.args.left c.args.self.now.used _;
+  later = record { rises = omega arith };
 }
 
 pub guarded_turn-decide-requires-text-text : goal.guarded_turn-decide-requires-text-text
