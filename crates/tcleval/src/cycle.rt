@@ -1,11 +1,12 @@
 //! Scripts, commands, words and expressions, which evaluate one another.
-ghost use Rattle.std.specs.Prelude.{◌≡◌, ◌<◌, [], Bool, true, List, map, option_map, IfOk, string_bytes};
+ghost use Rattle.std.specs.Prelude.{◌≡◌, ◌<◌, ◌∷◌, [], Bool, true, List, map, option_map, IfOk, string_bytes};
 ghost use Rattle.tclchars.specs.Runs.{Text};
 ghost use Rattle.tclscript.specs.Tree.{commands_of, words_of};
 ghost use Rattle.tclscript.specs.View.{script_view, command_view, word_view};
 ghost use Rattle.tclrules.specs.Derivation.{Counts, Runs};
 ghost use Rattle.tclrules.specs.Leads.{Leads, point};
-ghost use Rattle.tclrules.specs.Variables.{State};
+ghost use Rattle.tclrules.specs.Variables.{State, lookup};
+ghost use Rattle.tclvariables.specs.Views.{procedure_view};
 ghost use Rattle.tclrules.specs.Plans as plans;
 ghost use Rattle.tclrules.specs.Plans.{Next, on_normal, sized};
 ghost use Rattle.tclrules.specs.Words as pieces;
@@ -19,15 +20,19 @@ ghost use Rattle.tclsteps.specs.Stops.{after};
 ghost use Rattle.tcleval.specs.Runs.{finish, turned, guarded};
 ghost use Rattle.tcleval.specs.Later.{Later};
 
-use crate::endings::{after_catch, after_next, after_turn};
+use crate::endings::{after_call, after_catch, after_next, after_turn};
 use crate::evaluator::{Evaluator, sized};
-use crate::plain::plain;
+use crate::plain::{plain, unknown};
 use crate::trees::{express_tree, normal, tree_of};
+use crate::turns::begin_turn;
 use crate::words::push_words;
+use tclarguments::{Loops, allotted, chosen};
+use tclcommands::assign;
 use tclforms::{Form, core_form};
 use tclrules::{Host, Limits};
 use tclscript::{ByteRange, Command, Script, Word};
 use tclsteps::{Context, Control, Halt, Step, Stop, advance};
+use tclvariables::Procedure;
 use tclvalue::{concatenated, truth, value_command};
 
 impl Evaluator {
@@ -472,6 +477,11 @@ impl Evaluator {
             Form::For(start, condition, next, body) => {
                 self.for_loop(host, limits, left, start, condition, next, body)
             }
+            Form::Foreach(lists, body) => self.foreach(host, limits, left, lists.as_slice(), body),
+            Form::Switch(by_glob, text, patterns) => {
+                let body = chosen(by_glob, text, patterns.as_slice());
+                self.otherwise(host, limits, left, body)
+            }
             Form::Catch(body, name) => self.catch(host, limits, left, body, name),
             form => plain(self.alloc, &mut self.variables, host, limits, form),
         }
@@ -515,6 +525,7 @@ impl Evaluator {
         operands: &[String],
         words: &[String],
     ) -> Result<String, Stop>
+        requires { map string_bytes words.now ≡ name.now ∷ map string_bytes operands.now }
         ensures comes { (k : Next) → Leads limits.commands (rule limits.value_bytes)
             (rules.core_command (bounds limits.value_bytes left) name.now (map string_bytes operands.now) self.old.variables k
                 (forms.core_form name.now (map string_bytes operands.now)))
@@ -525,7 +536,116 @@ impl Evaluator {
     {
         match core_form(self.alloc, name, operands)? {
             Some(form) => self.form(host, limits, left, form),
-            None => Err(Stop::Halted(Halt::OutOfMemory)),
+            None => self.other_command(host, limits, left, name, operands, words),
+        }
+    }
+
+    /// A command of another name: a procedure, or one for the host.
+    #[cycle(evaluate)]
+    #[tactic(none)]
+    fn other_command<H: Host>(
+        &mut self,
+        host: &mut H,
+        limits: Limits,
+        left: u32,
+        name: &str,
+        operands: &[String],
+        words: &[String],
+    ) -> Result<String, Stop>
+        requires { map string_bytes words.now ≡ name.now ∷ map string_bytes operands.now }
+        ensures comes { (k : Next) → Leads limits.commands (rule limits.value_bytes)
+            (rules.other_command (bounds limits.value_bytes left) name.now (map string_bytes operands.now) self.old.variables k
+                (lookup self.old.variables.procedures name.now))
+            (point (H.oracle host.old) (H.told host.old) self.old.used)
+            (after result (λ t s. k (string_bytes t) s) self.new.variables)
+            (point (H.oracle host.new) (H.told host.new) self.new.used) }
+        ensures later { Later self.old self.new }
+    {
+        match self.variables.procedure(name) {
+            Some(procedure) => {
+                let procedure = procedure.clone()?;
+                self.call(host, limits, left, name, &procedure, operands)
+            }
+            None => unknown(self.alloc, &self.variables, host, name, operands, words),
+        }
+    }
+
+    /// A call of a procedure.
+    #[cycle(evaluate)]
+    #[tactic(none)]
+    fn call<H: Host>(
+        &mut self,
+        host: &mut H,
+        limits: Limits,
+        left: u32,
+        name: &str,
+        procedure: &Procedure,
+        words: &[String],
+    ) -> Result<String, Stop>
+        ensures comes { (k : Next) → Leads limits.commands (rule limits.value_bytes)
+            (rules.call (bounds limits.value_bytes left) name.now (procedure_view procedure.now) (map string_bytes words.now)
+                self.old.variables k)
+            (point (H.oracle host.old) (H.told host.old) self.old.used)
+            (after result (λ t s. k (string_bytes t) s) self.new.variables)
+            (point (H.oracle host.new) (H.told host.new) self.new.used) }
+        ensures later { Later self.old self.new }
+    {
+        let values = allotted(self.alloc, name, &procedure.parameters, words)?;
+        let caller = self.variables.enter(self.alloc);
+        assign(self.alloc, &mut self.variables, limits.value_bytes, values)?;
+        let outcome = self.script(host, limits, left, procedure.body.as_str());
+        self.variables.leave(caller);
+        after_call(self.alloc, outcome)
+    }
+
+    /// foreach(n)
+    #[cycle(evaluate)]
+    #[tactic(none)]
+    fn foreach<H: Host>(
+        &mut self,
+        host: &mut H,
+        limits: Limits,
+        left: u32,
+        lists: &[(&str, &str)],
+        body: &str,
+    ) -> Result<String, Stop>
+        ensures comes { (k : Next) → Leads limits.commands (rule limits.value_bytes)
+            (rules.form (bounds limits.value_bytes left) (forms.Foreach (pair_texts lists.now) body.now) self.old.variables k)
+            (point (H.oracle host.old) (H.told host.old) self.old.used)
+            (after result (λ t s. k (string_bytes t) s) self.new.variables)
+            (point (H.oracle host.new) (H.told host.new) self.new.used) }
+        ensures later { Later self.old self.new }
+    {
+        let mut loops = Loops::of(self.alloc, lists)?;
+        self.foreach_turns(host, limits, left, &mut loops, body)
+    }
+
+    /// The turns of foreach(n) that are left.
+    #[cycle(evaluate)]
+    #[tactic(none)]
+    fn foreach_turns<H: Host>(
+        &mut self,
+        host: &mut H,
+        limits: Limits,
+        left: u32,
+        loops: &mut Loops,
+        body: &str,
+    ) -> Result<String, Stop>
+        ensures comes { (k : Next) → Leads limits.commands (rule limits.value_bytes)
+            (Runs (plans.Foreach left loops.old body.now self.old.variables) (on_normal k))
+            (point (H.oracle host.old) (H.told host.old) self.old.used)
+            (after result (λ t s. k (string_bytes t) s) self.new.variables)
+            (point (H.oracle host.new) (H.told host.new) self.new.used) }
+        ensures later { Later self.old self.new }
+    {
+        loop {
+            if loops.are_done() {
+                return Ok(String::new(self.alloc));
+            }
+            begin_turn(self.alloc, &mut self.variables, limits, loops)?;
+            if !self.turn(host, limits, left, body)? {
+                return Ok(String::new(self.alloc));
+            }
         }
     }
 }

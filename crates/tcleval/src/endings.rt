@@ -2,15 +2,16 @@
 ghost use Rattle.std.specs.Prelude.{◌≡◌, ℕ, Option, option_map, string_bytes};
 ghost use Rattle.tclrules.specs.Leads.{Leads, Point};
 ghost use Rattle.tclsteps.specs.Machine.{bounds};
-ghost use Rattle.tclrules.specs.Variables.{State};
+ghost use Rattle.tclrules.specs.Variables.{State, Frame, in_frame};
 ghost use Rattle.tclrules.specs.Plans as plans;
 ghost use Rattle.tclrules.specs.Plans.{Bounds, Job, Next};
-ghost use Rattle.tclrules.specs.Rules.{after_turn, after_next, caught, catch_into};
+ghost use Rattle.tclrules.specs.Rules.{after_turn, after_next, after_call, caught, catch_into};
 ghost use Rattle.tclchars.specs.Runs.{Text};
 ghost use Rattle.tclsteps.specs.Stops.{after};
 ghost use Rattle.tcleval.specs.Runs.{ran, turned};
 
 use std::alloc::Global;
+use tclarguments::outside_loop;
 use tclcommands::write;
 use tclrules::Limits;
 use tclsteps::Stop;
@@ -100,4 +101,18 @@ pub(crate) fn after_catch(
 {
     let caught = catch_outcome(alloc, outcome)?;
     keep_caught(alloc, variables, limits, name, caught)
+}
+
+/// What a procedure gives back: `break` and `continue` don't leave it.
+#[tactic(none)]
+pub(crate) fn after_call(alloc: Global, outcome: Result<String, Stop>) -> Result<String, Stop>
+    ensures { (most : ℕ) (r : Job → plans.Step) (caller : Option Frame) (k : Next) (s : State) (x : Point) → Leads most r
+        (ran outcome (after_call caller k) s) x (after result (λ t s'. k (string_bytes t) s') (in_frame s caller)) x }
+{
+    match outcome {
+        Ok(value) | Err(Stop::Returned(value)) => Ok(value),
+        Err(Stop::Broken) => Err(Stop::from(outside_loop(alloc, "break"))),
+        Err(Stop::Continued) => Err(Stop::from(outside_loop(alloc, "continue"))),
+        Err(stop) => Err(stop),
+    }
 }

@@ -6,4 +6,5 @@ mod endings;
 mod evaluator;
 mod plain;
 mod trees;
+mod turns;
 mod words;

@@ -1,20 +1,67 @@
 //! Core commands that evaluate no script.
-ghost use Rattle.std.specs.Prelude.{◌≡◌, ℕ, string_bytes};
-ghost use Rattle.tclrules.specs.Leads.{Leads, point};
+ghost use Rattle.std.specs.Prelude.{◌≡◌, ◌∷◌, ℕ, None, map, string_bytes};
+ghost use Rattle.tclrules.specs.Leads.{Leads, Point, point};
+ghost use Rattle.tclrules.specs.Variables.{State};
 ghost use Rattle.tclrules.specs.Plans as plans;
-ghost use Rattle.tclrules.specs.Plans.{Job, Next};
+ghost use Rattle.tclrules.specs.Plans.{Bounds, Job, Next, ended, raise};
 ghost use Rattle.tclrules.specs.Rules as rules;
 ghost use Rattle.tclforms.specs.Views.{form_view};
 ghost use Rattle.tclsteps.specs.Machine.{bounds};
-ghost use Rattle.tclsteps.specs.Stops.{after};
+ghost use Rattle.tclsteps.specs.Stops.{after, stopped};
 ghost use Rattle.tclcommands.specs.Does.{value_text};
 
 use std::alloc::Global;
-use tclcommands::{Value, append, increase, set};
+use tclarguments::is_left_out;
+use tclcommands::{Value, append, exists, get, global, increase, list_append, set};
 use tclforms::Form;
+use tcloperators::left_out;
 use tclrules::{Host, Limits};
 use tclsteps::{Halt, Stop};
 use tclvariables::Variables;
+
+fn returned(alloc: Global, text: &str) -> Stop
+    ensures { (most : ℕ) (r : Job → plans.Step) (s : State) (x : Point)
+        → Leads most r (ended (plans.Returned text.now s)) x (stopped result s) x }
+{
+    match String::from_str(alloc, text) {
+        Ok(text) => Stop::Returned(text),
+        Err(error) => Stop::from(error),
+    }
+}
+
+fn raised(alloc: Global, message: &str) -> Stop
+    ensures { (most : ℕ) (r : Job → plans.Step) (s : State) (x : Point)
+        → Leads most r (raise message.now s) x (stopped result s) x }
+{
+    match String::from_str(alloc, message) {
+        Ok(message) => Stop::Raised(message),
+        Err(error) => Stop::from(error),
+    }
+}
+
+/// What the form of a command does that ends its script.
+#[tactic(none)]
+fn ending_of(alloc: Global, form: &Form<'_>) -> Stop
+    ensures { (most : ℕ) (b : Bounds) (r : Job → plans.Step) (k : Next) (s : State) (x : Point)
+        → Leads most r (rules.form b (form_view form.now) s k) x (stopped result s) x }
+{
+    match form {
+        Form::Return(text) => returned(alloc, text),
+        Form::Error(message) => raised(alloc, message),
+        Form::Break => Stop::Broken,
+        Form::Continue => Stop::Continued,
+        Form::Exit => Stop::Halted(Halt::Stopped),
+        _ => Stop::Halted(Halt::OutOfMemory),
+    }
+}
+
+#[tactic(none)]
+fn ending(alloc: Global, form: Form<'_>) -> Stop
+    ensures { (most : ℕ) (b : Bounds) (r : Job → plans.Step) (k : Next) (s : State) (x : Point)
+        → Leads most r (rules.form b (form_view form.entry) s k) x (stopped result s) x }
+{
+    ending_of(alloc, &form)
+}
 
 /// What the form of a command does that evaluates no script.
 #[tactic(none)]
@@ -31,21 +78,16 @@ fn plain_value<'a, H: Host>(
         (after result (λ v s. k (value_text v s) s) variables.new)
         (point (H.oracle host.new) (H.told host.new) used) }
 {
+    let limit = limits.value_bytes;
     match form {
-        Form::Set(name, value) => set(alloc, variables, limits.value_bytes, name, value),
-        Form::Append(name, values) => append(alloc, variables, limits.value_bytes, name, values),
-        Form::Increase(name, numbers) => {
-            increase(alloc, variables, limits.value_bytes, name, numbers)
-        }
-        Form::Return(text) => Err(Stop::Returned(String::from_str(alloc, text)?)),
-        Form::Break => Err(Stop::Broken),
-        Form::Continue => Err(Stop::Continued),
-        Form::Exit => Err(Stop::Halted(Halt::Stopped)),
-        Form::Error(message) => Err(Stop::Raised(String::from_str(alloc, message)?)),
-        _ => {
-            let _host = host;
-            Err(Stop::Halted(Halt::OutOfMemory))
-        }
+        Form::Get(name) => get(alloc, variables, host, name),
+        Form::Set(name, value) => set(alloc, variables, limit, name, value),
+        Form::Append(name, values) => append(alloc, variables, limit, name, values),
+        Form::ListAppend(name, values) => list_append(alloc, variables, limit, name, values),
+        Form::Increase(name, numbers) => increase(alloc, variables, limit, name, numbers),
+        Form::Exists(name) => exists(alloc, variables, host, name),
+        Form::Global(names) => global(alloc, variables, names),
+        form => Err(ending(alloc, form)),
     }
 }
 
@@ -66,4 +108,31 @@ pub(crate) fn plain<H: Host>(
 {
     let value = plain_value(alloc, variables, host, limits, form)?;
     Ok(value.into_text(alloc, variables)?)
+}
+
+/// A command of a name that is no procedure's: one that is left out, or one for the host.
+#[tactic(none)]
+pub(crate) fn unknown<H: Host>(
+    alloc: Global,
+    variables: &Variables,
+    host: &mut H,
+    name: &str,
+    operands: &[String],
+    words: &[String],
+) -> Result<String, Stop>
+    requires { map string_bytes words.now ≡ name.now ∷ map string_bytes operands.now }
+    ensures { (most used : ℕ) (b : Bounds) (r : Job → plans.Step) (k : Next) → Leads most r
+        (rules.other_command b name.now (map string_bytes operands.now) variables.now k None)
+        (point (H.oracle host.old) (H.told host.old) used)
+        (after result (λ t s. k (string_bytes t) s) variables.now)
+        (point (H.oracle host.new) (H.told host.new) used) }
+{
+    if is_left_out(name) {
+        return Err(Stop::from(left_out(alloc, name)));
+    }
+    let _host = host;
+    let _variables = variables;
+    let _operands = operands;
+    let _words = words;
+    Err(Stop::Halted(Halt::OutOfMemory))
 }

@@ -65,6 +65,18 @@ decreases-called g l = 16 * l.left + 9
 abbrev pub decreases-core_command : goal.decreases-core_command
 decreases-core_command g l = 16 * l.left + 8
 
+abbrev pub decreases-other_command : goal.decreases-other_command
+decreases-other_command g l = 16 * l.left + 2
+
+abbrev pub decreases-call : goal.decreases-call
+decreases-call g l = 16 * l.left + 1
+
+abbrev pub decreases-foreach : goal.decreases-foreach
+decreases-foreach g l = 16 * l.left + 5
+
+abbrev pub decreases-foreach_turns : goal.decreases-foreach_turns
+decreases-foreach_turns g l = 16 * l.left + 4
+
 abbrev pub decreases-words : goal.decreases-words
 decreases-words g l = 16 * l.left + 2
 
@@ -143,3 +155,15 @@ invariant-words-loop-word g l =
       comes : (k : List Text → State → plans.Step) → Leads l.limits.commands (rule l.limits.value_bytes) (pieces.words b (words_of (view l.words)) [] l.fn.self.variables k) (point (o l.fn.host) (t l.fn.host) l.fn.self.used) (pieces.words b (words_of (view (drop l.word-index l.words))) (map string_bytes l.texts.items) l.self.variables k) (point (o l.host) (t l.host) l.self.used);
       later : Later l.fn.self l.self;
     }
+
+abbrev pub invariant-foreach_turns-loop-limits : goal.invariant-foreach_turns-loop-limits
+invariant-foreach_turns-loop-limits g l =
+    let o = g.H.Host.oracle in
+    let t = g.H.Host.told in
+    record {
+      comes : (k : Next) → Leads l.limits.commands (rule l.limits.value_bytes) (Runs (plans.Foreach l.left l.fn.loops l.body l.fn.self.variables) (on_normal k)) (point (o l.fn.host) (t l.fn.host) l.fn.self.used) (Runs (plans.Foreach l.left l.loops l.body l.self.variables) (on_normal k)) (point (o l.host) (t l.host) l.self.used);
+      later : Later l.fn.self l.self;
+    }
+
+abbrev pub decreases-foreach_turns-loop-limits : goal.decreases-foreach_turns-loop-limits
+decreases-foreach_turns-loop-limits g l = l.limits.commands - l.self.used

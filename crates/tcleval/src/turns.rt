@@ -1,0 +1,49 @@
+//! The variables of a turn of foreach(n).
+ghost use Rattle.std.specs.Prelude.{◌≡◌, ℕ, OnOk};
+ghost use Rattle.tclrules.specs.Leads.{Leads, Point};
+ghost use Rattle.tclrules.specs.Variables.{State};
+ghost use Rattle.tclrules.specs.Plans as plans;
+ghost use Rattle.tclrules.specs.Plans.{Job};
+ghost use Rattle.tclrules.specs.Rules.{assign, turn_pairs, shortened};
+ghost use Rattle.tclsteps.specs.Machine.{bounds};
+ghost use Rattle.tclsteps.specs.Stops.{after};
+
+use std::alloc::Global;
+use tclarguments::Loops;
+use tclcommands::assign;
+use tclrules::Limits;
+use tclsteps::Stop;
+use tclvariables::Variables;
+
+#[tactic(none)]
+fn assign_items(
+    alloc: Global,
+    variables: &mut Variables,
+    limits: Limits,
+    loops: &Loops,
+) -> Result<(), Stop>
+    ensures { (most left : ℕ) (r : Job → plans.Step) (k : State → plans.Step) (x : Point) → Leads most r
+        (assign (bounds limits.value_bytes left) (turn_pairs loops.now) variables.old k) x
+        (after result (λ _ s. k s) variables.new) x }
+{
+    let pairs = loops.turn_pairs(alloc)?;
+    assign(alloc, variables, limits.value_bytes, pairs)
+}
+
+/// Gives the variables of a turn their items, which are no longer left then.
+#[tactic(none)]
+pub(crate) fn begin_turn(
+    alloc: Global,
+    variables: &mut Variables,
+    limits: Limits,
+    loops: &mut Loops,
+) -> Result<(), Stop>
+    ensures comes { (most left : ℕ) (r : Job → plans.Step) (k : State → plans.Step) (x : Point) → Leads most r
+        (assign (bounds limits.value_bytes left) (turn_pairs loops.old) variables.old k) x
+        (after result (λ _ s. k s) variables.new) x }
+    ensures rest { OnOk result (loops.new ≡ shortened loops.old) }
+{
+    assign_items(alloc, variables, limits, loops)?;
+    loops.shorten();
+    Ok(())
+}
