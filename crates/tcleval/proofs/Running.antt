@@ -11,18 +11,19 @@ use Rattle.tclscript.specs.declared.tree.Command as rust_command
 use Rattle.tclscript.specs.declared.tree.Word as rust_word
 use Rattle.tclrules.specs.Derivation.{Runs, TooDeep, Halted, Ends}
 use Rattle.tclrules.specs.Variables.{State}
-use Rattle.tclrules.specs.Plans.{Bounds, Ending, Job, Step, Next, on_normal, begin, halt, sized}
+use Rattle.tclrules.specs.Plans as plans
+use Rattle.tclrules.specs.Plans.{Bounds, Ending, Normal, Items, ended, Job, Step, Next, on_normal, begin, halt, sized}
 use Rattle.tclrules.specs.Leads.{Point, Leads}
 use Rattle.tclrules.proofs.Leading.{stay, go_on, starve, run_on, run_halts}
 use Rattle.tclchars.specs.Runs.{Text}
 use Rattle.tclchars.specs.Whole.{FailsWith}
 use Rattle.tclchars.specs.declared.fault.TextFault.{TextFault}
 use Rattle.tclchars.specs.declared.fault.TextFault.TheVariants as texts
-use Rattle.tclvalue.specs.Faults.{Answer, Reason, reason_of, value_too_long}
+use Rattle.tclvalue.specs.Faults.{Answer, Reason, HasReason, reason_of, value_too_long}
 use Rattle.tclvalue.specs.Limits.{limited}
 use Rattle.tcloperators.specs.declared.fault.ValueFault.{ValueFault}
 use Rattle.tcloperators.specs.declared.fault.ValueFault.TheVariants as faults
-use Rattle.tclrules.specs.Rules.{parsed, core_command, body, branches}
+use Rattle.tclrules.specs.Rules.{parsed, core_command, body, branches, are_done, foreach_turns, assign, turn_pairs, turn, shortened}
 use Rattle.tclrules.specs.Expressions.{decide}
 use Rattle.tclrules.specs.Forms.{Form}
 use Rattle.tclforms.specs.Views.{turned, pair_texts}
@@ -72,6 +73,23 @@ on_branch b t ps other k = elim [ true ↦ (λ s. body b t s (on_normal k)) | fa
 
 pub branch_on : {most : ℕ} {r : Job → Step} {p : Step} {x y : Point} (b : Bounds) (xs : List (Bor (List ℕ) × Bor (List ℕ))) (i : ℕ) (d : Bor (List ℕ) × Bor (List ℕ)) (other : Option Text) (s : State) (k : Next) → i < length xs → Leads most r p x (branches b (pair_texts (drop i xs)) other s k) y → Leads most r p x (decide b (get_or xs i d).0.now s (on_branch b (get_or xs i d).1.now (pair_texts (drop (i + 1) xs)) other k)) y
 branch_on b xs i d other s k h l = rw (drop_at xs i d h) at l
+
+-- a fault that has this reason
+pub fault_stops : {most : ℕ} {r : Job → Step} {x : Point} (e : ValueFault) (reason : Reason) (s : State) → HasReason reason e → Leads most r (plans.fault reason s) x (stopped (stop_of e) s) x
+fault_stops faults.OutOfMemory reason s h = starve
+fault_stops (faults.Text f) reason s h = rw (← h) stay
+fault_stops (faults.TclError m) reason s h = rw (← h) stay
+fault_stops faults.ValueTooLong reason s h = rw (← h) stay
+fault_stops faults.NumberTooLarge reason s h = rw (← h) stay
+fault_stops faults.FractionOperand reason s h = rw (← h) stay
+fault_stops (faults.LeftOut n) reason s h = rw (← h) stay
+
+-- a foreach that is done, and one that goes on
+pub foreach_done : {most : ℕ} {r : Job → Step} {x : Point} (b : Bounds) (ls : List Items) (t : Text) (s : State) → are_done ls ≡ true → Leads most r (foreach_turns b ls t s) x (ended (Normal [] s)) x
+foreach_done b ls t s e = rw e stay
+
+pub foreach_more : {most : ℕ} {r : Job → Step} {x : Point} (b : Bounds) (ls : List Items) (t : Text) (s : State) → are_done ls ≡ false → Leads most r (foreach_turns b ls t s) x (assign b (turn_pairs ls) s (λ s1. turn b t s1 (λ s2. Runs (plans.Foreach b.left (shortened ls) t s2) ended))) x
+foreach_more b ls t s e = rw e stay
 
 -- an equation between plans
 pub same_as : {most : ℕ} {r : Job → Step} {p q p' : Step} {x y : Point} → q ≡ p' → Leads most r p x q y → Leads most r p x p' y

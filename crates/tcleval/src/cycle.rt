@@ -32,8 +32,8 @@ use tclforms::{Form, core_form};
 use tclrules::{Host, Limits};
 use tclscript::{ByteRange, Command, Script, Word};
 use tclsteps::{Context, Control, Halt, Step, Stop, advance};
-use tclvariables::Procedure;
 use tclvalue::{concatenated, truth, value_command};
+use tclvariables::Procedure;
 
 impl Evaluator {
     /// A text evaluated as a script.
@@ -124,8 +124,8 @@ impl Evaluator {
     ) -> Result<String, Stop>
         ensures comes { (k : Next) → Leads limits.commands (rule limits.value_bytes)
             (Counts (pieces.words (bounds limits.value_bytes left) (command_view (shown source.now) command.now).words []
-                self.old.variables (λ texts s1. called (bounds limits.value_bytes left) texts s1
-                    (λ u s2. sized limits.value_bytes u (k u s2)))))
+            self.old.variables (λ texts s1. called (bounds limits.value_bytes left) texts s1
+            (λ u s2. sized limits.value_bytes u (k u s2)))))
             (point (H.oracle host.old) (H.told host.old) self.old.used)
             (after result (λ t s. k (string_bytes t) s) self.new.variables)
             (point (H.oracle host.new) (H.told host.new) self.new.used) }
@@ -150,7 +150,7 @@ impl Evaluator {
     ) -> Result<Vec<String>, Stop>
         ensures comes { (k : List Text → State → plans.Step) → Leads limits.commands (rule limits.value_bytes)
             (pieces.words (bounds limits.value_bytes left) (words_of (map (word_view (shown source.now)) words.now)) []
-                self.old.variables k)
+            self.old.variables k)
             (point (H.oracle host.old) (H.told host.old) self.old.used)
             (after result (λ ts s. k (map string_bytes ts.items) s) self.new.variables)
             (point (H.oracle host.new) (H.told host.new) self.new.used) }
@@ -283,7 +283,7 @@ impl Evaluator {
     ) -> Result<bool, Stop>
         ensures comes { (again : State → plans.Step) → Leads limits.commands (rule limits.value_bytes)
             (decide (bounds limits.value_bytes left) condition.now self.old.variables
-                (guarded (bounds limits.value_bytes left) body.now again))
+            (guarded (bounds limits.value_bytes left) body.now again))
             (point (H.oracle host.old) (H.told host.old) self.old.used)
             (after result (turned again) self.new.variables)
             (point (H.oracle host.new) (H.told host.new) self.new.used) }
@@ -411,7 +411,7 @@ impl Evaluator {
     ) -> Result<String, Stop>
         ensures comes { (k : Next) → Leads limits.commands (rule limits.value_bytes)
             (rules.branches (bounds limits.value_bytes left) (pair_texts branches.now) (option_map (λ t. t.now) other.entry)
-                self.old.variables k)
+            self.old.variables k)
             (point (H.oracle host.old) (H.told host.old) self.old.used)
             (after result (λ t s. k (string_bytes t) s) self.new.variables)
             (point (H.oracle host.new) (H.told host.new) self.new.used) }
@@ -438,7 +438,7 @@ impl Evaluator {
     ) -> Result<String, Stop>
         ensures comes { (k : Next) → Leads limits.commands (rule limits.value_bytes)
             (rules.form (bounds limits.value_bytes left) (forms.Catch body.now (option_map (λ v. v.now) name.entry))
-                self.old.variables k)
+            self.old.variables k)
             (point (H.oracle host.old) (H.told host.old) self.old.used)
             (after result (λ t s. k (string_bytes t) s) self.new.variables)
             (point (H.oracle host.new) (H.told host.new) self.new.used) }
@@ -528,7 +528,7 @@ impl Evaluator {
         requires { map string_bytes words.now ≡ name.now ∷ map string_bytes operands.now }
         ensures comes { (k : Next) → Leads limits.commands (rule limits.value_bytes)
             (rules.core_command (bounds limits.value_bytes left) name.now (map string_bytes operands.now) self.old.variables k
-                (forms.core_form name.now (map string_bytes operands.now)))
+            (forms.core_form name.now (map string_bytes operands.now)))
             (point (H.oracle host.old) (H.told host.old) self.old.used)
             (after result (λ t s. k (string_bytes t) s) self.new.variables)
             (point (H.oracle host.new) (H.told host.new) self.new.used) }
@@ -555,7 +555,7 @@ impl Evaluator {
         requires { map string_bytes words.now ≡ name.now ∷ map string_bytes operands.now }
         ensures comes { (k : Next) → Leads limits.commands (rule limits.value_bytes)
             (rules.other_command (bounds limits.value_bytes left) name.now (map string_bytes operands.now) self.old.variables k
-                (lookup self.old.variables.procedures name.now))
+            (lookup self.old.variables.procedures name.now))
             (point (H.oracle host.old) (H.told host.old) self.old.used)
             (after result (λ t s. k (string_bytes t) s) self.new.variables)
             (point (H.oracle host.new) (H.told host.new) self.new.used) }
@@ -584,7 +584,7 @@ impl Evaluator {
     ) -> Result<String, Stop>
         ensures comes { (k : Next) → Leads limits.commands (rule limits.value_bytes)
             (rules.call (bounds limits.value_bytes left) name.now (procedure_view procedure.now) (map string_bytes words.now)
-                self.old.variables k)
+            self.old.variables k)
             (point (H.oracle host.old) (H.told host.old) self.old.used)
             (after result (λ t s. k (string_bytes t) s) self.new.variables)
             (point (H.oracle host.new) (H.told host.new) self.new.used) }

@@ -63,7 +63,6 @@ pub(crate) fn catch_outcome(alloc: Global, outcome: Result<String, Stop>) -> Res
 }
 
 /// Keeps what was caught in the variable, where one is named, and answers the code.
-#[tactic(none)]
 fn keep_caught(
     alloc: Global,
     variables: &mut Variables,
@@ -73,7 +72,7 @@ fn keep_caught(
 ) -> Result<String, Stop>
     ensures { (most left : ℕ) (r : Job → plans.Step) (k : Next) (x : Point) → Leads most r
         (catch_into (bounds limits.value_bytes left) (option_map (λ v. v.now) name.entry) caught.code.now
-            (string_bytes caught.value) variables.old k) x
+        (string_bytes caught.value) variables.old k) x
         (after result (λ t s. k (string_bytes t) s) variables.new) x }
 {
     let Caught { code, value } = caught;
@@ -87,7 +86,6 @@ fn keep_caught(
 }
 
 /// What `catch` makes of how a script ended.
-#[tactic(none)]
 pub(crate) fn after_catch(
     alloc: Global,
     variables: &mut Variables,
@@ -104,13 +102,13 @@ pub(crate) fn after_catch(
 }
 
 /// What a procedure gives back: `break` and `continue` don't leave it.
-#[tactic(none)]
 pub(crate) fn after_call(alloc: Global, outcome: Result<String, Stop>) -> Result<String, Stop>
     ensures { (most : ℕ) (r : Job → plans.Step) (caller : Option Frame) (k : Next) (s : State) (x : Point) → Leads most r
         (ran outcome (after_call caller k) s) x (after result (λ t s'. k (string_bytes t) s') (in_frame s caller)) x }
 {
     match outcome {
-        Ok(value) | Err(Stop::Returned(value)) => Ok(value),
+        Ok(value) => Ok(value),
+        Err(Stop::Returned(value)) => Ok(value),
         Err(Stop::Broken) => Err(Stop::from(outside_loop(alloc, "break"))),
         Err(Stop::Continued) => Err(Stop::from(outside_loop(alloc, "continue"))),
         Err(stop) => Err(stop),

@@ -42,7 +42,7 @@ impl Evaluator {
 pub(crate) fn sized(limits: Limits, text: String) -> Result<String, Stop>
     ensures comes { (most : ℕ) (r : Job → plans.Step) (k : Next) (s : State) (x : Point)
         → Leads most r (sized limits.value_bytes (string_bytes text) (k (string_bytes text) s)) x
-            (after result (λ t s. k (string_bytes t) s) s) x }
+        (after result (λ t s. k (string_bytes t) s) s) x }
 {
     if text.len() > limits.value_bytes {
         return Err(Stop::Halted(Halt::ValueTooLong));

@@ -10,11 +10,13 @@ ghost use Rattle.tclsteps.specs.Machine.{bounds};
 ghost use Rattle.tclsteps.specs.Stops.{after, stopped};
 ghost use Rattle.tclcommands.specs.Does.{value_text};
 
+use crate::trees::left_out;
 use std::alloc::Global;
 use tclarguments::is_left_out;
-use tclcommands::{Value, append, exists, get, global, increase, list_append, set};
+use tclcommands::{
+    Value, append, consult, define, exists, get, global, increase, list_append, put, set, unset,
+};
 use tclforms::Form;
-use tcloperators::left_out;
 use tclrules::{Host, Limits};
 use tclsteps::{Halt, Stop};
 use tclvariables::Variables;
@@ -40,7 +42,6 @@ fn raised(alloc: Global, message: &str) -> Stop
 }
 
 /// What the form of a command does that ends its script.
-#[tactic(none)]
 fn ending_of(alloc: Global, form: &Form<'_>) -> Stop
     ensures { (most : ℕ) (b : Bounds) (r : Job → plans.Step) (k : Next) (s : State) (x : Point)
         → Leads most r (rules.form b (form_view form.now) s k) x (stopped result s) x }
@@ -55,7 +56,6 @@ fn ending_of(alloc: Global, form: &Form<'_>) -> Stop
     }
 }
 
-#[tactic(none)]
 fn ending(alloc: Global, form: Form<'_>) -> Stop
     ensures { (most : ℕ) (b : Bounds) (r : Job → plans.Step) (k : Next) (s : State) (x : Point)
         → Leads most r (rules.form b (form_view form.entry) s k) x (stopped result s) x }
@@ -64,7 +64,6 @@ fn ending(alloc: Global, form: Form<'_>) -> Stop
 }
 
 /// What the form of a command does that evaluates no script.
-#[tactic(none)]
 fn plain_value<'a, H: Host>(
     alloc: Global,
     variables: &mut Variables,
@@ -87,12 +86,14 @@ fn plain_value<'a, H: Host>(
         Form::Increase(name, numbers) => increase(alloc, variables, limit, name, numbers),
         Form::Exists(name) => exists(alloc, variables, host, name),
         Form::Global(names) => global(alloc, variables, names),
+        Form::Unset(quiet, names) => unset(alloc, variables, quiet, names),
+        Form::Define(name, parameters, body) => define(alloc, variables, name, parameters, body),
+        Form::Put(words) => put(alloc, variables, host, words),
         form => Err(ending(alloc, form)),
     }
 }
 
 /// What the form of a command does that evaluates no script, with the text of its result.
-#[tactic(none)]
 pub(crate) fn plain<H: Host>(
     alloc: Global,
     variables: &mut Variables,
@@ -111,7 +112,6 @@ pub(crate) fn plain<H: Host>(
 }
 
 /// A command of a name that is no procedure's: one that is left out, or one for the host.
-#[tactic(none)]
 pub(crate) fn unknown<H: Host>(
     alloc: Global,
     variables: &Variables,
@@ -127,12 +127,10 @@ pub(crate) fn unknown<H: Host>(
         (after result (λ t s. k (string_bytes t) s) variables.now)
         (point (H.oracle host.new) (H.told host.new) used) }
 {
+    let _operands = operands;
     if is_left_out(name) {
         return Err(Stop::from(left_out(alloc, name)));
     }
-    let _host = host;
-    let _variables = variables;
-    let _operands = operands;
-    let _words = words;
-    Err(Stop::Halted(Halt::OutOfMemory))
+    let value = consult(alloc, variables, host, words)?;
+    Ok(value.into_text(alloc, variables)?)
 }

@@ -1,11 +1,12 @@
 //! The trees of texts that are evaluated, and the values of whole expressions.
-ghost use Rattle.std.specs.Prelude.{◌≡◌, None, MatchOption, drop, option_map, string_bytes};
+ghost use Rattle.std.specs.Prelude.{◌≡◌, IfOk, None, MatchOption, drop, option_map, string_bytes};
+ghost use Rattle.std.specs.Fmt.{signed_decimal};
 ghost use Rattle.tclscript.specs.Text.{script_of};
 ghost use Rattle.tclscript.specs.Owned as scripts;
 ghost use Rattle.tclexpr.specs.Text.{expr_of};
 ghost use Rattle.tclexpr.specs.Owned as expressions;
 ghost use Rattle.tcltext.specs.Numerals.{numeral};
-ghost use Rattle.tclvalue.specs.Faults.{Gives, GivesText, HasReason};
+ghost use Rattle.tclvalue.specs.Faults.{Gives, GivesText, HasReason, left_out};
 ghost use Rattle.tclchars.specs.Runs.{begins};
 ghost use Rattle.tclchars.specs.Whole.{Reads};
 ghost use Rattle.tclrules.specs.Expressions.{omitted_at, begins_letter, is_operator, function_named, fault_of, parsed, normal};
@@ -15,7 +16,6 @@ use std::alloc::{AllocError, Global};
 use std::rc::Rc;
 use tclchars::{Class, TextFault, split_front};
 use tclexpr::{OwnedExpr, own_expr};
-use tcloperators::left_out;
 use tclscript::{OwnedScript, own_script};
 use tcltext::{Numeral, read_number};
 use tclvalue::ValueFault;
@@ -102,6 +102,16 @@ fn omitted_at(text: &str) -> Option<&str>
     function_named(text)
 }
 
+/// This name is of what is left out.
+pub(crate) fn left_out(alloc: Global, name: &str) -> ValueFault
+    ensures { HasReason (left_out name.now) result }
+{
+    match String::from_str(alloc, name) {
+        Ok(name) => ValueFault::LeftOut(name),
+        Err(_) => ValueFault::OutOfMemory,
+    }
+}
+
 fn of_text(fault: TextFault) -> ValueFault
     ensures { result ≡ value_fault fault }
 {
@@ -144,7 +154,9 @@ pub(crate) fn express_tree(alloc: Global, text: &str) -> Result<Rc<OwnedExpr>, V
     }
 }
 
-fn decimal(alloc: Global, number: i64) -> Result<String, AllocError> {
+fn decimal(alloc: Global, number: i64) -> Result<String, AllocError>
+    ensures { IfOk result (λ t. string_bytes t ≡ signed_decimal number) }
+{
     format!(in alloc; "{number}")
 }
 

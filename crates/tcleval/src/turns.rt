@@ -15,7 +15,6 @@ use tclrules::Limits;
 use tclsteps::Stop;
 use tclvariables::Variables;
 
-#[tactic(none)]
 fn assign_items(
     alloc: Global,
     variables: &mut Variables,
@@ -31,7 +30,6 @@ fn assign_items(
 }
 
 /// Gives the variables of a turn their items, which are no longer left then.
-#[tactic(none)]
 pub(crate) fn begin_turn(
     alloc: Global,
     variables: &mut Variables,

@@ -16,7 +16,7 @@ pub(crate) fn push_words(
 ) -> Result<(), ValueFault>
     ensures { MatchResult result
         (λ _. (more : List Text) × (expanded expands (string_bytes text) ≡ Ok more)
-            × (map string_bytes texts.new.items ≡ map string_bytes texts.old.items ++ more))
+        × (map string_bytes texts.new.items ≡ map string_bytes texts.old.items ++ more))
         (λ fault. IfSome (reason_of fault) (λ reason. expanded expands (string_bytes text) ≡ Err reason)) }
 {
     if expands {

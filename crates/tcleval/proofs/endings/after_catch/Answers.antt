@@ -1,0 +1,16 @@
+use Rattle.std.proofs.Common.{◌≡◌, ℕ, List, Bor, true, false, None, sym, ap, ◌∙◌, refl, rules, arith, map, option_map}
+use Rattle.std.specs.Prelude.{string_bytes}
+use Rattle.tclrules.specs.Variables.{State}
+use Rattle.tclrules.proofs.Leading.{stay, go_on, starve}
+use Rattle.tclchars.specs.Runs.{Text}
+use Rattle.tclrules.specs.Leads.{point}
+use Rattle.tclsteps.specs.Machine.{bounds}
+use Rattle.tclsteps.proofs.Leading.{starved_end, starved_after, passed_on}
+use Rattle.tcleval.proofs.Running.{same_as, fault_stops}
+use Rattle.tcleval.proofs.endings.after_catch.Goals as goal
+
+pub returns-in_err-caught : goal.returns-in_err-caught
+returns-in_err-caught c = λ most left r k x. passed_on _ _ _ _ c.from_residual.ensures.1 (same_as (c.in_err-caught.ensures (bounds c.args.limits.value_bytes left) (option_map (λ (v : Bor (List ℕ)). v.now) c.args.name) k c.args.variables.now) stay)
+
+pub returns : goal.returns
+returns c = λ most left r k x. go_on (same_as (c.in_ok-caught.ensures (bounds c.args.limits.value_bytes left) (option_map (λ (v : Bor (List ℕ)). v.now) c.args.name) k c.args.variables.now) stay) (c.keep_caught.ensures most left r k x)

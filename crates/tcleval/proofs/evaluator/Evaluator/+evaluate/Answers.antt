@@ -1,0 +1,1078 @@
+use Rattle.std.proofs.Common.{rules, arith, refl, sym, ap, ◌∙◌, ◌≡◌, ◌<◌, [], Bool, true, false, None, List, Bor, get_or, map, option_map, IfOk, string_bytes, ℕ, ◌+◌, ◌-◌, ◌*◌, ◌≤◌, length, ◌∷◌, ◌++◌, drop, reverse}
+use Rattle.tclchars.specs.Runs.{Text}
+use Rattle.tclscript.specs.Tree.{commands_of, words_of}
+use Rattle.tclscript.specs.View.{script_view, command_view, word_view}
+use Rattle.tclrules.specs.Derivation.{Counts, Runs}
+use Rattle.tclrules.specs.Leads.{Leads, point}
+use Rattle.tclrules.specs.Variables.{State}
+use Rattle.tclrules.specs.Plans as plans
+use Rattle.tclrules.specs.Words as pieces
+use Rattle.tclrules.specs.Plans.{Next, on_normal, sized}
+use Rattle.tclrules.specs.Expressions.{express, decide}
+use Rattle.tclrules.specs.Rules.{rule, called, turn}
+use Rattle.tclforms.specs.Views.{form_view, pair_texts}
+use Rattle.tclsteps.specs.Machine.{shown, bounds, control_plan}
+use Rattle.tclsteps.specs.Stops.{after}
+use Rattle.tcleval.specs.Runs.{finish, turned, guarded}
+use Rattle.tcleval.specs.Later.{Later}
+use Rattle.tclrules.specs.Rules as table
+use Rattle.std.proofs.lemmas.Bool.{false≢true}
+use Rattle.std.proofs.lemmas.Result.{err_from_is_err_and}
+use Rattle.std.proofs.lemmas.List.{drop_all}
+use Rattle.tclscript.specs.declared.tree.Word.{out-Word}
+use Rattle.tclscript.specs.declared.piece.ByteRange.{ByteRange}
+use Rattle.tcltext.specs.Numerals.{numeral}
+use Rattle.tclrules.specs.Plans.{given}
+use Rattle.tclrules.specs.Words.{expanded}
+use Rattle.tclrules.specs.Expressions.{normal}
+use Rattle.tclrules.proofs.Leading.{stay, go_on, starve, count_on, count_over, run_on, run_halts, run_tail}
+use Rattle.tclsteps.proofs.Leading.{passed_on, starved_end, starved_after, given_on, value_stops, sized_on, run_stops}
+use Rattle.tclsteps.proofs.Trees.{empty_of, first_and_rest}
+use Rattle.tcleval.proofs.Running.{run_after, run_normal, begin_on, begin_stops, drop_here, same_as, script_commands, command_words, word_parts, later_refl, later_on, text_stops, limited_stops, limited_on, ok_any, counted_on, core_stops, turned_some, turned_none, foreach_done, foreach_more, on_branch, branch_on}
+use Rattle.tcleval.proofs.evaluator.Evaluator.+evaluate.Goals as goal
+
+pub bracket-commands-requires : goal.bracket-commands-requires
+bracket-commands-requires g t c κs within = search rules
+
+pub bracket-overflow_sub-left : goal.bracket-overflow_sub-left
+bracket-overflow_sub-left g t c = omega arith
+
+pub bracket-returns-clause-comes : goal.bracket-returns-clause-comes
+bracket-returns-clause-comes g t c = λ k. run_normal _ _ _ (go_on (begin_on _ _ c.if-left-eq0.false) c.commands.ensures.comes)
+
+pub bracket-returns-clause-later : goal.bracket-returns-clause-later
+bracket-returns-clause-later g t c = record { rises = omega arith }
+
+pub bracket-returns-then-left-eq0-clause-comes : goal.bracket-returns-then-left-eq0-clause-comes
+bracket-returns-then-left-eq0-clause-comes g t c = λ k. run_halts (begin_stops _ _ c.if-left-eq0.true)
+
+pub bracket-returns-then-left-eq0-clause-later : goal.bracket-returns-then-left-eq0-clause-later
+bracket-returns-then-left-eq0-clause-later g t c = record { rises = omega arith }
+
+pub branches-decide-requires : goal.branches-decide-requires
+branches-decide-requires g t c κs within = search rules
+
+pub branches-loop-condition-init : goal.branches-loop-condition-init
+branches-loop-condition-init g t c = record { comes = λ k. stay; later = later_refl }
+
+pub branches-loop-condition-preserved : goal.branches-loop-condition-preserved
+branches-loop-condition-preserved g t c = record {
+  comes = λ k.
+      let b = bounds c.args.limits.value_bytes c.args.left in
+      let i = c.loop-condition.condition-index in
+      let d : Bor (List ℕ) × Bor (List ℕ) = (record { ref_ptr = (0, 0); now = [] }, record { ref_ptr = (0, 0); now = [] }) in
+      let other = option_map (λ (t : Bor (List ℕ)). t.now) c.args.other in
+      let next = on_branch b (get_or c.args.branches.now i d).1.now (pair_texts (drop (i + 1) c.args.branches.now)) other k in
+      let l = branch_on b c.args.branches.now i d other c.loop-condition.self.variables k c.loop-condition-test.true (c.loop-condition.invariant.comes k) in
+      let h = rw c.if-branch.false at (c.in_ok-decide.ensures.comes next) in
+      go_on l h;
+  later = later_on c.loop-condition.invariant.later c.in_ok-decide.ensures.later;
+}
+
+pub branches-loop-condition-smaller : goal.branches-loop-condition-smaller
+branches-loop-condition-smaller g t c = omega arith
+
+pub branches-offset_bounds-branches-condition-index : goal.branches-offset_bounds-branches-condition-index
+branches-offset_bounds-branches-condition-index g t c = omega arith
+
+pub branches-otherwise-requires : goal.branches-otherwise-requires
+branches-otherwise-requires g t c κs within = search rules
+
+pub branches-returns-clause-comes : goal.branches-returns-clause-comes
+branches-returns-clause-comes g t c = λ k.
+    let d = drop_all _ _ c.loop-condition-test.false in
+    go_on (rw d at (c.loop-condition.invariant.comes k)) (c.otherwise.ensures.comes k)
+
+pub branches-returns-clause-later : goal.branches-returns-clause-later
+branches-returns-clause-later g t c = record { rises = omega arith }
+
+pub branches-returns-in_err-decide-clause-comes : goal.branches-returns-in_err-decide-clause-comes
+branches-returns-in_err-decide-clause-comes g t c = λ k.
+    let b = bounds c.args.limits.value_bytes c.args.left in
+    let i = c.loop-condition.condition-index in
+    let d : Bor (List ℕ) × Bor (List ℕ) = (record { ref_ptr = (0, 0); now = [] }, record { ref_ptr = (0, 0); now = [] }) in
+    let other = option_map (λ (t : Bor (List ℕ)). t.now) c.args.other in
+    let next = on_branch b (get_or c.args.branches.now i d).1.now (pair_texts (drop (i + 1) c.args.branches.now)) other k in
+    let l = branch_on b c.args.branches.now i d other c.loop-condition.self.variables k c.loop-condition-test.true (c.loop-condition.invariant.comes k) in
+    passed_on _ _ _ _ c.from_residual.ensures.1 (go_on l (c.in_err-decide.ensures.comes next))
+
+pub branches-returns-in_err-decide-clause-later : goal.branches-returns-in_err-decide-clause-later
+branches-returns-in_err-decide-clause-later g t c = record { rises = omega arith }
+
+pub branches-returns-then-branch-clause-comes : goal.branches-returns-then-branch-clause-comes
+branches-returns-then-branch-clause-comes g t c = λ k.
+    let b = bounds c.args.limits.value_bytes c.args.left in
+    let i = c.loop-condition.condition-index in
+    let d : Bor (List ℕ) × Bor (List ℕ) = (record { ref_ptr = (0, 0); now = [] }, record { ref_ptr = (0, 0); now = [] }) in
+    let other = option_map (λ (t : Bor (List ℕ)). t.now) c.args.other in
+    let next = on_branch b (get_or c.args.branches.now i d).1.now (pair_texts (drop (i + 1) c.args.branches.now)) other k in
+    let l = branch_on b c.args.branches.now i d other c.loop-condition.self.variables k c.loop-condition-test.true (c.loop-condition.invariant.comes k) in
+    let h = rw c.if-branch.true at (c.in_ok-decide.ensures.comes next) in
+    go_on (go_on l h) (run_normal _ _ _ c.script.ensures.comes)
+
+pub branches-returns-then-branch-clause-later : goal.branches-returns-then-branch-clause-later
+branches-returns-then-branch-clause-later g t c = record { rises = omega arith }
+
+pub branches-script-requires : goal.branches-script-requires
+branches-script-requires g t c κs within = search rules
+
+pub branches-slice_bounds-decide-end : goal.branches-slice_bounds-decide-end
+branches-slice_bounds-decide-end g t c = omega arith
+
+pub branches-slice_bounds-script-end : goal.branches-slice_bounds-script-end
+branches-slice_bounds-script-end g t c = omega arith
+
+pub call-allotted-requires-text-name : goal.call-allotted-requires-text-name
+call-allotted-requires-text-name g t c κs = search rules
+
+pub call-returns-clause-comes : goal.call-returns-clause-comes
+call-returns-clause-comes g t c = λ k.
+    let b = bounds c.args.limits.value_bytes c.args.left in
+    let next = λ (s' : State). table.body b (string_bytes c.args.procedure.now.body) s' (table.after_call c.args.self.now.variables.frame k) in
+    let v = rw c.deref.ensures.value at c.in_ok-values.ensures in
+    let a = rw c.enter-caller.ensures.entered at (c.in_ok-assign.ensures c.args.limits.commands c.args.left (rule c.args.limits.value_bytes) next (point (g.H.Host.oracle c.args.host.now) (g.H.Host.told c.args.host.now) c.args.self.now.used)) in
+    let r = rw c.as_str.ensures.value at c.script-outcome.ensures.comes in
+    let l = go_on (go_on (given_on _ _ _ _ v) a) (run_after _ _ _ r) in
+    rw (c.leave.ensures, c.enter-caller.ensures.caller) (go_on l (c.after_call.ensures _ _ c.args.self.now.variables.frame k _ _))
+
+pub call-returns-clause-later : goal.call-returns-clause-later
+call-returns-clause-later g t c = record { rises = omega arith }
+
+pub call-returns-in_err-assign-clause-comes : goal.call-returns-in_err-assign-clause-comes
+call-returns-in_err-assign-clause-comes g t c = λ k.
+    let b = bounds c.args.limits.value_bytes c.args.left in
+    let next = λ (s' : State). table.body b (string_bytes c.args.procedure.now.body) s' (table.after_call c.args.self.now.variables.frame k) in
+    let v = rw c.deref.ensures.value at c.in_ok-values.ensures in
+    let a = rw c.enter-caller.ensures.entered at (c.in_err-assign.ensures c.args.limits.commands c.args.left (rule c.args.limits.value_bytes) next (point (g.H.Host.oracle c.args.host.now) (g.H.Host.told c.args.host.now) c.args.self.now.used)) in
+    passed_on _ _ _ _ c.from_residual-in_err-assign.ensures.1 (go_on (given_on _ _ _ _ v) a)
+
+pub call-returns-in_err-assign-clause-later : goal.call-returns-in_err-assign-clause-later
+call-returns-in_err-assign-clause-later g t c = record { rises = omega arith }
+
+pub call-returns-in_err-values-clause-comes : goal.call-returns-in_err-values-clause-comes
+call-returns-in_err-values-clause-comes g t c = λ k.
+    let h = rw c.deref.ensures.value at c.in_err-values.ensures in
+    value_stops _ _ _ _ _ _ c.from_residual.ensures.1 h
+
+pub call-returns-in_err-values-clause-later : goal.call-returns-in_err-values-clause-later
+call-returns-in_err-values-clause-later g t c = record { rises = omega arith }
+
+pub call-script-outcome-requires : goal.call-script-outcome-requires
+call-script-outcome-requires g t c κs within = search rules
+
+pub called-core_command-requires : goal.called-core_command-requires
+called-core_command-requires g t c κs within =
+    let e = rw (← c.as_str.ensures.value) at (ap (map string_bytes) c.in-Some.ensures.cases.0) in
+    (search rules, (search rules, e))
+
+pub called-returns-in-None-clause-comes : goal.called-returns-in-None-clause-comes
+called-returns-in-None-clause-comes g t c = λ k.
+    let e = c.in-Some.ensures.cases.0 in
+    let v = rw (e, c.in-None.is) at c.in_ok-value.ensures in
+    let h = rw c.as_str.ensures.value at (c.core_command.ensures.comes k) in
+    rw e (go_on (given_on _ _ _ _ v) h)
+
+pub called-returns-in-None-clause-later : goal.called-returns-in-None-clause-later
+called-returns-in-None-clause-later g t c = record { rises = omega arith }
+
+pub called-returns-in-Some-2-clause-comes : goal.called-returns-in-Some-2-clause-comes
+called-returns-in-Some-2-clause-comes g t c = λ k.
+    let e = c.in-Some.ensures.cases.0 in
+    let h = rw (e, c.in-Some-2.is) at c.in_ok-value.ensures in
+    rw e (given_on _ _ _ _ h)
+
+pub called-returns-in-Some-2-clause-later : goal.called-returns-in-Some-2-clause-later
+called-returns-in-Some-2-clause-later g t c = record { rises = omega arith }
+
+pub called-returns-in_default-clause-comes : goal.called-returns-in_default-clause-comes
+called-returns-in_default-clause-comes g t c = λ k.
+    let e : c.args.words.now ≡ [] = empty_of _ (omega (arith, c.in_default.ensures.cases)) in
+    rw (e, c.new.ensures.bytes) stay
+
+pub called-returns-in_default-clause-later : goal.called-returns-in_default-clause-later
+called-returns-in_default-clause-later g t c = record { rises = omega arith }
+
+pub called-returns-in_err-value-clause-comes : goal.called-returns-in_err-value-clause-comes
+called-returns-in_err-value-clause-comes g t c = λ k.
+    let e = c.in-Some.ensures.cases.0 in
+    let h = rw e at c.in_err-value.ensures in
+    rw e (value_stops _ _ _ _ _ _ c.from_residual.ensures.1 h)
+
+pub called-returns-in_err-value-clause-later : goal.called-returns-in_err-value-clause-later
+called-returns-in_err-value-clause-later g t c = record { rises = omega arith }
+
+pub catch-returns-clause-comes : goal.catch-returns-clause-comes
+catch-returns-clause-comes g t c = λ k. go_on (run_after _ _ _ c.script-outcome.ensures.comes) (c.after_catch.ensures _ c.args.left _ k _)
+
+pub catch-returns-clause-later : goal.catch-returns-clause-later
+catch-returns-clause-later g t c = record { rises = omega arith }
+
+pub catch-script-outcome-requires : goal.catch-script-outcome-requires
+catch-script-outcome-requires g t c κs within = search rules
+
+pub command-called-requires : goal.command-called-requires
+command-called-requires g t c κs within = search rules
+
+pub command-returns-clause-comes : goal.command-returns-clause-comes
+command-returns-clause-comes g t c = λ k.
+    let b = bounds c.args.limits.value_bytes c.args.left in
+    let h = c.in_ok-count.ensures in
+    let v = command_words (shown c.args.source.now) c.args.command.now in
+    let w = rw (h.variables, h.counted.1, c.deref.ensures.value) at (c.in_ok-texts.ensures.comes (λ texts s1. called b texts s1 (λ u s2. sized c.args.limits.value_bytes u (k u s2)))) in
+    let l = rw c.deref-2.ensures.value at (c.in_ok-value.ensures.comes (λ u s2. sized c.args.limits.value_bytes u (k u s2))) in
+    rw v (go_on (go_on (go_on (count_on h.counted.0) w) l) (c.sized.ensures.comes _ _ k _ _))
+
+pub command-returns-clause-later : goal.command-returns-clause-later
+command-returns-clause-later g t c = record { rises = omega (arith, c.in_ok-count.ensures.counted.1) }
+
+pub command-returns-in_err-count-clause-comes : goal.command-returns-in_err-count-clause-comes
+command-returns-in_err-count-clause-comes g t c = λ k.
+    let h = c.in_err-count.ensures.counted in
+    passed_on _ _ _ _ c.from_residual.ensures.1 (rw (h.2, h.1) (count_over h.0))
+
+pub command-returns-in_err-count-clause-later : goal.command-returns-in_err-count-clause-later
+command-returns-in_err-count-clause-later g t c = record { rises = omega (arith, c.in_err-count.ensures.counted.1) }
+
+pub command-returns-in_err-texts-clause-comes : goal.command-returns-in_err-texts-clause-comes
+command-returns-in_err-texts-clause-comes g t c = λ k.
+    let b = bounds c.args.limits.value_bytes c.args.left in
+    let h = c.in_ok-count.ensures in
+    let v = command_words (shown c.args.source.now) c.args.command.now in
+    let w = rw (h.variables, h.counted.1, c.deref.ensures.value) at (c.in_err-texts.ensures.comes (λ texts s1. called b texts s1 (λ u s2. sized c.args.limits.value_bytes u (k u s2)))) in
+    passed_on _ _ _ _ c.from_residual-in_err-texts.ensures.1 (rw v (go_on (count_on h.counted.0) w))
+
+pub command-returns-in_err-texts-clause-later : goal.command-returns-in_err-texts-clause-later
+command-returns-in_err-texts-clause-later g t c = record { rises = omega (arith, c.in_ok-count.ensures.counted.1) }
+
+pub command-returns-in_err-value-clause-comes : goal.command-returns-in_err-value-clause-comes
+command-returns-in_err-value-clause-comes g t c = λ k.
+    let b = bounds c.args.limits.value_bytes c.args.left in
+    let h = c.in_ok-count.ensures in
+    let v = command_words (shown c.args.source.now) c.args.command.now in
+    let w = rw (h.variables, h.counted.1, c.deref.ensures.value) at (c.in_ok-texts.ensures.comes (λ texts s1. called b texts s1 (λ u s2. sized c.args.limits.value_bytes u (k u s2)))) in
+    let l = rw c.deref-2.ensures.value at (c.in_err-value.ensures.comes (λ u s2. sized c.args.limits.value_bytes u (k u s2))) in
+    passed_on _ _ _ _ c.from_residual-in_err-value.ensures.1 (rw v (go_on (go_on (count_on h.counted.0) w) l))
+
+pub command-returns-in_err-value-clause-later : goal.command-returns-in_err-value-clause-later
+command-returns-in_err-value-clause-later g t c = record { rises = omega (arith, c.in_ok-count.ensures.counted.1) }
+
+pub command-words-requires : goal.command-words-requires
+command-words-requires g t c κs within = search rules
+
+pub commands-command-requires : goal.commands-command-requires
+commands-command-requires g t c κs within = search rules
+
+pub commands-loop-command-init : goal.commands-loop-command-init
+commands-loop-command-init g t c = record { comes = rw (c.new-last.ensures.bytes, script_commands (shown c.args.source.now) c.args.script.now) stay; later = later_refl }
+
+pub commands-loop-command-preserved : goal.commands-loop-command-preserved
+commands-loop-command-preserved g t c =
+    let s = c.deref-command-items.ensures.value in
+    let d = drop_here _ _ _ (rw s at c.loop-command-test.true) (rw s at c.command-item.is) in
+    let l = rw d at c.loop-command.invariant.comes in
+    record { comes = go_on l (c.in_ok-last.ensures.comes _); later = later_on c.loop-command.invariant.later c.in_ok-last.ensures.later }
+
+pub commands-loop-command-smaller : goal.commands-loop-command-smaller
+commands-loop-command-smaller g t c = omega arith
+
+pub commands-offset_bounds-command-items-command-index : goal.commands-offset_bounds-command-items-command-index
+commands-offset_bounds-command-items-command-index g t c = omega arith
+
+pub commands-returns-clause-comes : goal.commands-returns-clause-comes
+commands-returns-clause-comes g t c =
+    let s = c.deref-command-items.ensures.value in
+    let d = drop_all _ _ (rw s at c.loop-command-test.false) in
+    rw d at c.loop-command.invariant.comes
+
+pub commands-returns-clause-later : goal.commands-returns-clause-later
+commands-returns-clause-later g t c = record { rises = omega arith }
+
+pub commands-returns-in_err-last-clause-comes : goal.commands-returns-in_err-last-clause-comes
+commands-returns-in_err-last-clause-comes g t c =
+    let s = c.deref-command-items.ensures.value in
+    let d = drop_here _ _ _ (rw s at c.loop-command-test.true) (rw s at c.command-item.is) in
+    let l = rw d at c.loop-command.invariant.comes in
+    passed_on _ _ _ _ c.from_residual.ensures.1 (go_on l (c.in_err-last.ensures.comes _))
+
+pub commands-returns-in_err-last-clause-later : goal.commands-returns-in_err-last-clause-later
+commands-returns-in_err-last-clause-later g t c = record { rises = omega arith }
+
+pub core_command-core_form-requires-text-name : goal.core_command-core_form-requires-text-name
+core_command-core_form-requires-text-name g t c κs = search rules
+
+pub core_command-form-requires : goal.core_command-form-requires
+core_command-form-requires g t c κs within = search rules
+
+pub core_command-other_command-requires : goal.core_command-other_command-requires
+core_command-other_command-requires g t c κs within = (search rules, (search rules, search rules))
+
+pub core_command-returns-in-None-clause-comes : goal.core_command-returns-in-None-clause-comes
+core_command-returns-in-None-clause-comes g t c = λ k.
+    let h = rw c.in-None.is at c.in_ok-form.ensures in
+    rw (turned_none _ h) (c.other_command.ensures.comes k)
+
+pub core_command-returns-in-None-clause-later : goal.core_command-returns-in-None-clause-later
+core_command-returns-in-None-clause-later g t c = record { rises = omega arith }
+
+pub core_command-returns-in-Some-clause-comes : goal.core_command-returns-in-Some-clause-comes
+core_command-returns-in-Some-clause-comes g t c = λ k.
+    let h = rw c.in-Some.is at c.in_ok-form.ensures in
+    rw (turned_some _ _ h) (c.form.ensures.comes k)
+
+pub core_command-returns-in-Some-clause-later : goal.core_command-returns-in-Some-clause-later
+core_command-returns-in-Some-clause-later g t c = record { rises = omega arith }
+
+pub core_command-returns-in_err-form-clause-comes : goal.core_command-returns-in_err-form-clause-comes
+core_command-returns-in_err-form-clause-comes g t c = λ k. passed_on _ _ _ _ c.from_residual.ensures.1 (core_stops (bounds c.args.limits.value_bytes c.args.left) c.args.name.now (map string_bytes c.args.operands.now) c.args.self.now.variables k _ _ c.in_err-form.ensures)
+
+pub core_command-returns-in_err-form-clause-later : goal.core_command-returns-in_err-form-clause-later
+core_command-returns-in_err-form-clause-later g t c = record { rises = omega arith }
+
+pub decide-express-requires : goal.decide-express-requires
+decide-express-requires g t c κs within = search rules
+
+pub decide-returns-clause-comes : goal.decide-returns-clause-comes
+decide-returns-clause-comes g t c = λ k.
+    let h = rw c.as_str.ensures.value at c.in_ok-truth.ensures in
+    go_on (c.in_ok-value.ensures.comes _) (given_on _ _ _ _ h)
+
+pub decide-returns-clause-later : goal.decide-returns-clause-later
+decide-returns-clause-later g t c = record { rises = omega arith }
+
+pub decide-returns-in_err-truth-clause-comes : goal.decide-returns-in_err-truth-clause-comes
+decide-returns-in_err-truth-clause-comes g t c = λ k.
+    let h = rw c.as_str.ensures.value at c.in_err-truth.ensures in
+    go_on (c.in_ok-value.ensures.comes _) (value_stops _ _ _ _ _ _ c.from_residual-in_err-truth.ensures.1 h)
+
+pub decide-returns-in_err-truth-clause-later : goal.decide-returns-in_err-truth-clause-later
+decide-returns-in_err-truth-clause-later g t c = record { rises = omega arith }
+
+pub decide-returns-in_err-value-clause-comes : goal.decide-returns-in_err-value-clause-comes
+decide-returns-in_err-value-clause-comes g t c = λ k. passed_on _ _ _ _ c.from_residual.ensures.1 (c.in_err-value.ensures.comes _)
+
+pub decide-returns-in_err-value-clause-later : goal.decide-returns-in_err-value-clause-later
+decide-returns-in_err-value-clause-later g t c = record { rises = omega arith }
+
+pub decide-truth-requires-text-text : goal.decide-truth-requires-text-text
+decide-truth-requires-text-text g t c κs = search rules
+
+pub express-express_tree-requires-text-text : goal.express-express_tree-requires-text-text
+express-express_tree-requires-text-text g t c κs = search rules
+
+pub express-returns-clause-comes : goal.express-returns-clause-comes
+express-returns-clause-comes g t c = λ k.
+    let h = rw (c.as_str.ensures.value, c.deref-2.ensures, c.deref.ensures) at (c.in_ok-value.ensures.comes (λ v s'. given (normal v (numeral v)) s' (λ u. sized c.args.limits.value_bytes u (k u s')))) in
+    let l = go_on (given_on _ _ _ _ c.in_ok-tree.ensures) h in
+    go_on (go_on l (given_on _ _ _ _ c.in_ok-value-2.ensures)) (c.sized.ensures.comes _ _ k _ _)
+
+pub express-returns-clause-later : goal.express-returns-clause-later
+express-returns-clause-later g t c = record { rises = omega arith }
+
+pub express-returns-in_err-tree-clause-comes : goal.express-returns-in_err-tree-clause-comes
+express-returns-in_err-tree-clause-comes g t c = λ k. value_stops _ _ _ _ _ _ c.from_residual.ensures.1 c.in_err-tree.ensures
+
+pub express-returns-in_err-tree-clause-later : goal.express-returns-in_err-tree-clause-later
+express-returns-in_err-tree-clause-later g t c = record { rises = omega arith }
+
+pub express-returns-in_err-value-2-clause-comes : goal.express-returns-in_err-value-2-clause-comes
+express-returns-in_err-value-2-clause-comes g t c = λ k.
+    let h = rw (c.as_str.ensures.value, c.deref-2.ensures, c.deref.ensures) at (c.in_ok-value.ensures.comes (λ v s'. given (normal v (numeral v)) s' (λ u. sized c.args.limits.value_bytes u (k u s')))) in
+    let l = go_on (given_on _ _ _ _ c.in_ok-tree.ensures) h in
+    go_on l (value_stops _ _ _ _ _ _ c.from_residual-in_err-value-2.ensures.1 c.in_err-value-2.ensures)
+
+pub express-returns-in_err-value-2-clause-later : goal.express-returns-in_err-value-2-clause-later
+express-returns-in_err-value-2-clause-later g t c = record { rises = omega arith }
+
+pub express-returns-in_err-value-clause-comes : goal.express-returns-in_err-value-clause-comes
+express-returns-in_err-value-clause-comes g t c = λ k.
+    let h = rw (c.as_str.ensures.value, c.deref-2.ensures, c.deref.ensures) at (c.in_err-value.ensures.comes (λ v s'. given (normal v (numeral v)) s' (λ u. sized c.args.limits.value_bytes u (k u s')))) in
+    let l = go_on (given_on _ _ _ _ c.in_ok-tree.ensures) h in
+    passed_on _ _ _ _ c.from_residual-in_err-value.ensures.1 l
+
+pub express-returns-in_err-value-clause-later : goal.express-returns-in_err-value-clause-later
+express-returns-in_err-value-clause-later g t c = record { rises = omega arith }
+
+pub express-value-requires : goal.express-value-requires
+express-value-requires g t c κs within = search rules
+
+pub for_loop-for_turns-requires : goal.for_loop-for_turns-requires
+for_loop-for_turns-requires g t c κs within = search rules
+
+pub for_loop-returns-clause-comes : goal.for_loop-returns-clause-comes
+for_loop-returns-clause-comes g t c = λ k. go_on (run_on c.in_ok-script.ensures.comes) (c.for_turns.ensures.comes k)
+
+pub for_loop-returns-clause-later : goal.for_loop-returns-clause-later
+for_loop-returns-clause-later g t c = record { rises = omega arith }
+
+pub for_loop-returns-in_err-script-clause-comes : goal.for_loop-returns-in_err-script-clause-comes
+for_loop-returns-in_err-script-clause-comes g t c = λ k. passed_on _ _ _ _ c.from_residual.ensures.1 (run_stops _ _ c.in_err-script.ensures.comes)
+
+pub for_loop-returns-in_err-script-clause-later : goal.for_loop-returns-in_err-script-clause-later
+for_loop-returns-in_err-script-clause-later g t c = record { rises = omega arith }
+
+pub for_loop-script-requires : goal.for_loop-script-requires
+for_loop-script-requires g t c κs within = search rules
+
+pub for_turns-guarded_turn-requires : goal.for_turns-guarded_turn-requires
+for_turns-guarded_turn-requires g t c κs within = search rules
+
+pub for_turns-loop-self-init : goal.for_turns-loop-self-init
+for_turns-loop-self-init g t c = record { comes = λ k. stay; later = later_refl }
+
+pub for_turns-loop-self-preserved : goal.for_turns-loop-self-preserved
+for_turns-loop-self-preserved g t c = record {
+  comes = λ k.
+      let again = λ (s3 : State). Runs (plans.For c.args.left c.args.condition.now c.args.next.now c.args.body.now s3) plans.ended in
+      let between = λ (s2 : State). table.body (bounds c.args.limits.value_bytes c.args.left) c.args.next.now s2 (table.after_next again) in
+      let h = rw c.if-not-branch.false at (c.in_ok-guarded_turn.ensures.comes between) in
+      let n = go_on h (run_after (table.after_next again) _ _ c.script.ensures.comes) in
+      let e = rw c.if-not-branch-2.false at (c.in_ok-after_next.ensures again c.script.new.self.variables) in
+      go_on (c.loop-self.invariant.comes k) (run_tail (same_as e n));
+  later = later_on (later_on c.loop-self.invariant.later c.in_ok-guarded_turn.ensures.later) c.script.ensures.later;
+}
+
+pub for_turns-loop-self-smaller : goal.for_turns-loop-self-smaller
+for_turns-loop-self-smaller g t c =
+    let h = c.in_ok-guarded_turn.ensures.counted c.if-not-branch.false in
+    omega (arith, h.0, h.1, c.script.ensures.later.rises)
+
+pub for_turns-returns-in_err-after_next-clause-comes : goal.for_turns-returns-in_err-after_next-clause-comes
+for_turns-returns-in_err-after_next-clause-comes g t c = λ k.
+    let again = λ (s3 : State). Runs (plans.For c.args.left c.args.condition.now c.args.next.now c.args.body.now s3) plans.ended in
+    let between = λ (s2 : State). table.body (bounds c.args.limits.value_bytes c.args.left) c.args.next.now s2 (table.after_next again) in
+    let h = rw c.if-not-branch.false at (c.in_ok-guarded_turn.ensures.comes between) in
+    let n = go_on h (run_after (table.after_next again) _ _ c.script.ensures.comes) in
+    passed_on _ _ _ _ c.from_residual-in_err-after_next.ensures.1 (go_on (c.loop-self.invariant.comes k) (run_stops _ _ (same_as (c.in_err-after_next.ensures again _) n)))
+
+pub for_turns-returns-in_err-after_next-clause-later : goal.for_turns-returns-in_err-after_next-clause-later
+for_turns-returns-in_err-after_next-clause-later g t c = record { rises = omega arith }
+
+pub for_turns-returns-in_err-guarded_turn-clause-comes : goal.for_turns-returns-in_err-guarded_turn-clause-comes
+for_turns-returns-in_err-guarded_turn-clause-comes g t c = λ k.
+    let again = λ (s3 : State). Runs (plans.For c.args.left c.args.condition.now c.args.next.now c.args.body.now s3) plans.ended in
+    let between = λ (s2 : State). table.body (bounds c.args.limits.value_bytes c.args.left) c.args.next.now s2 (table.after_next again) in
+    passed_on _ _ _ _ c.from_residual.ensures.1 (go_on (c.loop-self.invariant.comes k) (run_stops _ _ (c.in_err-guarded_turn.ensures.comes between)))
+
+pub for_turns-returns-in_err-guarded_turn-clause-later : goal.for_turns-returns-in_err-guarded_turn-clause-later
+for_turns-returns-in_err-guarded_turn-clause-later g t c = record { rises = omega arith }
+
+pub for_turns-returns-then-not-branch-2-clause-comes : goal.for_turns-returns-then-not-branch-2-clause-comes
+for_turns-returns-then-not-branch-2-clause-comes g t c = λ k.
+    let again = λ (s3 : State). Runs (plans.For c.args.left c.args.condition.now c.args.next.now c.args.body.now s3) plans.ended in
+    let between = λ (s2 : State). table.body (bounds c.args.limits.value_bytes c.args.left) c.args.next.now s2 (table.after_next again) in
+    let h = rw c.if-not-branch.false at (c.in_ok-guarded_turn.ensures.comes between) in
+    let n = go_on h (run_after (table.after_next again) _ _ c.script.ensures.comes) in
+    let e = rw c.if-not-branch-2.true at (c.in_ok-after_next.ensures again c.script.new.self.variables) in
+    rw c.new-then-not-branch-2.ensures.bytes (go_on (c.loop-self.invariant.comes k) (run_on (same_as e n)))
+
+pub for_turns-returns-then-not-branch-2-clause-later : goal.for_turns-returns-then-not-branch-2-clause-later
+for_turns-returns-then-not-branch-2-clause-later g t c = record { rises = omega arith }
+
+pub for_turns-returns-then-not-branch-clause-comes : goal.for_turns-returns-then-not-branch-clause-comes
+for_turns-returns-then-not-branch-clause-comes g t c = λ k.
+    let again = λ (s3 : State). Runs (plans.For c.args.left c.args.condition.now c.args.next.now c.args.body.now s3) plans.ended in
+    let between = λ (s2 : State). table.body (bounds c.args.limits.value_bytes c.args.left) c.args.next.now s2 (table.after_next again) in
+    let h = rw c.if-not-branch.true at (c.in_ok-guarded_turn.ensures.comes between) in
+    rw c.new.ensures.bytes (go_on (c.loop-self.invariant.comes k) (run_on h))
+
+pub for_turns-returns-then-not-branch-clause-later : goal.for_turns-returns-then-not-branch-clause-later
+for_turns-returns-then-not-branch-clause-later g t c = record { rises = omega arith }
+
+pub for_turns-script-requires : goal.for_turns-script-requires
+for_turns-script-requires g t c κs within = search rules
+
+pub foreach-foreach_turns-requires : goal.foreach-foreach_turns-requires
+foreach-foreach_turns-requires g t c κs within = search rules
+
+pub foreach-returns-clause-comes : goal.foreach-returns-clause-comes
+foreach-returns-clause-comes g t c = λ k. go_on (given_on _ _ _ _ c.in_ok-loops.ensures) (c.foreach_turns.ensures.comes k)
+
+pub foreach-returns-clause-later : goal.foreach-returns-clause-later
+foreach-returns-clause-later g t c = record { rises = omega arith }
+
+pub foreach-returns-in_err-loops-clause-comes : goal.foreach-returns-in_err-loops-clause-comes
+foreach-returns-in_err-loops-clause-comes g t c = λ k. value_stops _ _ _ _ _ _ c.from_residual.ensures.1 c.in_err-loops.ensures
+
+pub foreach-returns-in_err-loops-clause-later : goal.foreach-returns-in_err-loops-clause-later
+foreach-returns-in_err-loops-clause-later g t c = record { rises = omega arith }
+
+pub foreach_turns-loop-limits-init : goal.foreach_turns-loop-limits-init
+foreach_turns-loop-limits-init g t c = record { comes = λ k. stay; later = later_refl }
+
+pub foreach_turns-loop-limits-preserved : goal.foreach_turns-loop-limits-preserved
+foreach_turns-loop-limits-preserved g t c = record {
+  comes = λ k.
+      let b = bounds c.args.limits.value_bytes c.args.left in
+      let e = sym c.are_done.ensures ∙ c.if-are_done.false in
+      let again = λ (s2 : State). Runs (plans.Foreach c.args.left (table.shortened c.loop-limits.loops) c.args.body.now s2) plans.ended in
+      let next = λ (s1 : State). turn b c.args.body.now s1 again in
+      let here = point (g.H.Host.oracle c.loop-limits.host) (g.H.Host.told c.loop-limits.host) c.loop-limits.self.used in
+      let a = go_on (foreach_more b c.loop-limits.loops c.args.body.now c.loop-limits.self.variables e) (c.in_ok-begin_turn.ensures.comes c.args.limits.commands c.args.left (rule c.args.limits.value_bytes) next here) in
+      let h = rw c.if-not-branch.false at (c.in_ok-turn.ensures.comes again) in
+      rw c.in_ok-begin_turn.ensures.rest (go_on (c.loop-limits.invariant.comes k) (run_tail (go_on a h)));
+  later = record { rises = omega arith };
+}
+
+pub foreach_turns-loop-limits-smaller : goal.foreach_turns-loop-limits-smaller
+foreach_turns-loop-limits-smaller g t c =
+    let h = c.in_ok-turn.ensures.counted in
+    omega (arith, h.0, h.1)
+
+pub foreach_turns-returns-in_err-begin_turn-clause-comes : goal.foreach_turns-returns-in_err-begin_turn-clause-comes
+foreach_turns-returns-in_err-begin_turn-clause-comes g t c = λ k.
+    let b = bounds c.args.limits.value_bytes c.args.left in
+    let e = sym c.are_done.ensures ∙ c.if-are_done.false in
+    let again = λ (s2 : State). Runs (plans.Foreach c.args.left (table.shortened c.loop-limits.loops) c.args.body.now s2) plans.ended in
+    let next = λ (s1 : State). turn b c.args.body.now s1 again in
+    let here = point (g.H.Host.oracle c.loop-limits.host) (g.H.Host.told c.loop-limits.host) c.loop-limits.self.used in
+    let a = go_on (foreach_more b c.loop-limits.loops c.args.body.now c.loop-limits.self.variables e) (c.in_err-begin_turn.ensures.comes c.args.limits.commands c.args.left (rule c.args.limits.value_bytes) next here) in
+    passed_on _ _ _ _ c.from_residual.ensures.1 (go_on (c.loop-limits.invariant.comes k) (run_stops _ _ a))
+
+pub foreach_turns-returns-in_err-begin_turn-clause-later : goal.foreach_turns-returns-in_err-begin_turn-clause-later
+foreach_turns-returns-in_err-begin_turn-clause-later g t c = record { rises = omega arith }
+
+pub foreach_turns-returns-in_err-turn-clause-comes : goal.foreach_turns-returns-in_err-turn-clause-comes
+foreach_turns-returns-in_err-turn-clause-comes g t c = λ k.
+    let b = bounds c.args.limits.value_bytes c.args.left in
+    let e = sym c.are_done.ensures ∙ c.if-are_done.false in
+    let again = λ (s2 : State). Runs (plans.Foreach c.args.left (table.shortened c.loop-limits.loops) c.args.body.now s2) plans.ended in
+    let next = λ (s1 : State). turn b c.args.body.now s1 again in
+    let here = point (g.H.Host.oracle c.loop-limits.host) (g.H.Host.told c.loop-limits.host) c.loop-limits.self.used in
+    let a = go_on (foreach_more b c.loop-limits.loops c.args.body.now c.loop-limits.self.variables e) (c.in_ok-begin_turn.ensures.comes c.args.limits.commands c.args.left (rule c.args.limits.value_bytes) next here) in
+    passed_on _ _ _ _ c.from_residual-in_err-turn.ensures.1 (go_on (c.loop-limits.invariant.comes k) (run_stops _ _ (go_on a (c.in_err-turn.ensures.comes again))))
+
+pub foreach_turns-returns-in_err-turn-clause-later : goal.foreach_turns-returns-in_err-turn-clause-later
+foreach_turns-returns-in_err-turn-clause-later g t c = record { rises = omega arith }
+
+pub foreach_turns-returns-then-are_done-clause-comes : goal.foreach_turns-returns-then-are_done-clause-comes
+foreach_turns-returns-then-are_done-clause-comes g t c = λ k.
+    let b = bounds c.args.limits.value_bytes c.args.left in
+    let e = sym c.are_done.ensures ∙ c.if-are_done.true in
+    rw c.new.ensures.bytes (go_on (c.loop-limits.invariant.comes k) (run_on (foreach_done b c.loop-limits.loops c.args.body.now c.loop-limits.self.variables e)))
+
+pub foreach_turns-returns-then-are_done-clause-later : goal.foreach_turns-returns-then-are_done-clause-later
+foreach_turns-returns-then-are_done-clause-later g t c = record { rises = omega arith }
+
+pub foreach_turns-returns-then-not-branch-clause-comes : goal.foreach_turns-returns-then-not-branch-clause-comes
+foreach_turns-returns-then-not-branch-clause-comes g t c = λ k.
+    let b = bounds c.args.limits.value_bytes c.args.left in
+    let e = sym c.are_done.ensures ∙ c.if-are_done.false in
+    let again = λ (s2 : State). Runs (plans.Foreach c.args.left (table.shortened c.loop-limits.loops) c.args.body.now s2) plans.ended in
+    let next = λ (s1 : State). turn b c.args.body.now s1 again in
+    let here = point (g.H.Host.oracle c.loop-limits.host) (g.H.Host.told c.loop-limits.host) c.loop-limits.self.used in
+    let a = go_on (foreach_more b c.loop-limits.loops c.args.body.now c.loop-limits.self.variables e) (c.in_ok-begin_turn.ensures.comes c.args.limits.commands c.args.left (rule c.args.limits.value_bytes) next here) in
+    let h = rw c.if-not-branch.true at (c.in_ok-turn.ensures.comes again) in
+    rw c.new-then-not-branch.ensures.bytes (go_on (c.loop-limits.invariant.comes k) (run_on (go_on a h)))
+
+pub foreach_turns-returns-then-not-branch-clause-later : goal.foreach_turns-returns-then-not-branch-clause-later
+foreach_turns-returns-then-not-branch-clause-later g t c = record { rises = omega arith }
+
+pub foreach_turns-turn-requires : goal.foreach_turns-turn-requires
+foreach_turns-turn-requires g t c κs within = search rules
+
+pub form-branches-requires : goal.form-branches-requires
+form-branches-requires g t c κs within = search rules
+
+pub form-catch-requires : goal.form-catch-requires
+form-catch-requires g t c κs within = search rules
+
+pub form-chosen-body-requires-text-text : goal.form-chosen-body-requires-text-text
+form-chosen-body-requires-text-text g t c κs = search rules
+
+pub form-express-requires : goal.form-express-requires
+form-express-requires g t c κs within = search rules
+
+pub form-for_loop-requires : goal.form-for_loop-requires
+form-for_loop-requires g t c κs within = search rules
+
+pub form-foreach-requires : goal.form-foreach-requires
+form-foreach-requires g t c κs within = search rules
+
+pub form-otherwise-requires : goal.form-otherwise-requires
+form-otherwise-requires g t c κs within = search rules
+
+pub form-returns-in-Catch-clause-comes : goal.form-returns-in-Catch-clause-comes
+form-returns-in-Catch-clause-comes g t c = λ k. rw c.in-Catch.is (c.catch.ensures.comes k)
+
+pub form-returns-in-Catch-clause-later : goal.form-returns-in-Catch-clause-later
+form-returns-in-Catch-clause-later g t c = record { rises = omega arith }
+
+pub form-returns-in-For-clause-comes : goal.form-returns-in-For-clause-comes
+form-returns-in-For-clause-comes g t c = λ k. rw c.in-For.is (c.for_loop.ensures.comes k)
+
+pub form-returns-in-For-clause-later : goal.form-returns-in-For-clause-later
+form-returns-in-For-clause-later g t c = record { rises = omega arith }
+
+pub form-returns-in-Foreach-clause-comes : goal.form-returns-in-Foreach-clause-comes
+form-returns-in-Foreach-clause-comes g t c = λ k.
+    let h = rw c.as_slice-in-Foreach.ensures.value at (c.foreach.ensures.comes k) in
+    rw c.in-Foreach.is h
+
+pub form-returns-in-Foreach-clause-later : goal.form-returns-in-Foreach-clause-later
+form-returns-in-Foreach-clause-later g t c = record { rises = omega arith }
+
+pub form-returns-in-If-clause-comes : goal.form-returns-in-If-clause-comes
+form-returns-in-If-clause-comes g t c = λ k.
+    let h = rw c.as_slice.ensures.value at (c.branches.ensures.comes k) in
+    rw c.in-If.is h
+
+pub form-returns-in-If-clause-later : goal.form-returns-in-If-clause-later
+form-returns-in-If-clause-later g t c = record { rises = omega arith }
+
+pub form-returns-in-Switch-clause-comes : goal.form-returns-in-Switch-clause-comes
+form-returns-in-Switch-clause-comes g t c = λ k.
+    let e = rw c.as_slice-in-Switch.ensures at c.chosen-body.ensures in
+    rw (c.in-Switch.is, ← e) (c.otherwise.ensures.comes k)
+
+pub form-returns-in-Switch-clause-later : goal.form-returns-in-Switch-clause-later
+form-returns-in-Switch-clause-later g t c = record { rises = omega arith }
+
+pub form-returns-in-While-clause-comes : goal.form-returns-in-While-clause-comes
+form-returns-in-While-clause-comes g t c = λ k. rw c.in-While.is (c.while_turns.ensures.comes k)
+
+pub form-returns-in-While-clause-later : goal.form-returns-in-While-clause-later
+form-returns-in-While-clause-later g t c = record { rises = omega arith }
+
+pub form-returns-in_default : goal.form-returns-in_default
+form-returns-in_default g t c = record {
+  comes = c.plain.ensures _ c.args.left c.args.self.now.used _;
+  later = record { rises = omega arith };
+}
+
+pub form-returns-in_err-text-in-Express-clause-comes : goal.form-returns-in_err-text-in-Express-clause-comes
+form-returns-in_err-text-in-Express-clause-comes g t c = λ k. rw c.in-Express.is (passed_on _ _ _ _ c.from_residual.ensures.1 (limited_stops _ _ _ _ _ c.in_err-text-in-Express.ensures))
+
+pub form-returns-in_err-text-in-Express-clause-later : goal.form-returns-in_err-text-in-Express-clause-later
+form-returns-in_err-text-in-Express-clause-later g t c = record { rises = omega arith }
+
+pub form-returns-in_ok-text-in-Express-clause-comes : goal.form-returns-in_ok-text-in-Express-clause-comes
+form-returns-in_ok-text-in-Express-clause-comes g t c = λ k.
+    let q = limited_on _ _ _ c.in_ok-text-in-Express.ensures in
+    let h = rw (c.as_str.ensures.value, q.1) at (c.express.ensures.comes k) in
+    rw c.in-Express.is (go_on (sized_on _ _ _ q.0) h)
+
+pub form-returns-in_ok-text-in-Express-clause-later : goal.form-returns-in_ok-text-in-Express-clause-later
+form-returns-in_ok-text-in-Express-clause-later g t c = record { rises = omega arith }
+
+pub form-while_turns-requires : goal.form-while_turns-requires
+form-while_turns-requires g t c κs within = search rules
+
+pub guarded_turn-decide-requires : goal.guarded_turn-decide-requires
+guarded_turn-decide-requires g t c κs within = search rules
+
+pub guarded_turn-returns-clause-comes : goal.guarded_turn-returns-clause-comes
+guarded_turn-returns-clause-comes g t c = λ again.
+    let g = guarded (bounds c.args.limits.value_bytes c.args.left) c.args.body.now again in
+    rw c.if-branch.false at (c.in_ok-decide.ensures.comes g)
+
+pub guarded_turn-returns-clause-counted : goal.guarded_turn-returns-clause-counted
+guarded_turn-returns-clause-counted g t c = λ e. absurd (false≢true e)
+
+pub guarded_turn-returns-clause-later : goal.guarded_turn-returns-clause-later
+guarded_turn-returns-clause-later g t c = record { rises = omega arith }
+
+pub guarded_turn-returns-in_err-decide-clause-comes : goal.guarded_turn-returns-in_err-decide-clause-comes
+guarded_turn-returns-in_err-decide-clause-comes g t c = λ again. passed_on _ _ _ _ c.from_residual.ensures.1 (c.in_err-decide.ensures.comes _)
+
+pub guarded_turn-returns-in_err-decide-clause-counted : goal.guarded_turn-returns-in_err-decide-clause-counted
+guarded_turn-returns-in_err-decide-clause-counted g t c =
+    let p = err_from_is_err_and c.from_residual.result c.from_residual.ensures.1 in
+    rw p.1 tt
+
+pub guarded_turn-returns-in_err-decide-clause-later : goal.guarded_turn-returns-in_err-decide-clause-later
+guarded_turn-returns-in_err-decide-clause-later g t c = record { rises = omega arith }
+
+pub guarded_turn-returns-then-branch-clause-comes : goal.guarded_turn-returns-then-branch-clause-comes
+guarded_turn-returns-then-branch-clause-comes g t c = λ again.
+    let g = guarded (bounds c.args.limits.value_bytes c.args.left) c.args.body.now again in
+    let h = rw c.if-branch.true at (c.in_ok-decide.ensures.comes g) in
+    go_on h (c.turn.ensures.comes again)
+
+pub guarded_turn-returns-then-branch-clause-counted : goal.guarded_turn-returns-then-branch-clause-counted
+guarded_turn-returns-then-branch-clause-counted g t c = counted_on c.args.limits.commands c.turn.new.self.used c.args.self.now.used c.decide.new.self.used c.turn.result c.in_ok-decide.ensures.later.rises c.turn.ensures.counted
+
+pub guarded_turn-returns-then-branch-clause-later : goal.guarded_turn-returns-then-branch-clause-later
+guarded_turn-returns-then-branch-clause-later g t c = record { rises = omega arith }
+
+pub guarded_turn-turn-requires : goal.guarded_turn-turn-requires
+guarded_turn-turn-requires g t c κs within = search rules
+
+pub other_command-call-requires : goal.other_command-call-requires
+other_command-call-requires g t c κs within = search rules
+
+pub other_command-procedure-requires-text-name : goal.other_command-procedure-requires-text-name
+other_command-procedure-requires-text-name g t c κs = search rules
+
+pub other_command-returns-in-None-clause-comes : goal.other_command-returns-in-None-clause-comes
+other_command-returns-in-None-clause-comes g t c = λ k. rw (← c.in-None.ensures) (c.unknown.ensures c.args.limits.commands c.args.self.now.used (bounds c.args.limits.value_bytes c.args.left) (rule c.args.limits.value_bytes) k)
+
+pub other_command-returns-in-None-clause-later : goal.other_command-returns-in-None-clause-later
+other_command-returns-in-None-clause-later g t c = record { rises = omega arith }
+
+pub other_command-returns-in_err-procedure-in-Some-clause-comes : goal.other_command-returns-in_err-procedure-in-Some-clause-comes
+other_command-returns-in_err-procedure-in-Some-clause-comes g t c = λ k. starved_end _ _ _ c.from_residual.ensures.1
+
+pub other_command-returns-in_err-procedure-in-Some-clause-later : goal.other_command-returns-in_err-procedure-in-Some-clause-later
+other_command-returns-in_err-procedure-in-Some-clause-later g t c = record { rises = omega arith }
+
+pub other_command-returns-in_ok-procedure-in-Some-clause-comes : goal.other_command-returns-in_ok-procedure-in-Some-clause-comes
+other_command-returns-in_ok-procedure-in-Some-clause-comes g t c = λ k.
+    let d = c.deref.ensures in
+    let q = c.in_ok-procedure-in-Some.ensures in
+    let h = rw (d, q.cases) at (c.call.ensures.comes k) in
+    rw (← c.in-Some.ensures) h
+
+pub other_command-returns-in_ok-procedure-in-Some-clause-later : goal.other_command-returns-in_ok-procedure-in-Some-clause-later
+other_command-returns-in_ok-procedure-in-Some-clause-later g t c = record { rises = omega arith }
+
+pub other_command-unknown-requires : goal.other_command-unknown-requires
+other_command-unknown-requires g t c = search rules
+
+pub otherwise-returns-in-None-clause-comes : goal.otherwise-returns-in-None-clause-comes
+otherwise-returns-in-None-clause-comes g t c = λ k. rw (c.in-None.is, c.new.ensures.bytes) stay
+
+pub otherwise-returns-in-None-clause-later : goal.otherwise-returns-in-None-clause-later
+otherwise-returns-in-None-clause-later g t c = record { rises = omega arith }
+
+pub otherwise-returns-in-Some-clause-comes : goal.otherwise-returns-in-Some-clause-comes
+otherwise-returns-in-Some-clause-comes g t c = λ k. rw c.in-Some.is (run_normal _ _ _ c.script.ensures.comes)
+
+pub otherwise-returns-in-Some-clause-later : goal.otherwise-returns-in-Some-clause-later
+otherwise-returns-in-Some-clause-later g t c = record { rises = omega arith }
+
+pub otherwise-script-requires : goal.otherwise-script-requires
+otherwise-script-requires g t c κs within = search rules
+
+pub script-commands-requires : goal.script-commands-requires
+script-commands-requires g t c κs within = search rules
+
+pub script-overflow_sub-left : goal.script-overflow_sub-left
+script-overflow_sub-left g t c = omega arith
+
+pub script-returns-in-Err-clause-comes : goal.script-returns-in-Err-clause-comes
+script-returns-in-Err-clause-comes g t c = rw c.of_text.ensures (go_on (begin_on _ _ c.if-left-eq0.false) (text_stops _ _ _ _ c.in-Err.ensures))
+
+pub script-returns-in-Err-clause-later : goal.script-returns-in-Err-clause-later
+script-returns-in-Err-clause-later g t c = record { rises = omega arith }
+
+pub script-returns-in-Ok-clause-comes : goal.script-returns-in-Ok-clause-comes
+script-returns-in-Ok-clause-comes g t c =
+    let h = rw (c.as_str.ensures.value, c.deref.ensures, c.deref-in-Ok.ensures) at c.commands.ensures.comes in
+    rw c.in-Ok.ensures (go_on (begin_on _ _ c.if-left-eq0.false) h)
+
+pub script-returns-in-Ok-clause-later : goal.script-returns-in-Ok-clause-later
+script-returns-in-Ok-clause-later g t c = record { rises = omega arith }
+
+pub script-returns-then-left-eq0-clause-comes : goal.script-returns-then-left-eq0-clause-comes
+script-returns-then-left-eq0-clause-comes g t c = begin_stops _ _ c.if-left-eq0.true
+
+pub script-returns-then-left-eq0-clause-later : goal.script-returns-then-left-eq0-clause-later
+script-returns-then-left-eq0-clause-later g t c = record { rises = omega arith }
+
+pub script-tree_of-requires-text-text : goal.script-tree_of-requires-text-text
+script-tree_of-requires-text-text g t c κs = search rules
+
+pub turn-returns-clause-comes : goal.turn-returns-clause-comes
+turn-returns-clause-comes g t c = λ again.
+    let h = c.in_ok-count.ensures in
+    let r = rw (h.variables, h.counted.1) at c.script.ensures.comes in
+    same_as (c.after_turn.ensures again _) (go_on (count_on h.counted.0) (run_after _ _ _ r))
+
+pub turn-returns-clause-counted : goal.turn-returns-clause-counted
+turn-returns-clause-counted g t c =
+    let h = c.in_ok-count.ensures.counted in
+    let p : (c.args.self.now.used < c.args.limits.commands) × (c.args.self.now.used < c.script.new.self.used) = (h.0, omega (arith, h.1, c.script.ensures.later.rises)) in
+    ok_any c.after_turn.result _ p
+
+pub turn-returns-clause-later : goal.turn-returns-clause-later
+turn-returns-clause-later g t c = record { rises = omega (arith, c.in_ok-count.ensures.counted.1) }
+
+pub turn-returns-in_err-count-clause-comes : goal.turn-returns-in_err-count-clause-comes
+turn-returns-in_err-count-clause-comes g t c = λ again.
+    let h = c.in_err-count.ensures.counted in
+    passed_on _ _ _ _ c.from_residual.ensures.1 (rw (h.2, h.1) (count_over h.0))
+
+pub turn-returns-in_err-count-clause-counted : goal.turn-returns-in_err-count-clause-counted
+turn-returns-in_err-count-clause-counted g t c =
+    let p = err_from_is_err_and c.from_residual.result c.from_residual.ensures.1 in
+    rw p.1 tt
+
+pub turn-returns-in_err-count-clause-later : goal.turn-returns-in_err-count-clause-later
+turn-returns-in_err-count-clause-later g t c = record { rises = omega (arith, c.in_err-count.ensures.counted.1) }
+
+pub turn-script-requires : goal.turn-script-requires
+turn-script-requires g t c κs within = search rules
+
+pub value-bracket-requires : goal.value-bracket-requires
+value-bracket-requires g t c κs within = search rules
+
+pub value-fact_in-source : goal.value-fact_in-source
+value-fact_in-source g t c = search rules
+
+pub value-loop-stack-init : goal.value-loop-stack-init
+value-loop-stack-init g t c = record { comes = λ k. rw c.new-stack.ensures.items stay; later = later_refl }
+
+pub value-loop-stack-preserved : goal.value-loop-stack-preserved
+value-loop-stack-preserved g t c =
+    let h = rw c.in-Bracket.is at c.in_ok-next.ensures in
+    record {
+      comes = λ k. go_on (go_on (c.loop-stack.invariant.comes k) (h.0 _ c.loop-stack.self.used c.args.left _ k)) (c.in_ok-value-in-Bracket.ensures.comes _);
+      later = later_on c.loop-stack.invariant.later c.in_ok-value-in-Bracket.ensures.later;
+    }
+
+pub value-loop-stack-preserved-in-Next : goal.value-loop-stack-preserved-in-Next
+value-loop-stack-preserved-in-Next g t c =
+    let h = rw c.in-Next.is at c.in_ok-next.ensures in
+    record { comes = λ k. go_on (c.loop-stack.invariant.comes k) (h.0 _ c.loop-stack.self.used c.args.left _ k); later = c.loop-stack.invariant.later }
+
+pub value-loop-stack-smaller : goal.value-loop-stack-smaller
+value-loop-stack-smaller g t c =
+    let h = rw c.in-Bracket.is at c.in_ok-next.ensures in
+    omega (arith, h.1)
+
+pub value-loop-stack-smaller-in-Next : goal.value-loop-stack-smaller-in-Next
+value-loop-stack-smaller-in-Next g t c =
+    let h = rw c.in-Next.is at c.in_ok-next.ensures in
+    omega (arith, h.1)
+
+pub value-returns-in-Done-clause-comes : goal.value-returns-in-Done-clause-comes
+value-returns-in-Done-clause-comes g t c = λ k.
+    let h = rw c.in-Done.is at c.in_ok-next.ensures in
+    go_on (c.loop-stack.invariant.comes k) (h.0 _ c.loop-stack.self.used c.args.left _ k)
+
+pub value-returns-in-Done-clause-later : goal.value-returns-in-Done-clause-later
+value-returns-in-Done-clause-later g t c = record { rises = omega arith }
+
+pub value-returns-in_err-next-clause-comes : goal.value-returns-in_err-next-clause-comes
+value-returns-in_err-next-clause-comes g t c = λ k. passed_on _ _ _ _ c.from_residual.ensures.1 (go_on (c.loop-stack.invariant.comes k) (c.in_err-next.ensures.0 _ c.loop-stack.self.used c.args.left _ k))
+
+pub value-returns-in_err-next-clause-later : goal.value-returns-in_err-next-clause-later
+value-returns-in_err-next-clause-later g t c = record { rises = omega arith }
+
+pub value-returns-in_err-value-in-Bracket-clause-comes : goal.value-returns-in_err-value-in-Bracket-clause-comes
+value-returns-in_err-value-in-Bracket-clause-comes g t c = λ k.
+    let h = rw c.in-Bracket.is at c.in_ok-next.ensures in
+    passed_on _ _ _ _ c.from_residual-in_err-value-in-Bracket.ensures.1 (go_on (go_on (c.loop-stack.invariant.comes k) (h.0 _ c.loop-stack.self.used c.args.left _ k)) (c.in_err-value-in-Bracket.ensures.comes _))
+
+pub value-returns-in_err-value-in-Bracket-clause-later : goal.value-returns-in_err-value-in-Bracket-clause-later
+value-returns-in_err-value-in-Bracket-clause-later g t c = record { rises = omega arith }
+
+pub while_turns-guarded_turn-requires : goal.while_turns-guarded_turn-requires
+while_turns-guarded_turn-requires g t c κs within = search rules
+
+pub while_turns-loop-init : goal.while_turns-loop-init
+while_turns-loop-init g t c = record { comes = λ k. stay; later = later_refl }
+
+pub while_turns-loop-preserved : goal.while_turns-loop-preserved
+while_turns-loop-preserved g t c = record {
+  comes = λ k.
+      let again = λ (s2 : State). Runs (plans.While c.args.left c.args.condition.now c.args.body.now s2) plans.ended in
+      let h = rw c.if-not-branch.false at (c.in_ok-guarded_turn.ensures.comes again) in
+      go_on (c.loop.invariant.comes k) (run_tail h);
+  later = later_on c.loop.invariant.later c.in_ok-guarded_turn.ensures.later;
+}
+
+pub while_turns-loop-smaller : goal.while_turns-loop-smaller
+while_turns-loop-smaller g t c =
+    let h = c.in_ok-guarded_turn.ensures.counted c.if-not-branch.false in
+    omega (arith, h.0, h.1)
+
+pub while_turns-returns-in_err-guarded_turn-clause-comes : goal.while_turns-returns-in_err-guarded_turn-clause-comes
+while_turns-returns-in_err-guarded_turn-clause-comes g t c = λ k.
+    let again = λ (s2 : State). Runs (plans.While c.args.left c.args.condition.now c.args.body.now s2) plans.ended in
+    passed_on _ _ _ _ c.from_residual.ensures.1 (go_on (c.loop.invariant.comes k) (run_stops _ _ (c.in_err-guarded_turn.ensures.comes again)))
+
+pub while_turns-returns-in_err-guarded_turn-clause-later : goal.while_turns-returns-in_err-guarded_turn-clause-later
+while_turns-returns-in_err-guarded_turn-clause-later g t c = record { rises = omega arith }
+
+pub while_turns-returns-then-not-branch-clause-comes : goal.while_turns-returns-then-not-branch-clause-comes
+while_turns-returns-then-not-branch-clause-comes g t c = λ k.
+    let again = λ (s2 : State). Runs (plans.While c.args.left c.args.condition.now c.args.body.now s2) plans.ended in
+    let h = rw c.if-not-branch.true at (c.in_ok-guarded_turn.ensures.comes again) in
+    rw c.new.ensures.bytes (go_on (c.loop.invariant.comes k) (run_on h))
+
+pub while_turns-returns-then-not-branch-clause-later : goal.while_turns-returns-then-not-branch-clause-later
+while_turns-returns-then-not-branch-clause-later g t c = record { rises = omega arith }
+
+pub words-loop-word-init : goal.words-loop-word-init
+words-loop-word-init g t c = record { comes = λ k. rw c.new-texts.ensures.items stay; later = later_refl }
+
+pub words-loop-word-preserved : goal.words-loop-word-preserved
+words-loop-word-preserved g t c = record {
+  comes = λ k.
+      let b = bounds c.args.limits.value_bytes c.args.left in
+      let d = drop_here _ _ _ c.loop-word-test.true c.word-item.is in
+      let l = rw (d, word_parts (shown c.args.source.now) c.word-item.result) at (c.loop-word.invariant.comes k) in
+      let item = out-Word ByteRange c.word-item.result in
+      let rest = words_of (map (word_view (shown c.args.source.now)) (drop (c.loop-word.word-index + 1) c.args.words.now)) in
+      let next = λ (t : Text) (s' : State). given (expanded item.expands t) s' (λ ts. pieces.words b rest (map string_bytes c.loop-word.texts.items ++ ts) s' k) in
+      let w = rw (c.new.ensures.bytes, c.as_slice.ensures.value) at (c.in_ok-text.ensures.comes next) in
+      let p = c.in_ok-push_words.ensures in
+      rw p.2 (go_on (go_on l w) (given_on _ _ _ _ p.1));
+  later = later_on c.loop-word.invariant.later c.in_ok-text.ensures.later;
+}
+
+pub words-loop-word-smaller : goal.words-loop-word-smaller
+words-loop-word-smaller g t c = omega arith
+
+pub words-offset_bounds-words-word-index : goal.words-offset_bounds-words-word-index
+words-offset_bounds-words-word-index g t c = omega arith
+
+pub words-returns-clause-comes : goal.words-returns-clause-comes
+words-returns-clause-comes g t c = λ k.
+    let d = drop_all _ _ c.loop-word-test.false in
+    rw d at (c.loop-word.invariant.comes k)
+
+pub words-returns-clause-later : goal.words-returns-clause-later
+words-returns-clause-later g t c = record { rises = omega arith }
+
+pub words-returns-in_err-push_words-clause-comes : goal.words-returns-in_err-push_words-clause-comes
+words-returns-in_err-push_words-clause-comes g t c = λ k.
+    let b = bounds c.args.limits.value_bytes c.args.left in
+    let d = drop_here _ _ _ c.loop-word-test.true c.word-item.is in
+    let l = rw (d, word_parts (shown c.args.source.now) c.word-item.result) at (c.loop-word.invariant.comes k) in
+    let item = out-Word ByteRange c.word-item.result in
+    let rest = words_of (map (word_view (shown c.args.source.now)) (drop (c.loop-word.word-index + 1) c.args.words.now)) in
+    let next = λ (t : Text) (s' : State). given (expanded item.expands t) s' (λ ts. pieces.words b rest (map string_bytes c.loop-word.texts.items ++ ts) s' k) in
+    let w = rw (c.new.ensures.bytes, c.as_slice.ensures.value) at (c.in_ok-text.ensures.comes next) in
+    go_on (go_on l w) (value_stops _ _ _ _ _ _ c.from_residual-in_err-push_words.ensures.1 c.in_err-push_words.ensures)
+
+pub words-returns-in_err-push_words-clause-later : goal.words-returns-in_err-push_words-clause-later
+words-returns-in_err-push_words-clause-later g t c = record { rises = omega arith }
+
+pub words-returns-in_err-text-clause-comes : goal.words-returns-in_err-text-clause-comes
+words-returns-in_err-text-clause-comes g t c = λ k.
+    let b = bounds c.args.limits.value_bytes c.args.left in
+    let d = drop_here _ _ _ c.loop-word-test.true c.word-item.is in
+    let l = rw (d, word_parts (shown c.args.source.now) c.word-item.result) at (c.loop-word.invariant.comes k) in
+    let item = out-Word ByteRange c.word-item.result in
+    let rest = words_of (map (word_view (shown c.args.source.now)) (drop (c.loop-word.word-index + 1) c.args.words.now)) in
+    let next = λ (t : Text) (s' : State). given (expanded item.expands t) s' (λ ts. pieces.words b rest (map string_bytes c.loop-word.texts.items ++ ts) s' k) in
+    let w = rw (c.new.ensures.bytes, c.as_slice.ensures.value) at (c.in_err-text.ensures.comes next) in
+    passed_on _ _ _ _ c.from_residual.ensures.1 (go_on l w)
+
+pub words-returns-in_err-text-clause-later : goal.words-returns-in_err-text-clause-later
+words-returns-in_err-text-clause-later g t c = record { rises = omega arith }
+
+pub words-value-requires : goal.words-value-requires
+words-value-requires g t c κs within = search rules
+
+pub other_command-unknown-requires-text-name : goal.other_command-unknown-requires-text-name
+other_command-unknown-requires-text-name g t c κs = search rules
+
+pub bracket-commands-requires-text-source : goal.bracket-commands-requires-text-source
+bracket-commands-requires-text-source g t c κs within = search rules
+
+pub branches-decide-requires-text-text : goal.branches-decide-requires-text-text
+branches-decide-requires-text-text g t c κs within = search rules
+
+pub branches-script-requires-text-text : goal.branches-script-requires-text-text
+branches-script-requires-text-text g t c κs within = search rules
+
+pub call-script-outcome-requires-text-text : goal.call-script-outcome-requires-text-text
+call-script-outcome-requires-text-text g t c κs within = search rules
+
+pub called-core_command-requires-text-name : goal.called-core_command-requires-text-name
+called-core_command-requires-text-name g t c κs within = search rules
+
+pub catch-script-outcome-requires-text-text : goal.catch-script-outcome-requires-text-text
+catch-script-outcome-requires-text-text g t c κs within = search rules
+
+pub command-words-requires-text-source : goal.command-words-requires-text-source
+command-words-requires-text-source g t c κs within = search rules
+
+pub commands-command-requires-text-source : goal.commands-command-requires-text-source
+commands-command-requires-text-source g t c κs within = search rules
+
+pub core_command-other_command-requires-text-name : goal.core_command-other_command-requires-text-name
+core_command-other_command-requires-text-name g t c κs within = search rules
+
+pub decide-express-requires-text-text : goal.decide-express-requires-text-text
+decide-express-requires-text-text g t c κs within = search rules
+
+pub express-value-requires-text-source : goal.express-value-requires-text-source
+express-value-requires-text-source g t c κs within = search rules
+
+pub for_loop-script-requires-text-text : goal.for_loop-script-requires-text-text
+for_loop-script-requires-text-text g t c κs within = search rules
+
+pub for_loop-for_turns-requires-text-condition : goal.for_loop-for_turns-requires-text-condition
+for_loop-for_turns-requires-text-condition g t c κs within = search rules
+
+pub for_loop-for_turns-requires-text-next : goal.for_loop-for_turns-requires-text-next
+for_loop-for_turns-requires-text-next g t c κs within = search rules
+
+pub for_loop-for_turns-requires-text-body : goal.for_loop-for_turns-requires-text-body
+for_loop-for_turns-requires-text-body g t c κs within = search rules
+
+pub for_turns-guarded_turn-requires-text-condition : goal.for_turns-guarded_turn-requires-text-condition
+for_turns-guarded_turn-requires-text-condition g t c κs within = search rules
+
+pub for_turns-guarded_turn-requires-text-body : goal.for_turns-guarded_turn-requires-text-body
+for_turns-guarded_turn-requires-text-body g t c κs within = search rules
+
+pub for_turns-script-requires-text-text : goal.for_turns-script-requires-text-text
+for_turns-script-requires-text-text g t c κs within = search rules
+
+pub foreach-foreach_turns-requires-text-body : goal.foreach-foreach_turns-requires-text-body
+foreach-foreach_turns-requires-text-body g t c κs within = search rules
+
+pub foreach_turns-turn-requires-text-body : goal.foreach_turns-turn-requires-text-body
+foreach_turns-turn-requires-text-body g t c κs within = search rules
+
+pub form-express-requires-text-text : goal.form-express-requires-text-text
+form-express-requires-text-text g t c κs within = search rules
+
+pub form-while_turns-requires-text-condition : goal.form-while_turns-requires-text-condition
+form-while_turns-requires-text-condition g t c κs within = search rules
+
+pub form-while_turns-requires-text-body : goal.form-while_turns-requires-text-body
+form-while_turns-requires-text-body g t c κs within = search rules
+
+pub form-for_loop-requires-text-start : goal.form-for_loop-requires-text-start
+form-for_loop-requires-text-start g t c κs within = search rules
+
+pub form-for_loop-requires-text-condition : goal.form-for_loop-requires-text-condition
+form-for_loop-requires-text-condition g t c κs within = search rules
+
+pub form-for_loop-requires-text-next : goal.form-for_loop-requires-text-next
+form-for_loop-requires-text-next g t c κs within = search rules
+
+pub form-for_loop-requires-text-body : goal.form-for_loop-requires-text-body
+form-for_loop-requires-text-body g t c κs within = search rules
+
+pub form-foreach-requires-text-body : goal.form-foreach-requires-text-body
+form-foreach-requires-text-body g t c κs within = search rules
+
+pub form-catch-requires-text-body : goal.form-catch-requires-text-body
+form-catch-requires-text-body g t c κs within = search rules
+
+pub guarded_turn-decide-requires-text-text : goal.guarded_turn-decide-requires-text-text
+guarded_turn-decide-requires-text-text g t c κs within = search rules
+
+pub guarded_turn-turn-requires-text-body : goal.guarded_turn-turn-requires-text-body
+guarded_turn-turn-requires-text-body g t c κs within = search rules
+
+pub other_command-call-requires-text-name : goal.other_command-call-requires-text-name
+other_command-call-requires-text-name g t c κs within = search rules
+
+pub otherwise-script-requires-text-text : goal.otherwise-script-requires-text-text
+otherwise-script-requires-text-text g t c κs within = search rules
+
+pub script-commands-requires-text-source : goal.script-commands-requires-text-source
+script-commands-requires-text-source g t c κs within = search rules
+
+pub turn-script-requires-text-text : goal.turn-script-requires-text-text
+turn-script-requires-text-text g t c κs within = search rules
+
+pub value-bracket-requires-text-source : goal.value-bracket-requires-text-source
+value-bracket-requires-text-source g t c κs within = search rules
+
+pub while_turns-guarded_turn-requires-text-condition : goal.while_turns-guarded_turn-requires-text-condition
+while_turns-guarded_turn-requires-text-condition g t c κs within = search rules
+
+pub while_turns-guarded_turn-requires-text-body : goal.while_turns-guarded_turn-requires-text-body
+while_turns-guarded_turn-requires-text-body g t c κs within = search rules
+
+pub words-value-requires-text-source : goal.words-value-requires-text-source
+words-value-requires-text-source g t c κs within = search rules

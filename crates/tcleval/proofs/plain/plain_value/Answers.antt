@@ -1,0 +1,43 @@
+use Rattle.std.proofs.Common.{◌≡◌, ℕ, List, Bor, true, false, None, sym, ap, ◌∙◌, refl, rules, arith, map, option_map}
+use Rattle.std.specs.Prelude.{string_bytes}
+use Rattle.tclrules.specs.Variables.{State}
+use Rattle.tclrules.proofs.Leading.{stay, go_on, starve}
+use Rattle.tclchars.specs.Runs.{Text}
+use Rattle.tclrules.specs.Leads.{point}
+use Rattle.tclsteps.specs.Machine.{bounds}
+use Rattle.tclsteps.proofs.Leading.{starved_end, starved_after, passed_on}
+use Rattle.tcleval.proofs.Running.{same_as, fault_stops}
+use Rattle.tcleval.proofs.plain.plain_value.Goals as goal
+
+pub returns-in-Get : goal.returns-in-Get
+returns-in-Get g c = λ most left used r k. rw c.in-Get.is (c.get.ensures most used (bounds c.args.limits.value_bytes left) r k)
+
+pub returns-in-Set : goal.returns-in-Set
+returns-in-Set g c = λ most left used r k. rw c.in-Set.is (c.set.ensures most left r k (point (g.H.Host.oracle c.args.host.now) (g.H.Host.told c.args.host.now) used))
+
+pub returns-in-Append : goal.returns-in-Append
+returns-in-Append g c = λ most left used r k. rw c.in-Append.is (c.append.ensures most left r k (point (g.H.Host.oracle c.args.host.now) (g.H.Host.told c.args.host.now) used))
+
+pub returns-in-ListAppend : goal.returns-in-ListAppend
+returns-in-ListAppend g c = λ most left used r k. rw c.in-ListAppend.is (c.list_append.ensures most left r k (point (g.H.Host.oracle c.args.host.now) (g.H.Host.told c.args.host.now) used))
+
+pub returns-in-Increase : goal.returns-in-Increase
+returns-in-Increase g c = λ most left used r k. rw c.in-Increase.is (c.increase.ensures most left r k (point (g.H.Host.oracle c.args.host.now) (g.H.Host.told c.args.host.now) used))
+
+pub returns-in-Exists : goal.returns-in-Exists
+returns-in-Exists g c = λ most left used r k. rw c.in-Exists.is (c.exists.ensures most used (bounds c.args.limits.value_bytes left) r k)
+
+pub returns-in-Global : goal.returns-in-Global
+returns-in-Global g c = λ most left used r k. rw c.in-Global.is (c.global.ensures most (bounds c.args.limits.value_bytes left) r k (point (g.H.Host.oracle c.args.host.now) (g.H.Host.told c.args.host.now) used))
+
+pub returns-in-Unset : goal.returns-in-Unset
+returns-in-Unset g c = λ most left used r k. rw c.in-Unset.is (c.unset.ensures most (bounds c.args.limits.value_bytes left) r k (point (g.H.Host.oracle c.args.host.now) (g.H.Host.told c.args.host.now) used))
+
+pub returns-in-Define : goal.returns-in-Define
+returns-in-Define g c = λ most left used r k. rw c.in-Define.is (c.define.ensures most (bounds c.args.limits.value_bytes left) r k (point (g.H.Host.oracle c.args.host.now) (g.H.Host.told c.args.host.now) used))
+
+pub returns-in-Put : goal.returns-in-Put
+returns-in-Put g c = λ most left used r k. rw c.in-Put.is (c.put.ensures most used (bounds c.args.limits.value_bytes left) r k)
+
+pub returns-in_default : goal.returns-in_default
+returns-in_default g c = λ most left used r k. c.ending.ensures most (bounds c.args.limits.value_bytes left) r k _ (point (g.H.Host.oracle c.args.host.now) (g.H.Host.told c.args.host.now) used)
