@@ -103,6 +103,9 @@ module _ {P : Type 0} (shown : P → Text) where
   pub command_words : (c : rust_command.Command P) → (command_view shown c).words ≡ words_of (map (word_view shown) (rust_command.out-Command P c).words.items)
   command_words c = search (rules, rust_command.the_lemmas)
 
+  pub command_place : (c : rust_command.Command P) → (command_view shown c).place ≡ (rust_command.out-Command P c).place
+  command_place c = search (rules, rust_command.the_lemmas)
+
   pub word_parts : (w : rust_word.Word P) → word_view shown w ≡ tree.word_of (rust_word.out-Word P w).expands (parts_view shown (rust_word.out-Word P w).parts.items)
   word_parts w = search (rules, rust_word.the_lemmas)
 

@@ -4,7 +4,10 @@
 mod cycle;
 mod endings;
 mod evaluator;
+mod file;
 mod plain;
 mod trees;
 mod turns;
 mod words;
+
+pub use file::evaluate;

@@ -1,0 +1,70 @@
+use Rattle.std.proofs.Common.{rules, arith, refl, sym, ap, ◌∙◌, ◌≡◌, ◌<◌, [], Bool, true, false, None, List, Bor, get_or, map, option_map, IfOk, string_bytes, ℕ, ◌+◌, ◌-◌, ◌*◌, ◌≤◌, length, ◌∷◌, ◌++◌, drop, reverse}
+use Rattle.tclchars.specs.Runs.{Text}
+use Rattle.tclscript.specs.Tree.{commands_of, words_of}
+use Rattle.tclscript.specs.View.{script_view, command_view, word_view}
+use Rattle.tclrules.specs.Derivation.{Counts, Runs}
+use Rattle.tclrules.specs.Leads.{Leads, point}
+use Rattle.tclrules.specs.Variables.{State}
+use Rattle.tclrules.specs.Plans as plans
+use Rattle.tclrules.specs.Words as pieces
+use Rattle.tclrules.specs.Plans.{Next, on_normal, sized}
+use Rattle.tclrules.specs.Expressions.{express, decide}
+use Rattle.tclrules.specs.Rules.{rule, called, turn}
+use Rattle.tclforms.specs.Views.{form_view, pair_texts}
+use Rattle.tclsteps.specs.Machine.{shown, bounds, control_plan}
+use Rattle.tclsteps.specs.Stops.{after}
+use Rattle.tcleval.specs.Runs.{finish, turned, guarded}
+use Rattle.tcleval.specs.Later.{Later}
+use Rattle.tclrules.specs.Rules as table
+use Rattle.std.proofs.lemmas.Bool.{false≢true}
+use Rattle.std.proofs.lemmas.Result.{err_from_is_err_and}
+use Rattle.std.proofs.lemmas.List.{drop_all}
+use Rattle.tclscript.specs.declared.tree.Word.{out-Word}
+use Rattle.tclscript.specs.declared.tree.Script.{out-Script}
+use Rattle.tclscript.specs.declared.piece.ByteRange.{ByteRange}
+use Rattle.tcltext.specs.Numerals.{numeral}
+use Rattle.tclrules.specs.Plans.{given}
+use Rattle.tclrules.specs.Words.{expanded}
+use Rattle.tclrules.specs.Expressions.{normal}
+use Rattle.tclrules.proofs.Leading.{stay, go_on, starve, count_on, count_over, run_on, run_halts, run_tail}
+use Rattle.tclsteps.proofs.Leading.{passed_on, starved_end, starved_after, given_on, value_stops, sized_on, run_stops}
+use Rattle.tclsteps.proofs.Trees.{empty_of, first_and_rest}
+use Rattle.tcleval.proofs.Running.{run_after, run_normal, begin_on, begin_stops, drop_here, same_as, script_commands, command_words, command_place, word_parts, later_refl, later_on, text_stops, limited_stops, limited_on, ok_any, counted_on, core_stops, turned_some, turned_none, foreach_done, foreach_more, on_branch, branch_on}
+use Rattle.tcleval.proofs.evaluator.Evaluator.file_commands.Goals as goal
+
+pub loop-command-init : goal.loop-command-init
+loop-command-init g c = rw (c.new-last.ensures.bytes, script_commands (shown c.args.source.now) c.args.script.now) stay
+
+pub offset_bounds-command-items-command-index : goal.offset_bounds-command-items-command-index
+offset_bounds-command-items-command-index g c = omega arith
+
+pub command-requires-text-source : goal.command-requires-text-source
+command-requires-text-source g c κs = search rules
+
+pub returns-in_err-last : goal.returns-in_err-last
+returns-in_err-last g c =
+    let b = bounds c.args.limits.value_bytes c.args.left in
+    let view = command_view (shown c.args.source.now) in
+    let s = c.deref-command-items.ensures.value in
+    let d = drop_here _ _ _ (rw s at c.loop-command-test.true) (rw s at c.command-item.is) in
+    let l = rw (d, command_place (shown c.args.source.now) c.command-item.result) at c.loop-command.invariant in
+    let rest = commands_of (map view (drop (c.loop-command.command-index + 1) (out-Script ByteRange c.args.script.now).commands.items)) in
+    let w = rw c.at_place.ensures at (c.in_err-last.ensures.comes (λ (u : Text) (s2 : State). table.file_commands b rest u s2)) in
+    passed_on _ _ _ _ c.from_residual.ensures.1 (go_on l w)
+
+pub loop-command-preserved : goal.loop-command-preserved
+loop-command-preserved g c =
+    let b = bounds c.args.limits.value_bytes c.args.left in
+    let view = command_view (shown c.args.source.now) in
+    let s = c.deref-command-items.ensures.value in
+    let d = drop_here _ _ _ (rw s at c.loop-command-test.true) (rw s at c.command-item.is) in
+    let l = rw (d, command_place (shown c.args.source.now) c.command-item.result) at c.loop-command.invariant in
+    let rest = commands_of (map view (drop (c.loop-command.command-index + 1) (out-Script ByteRange c.args.script.now).commands.items)) in
+    let w = rw c.at_place.ensures at (c.in_ok-last.ensures.comes (λ (u : Text) (s2 : State). table.file_commands b rest u s2)) in
+    go_on l w
+
+pub returns : goal.returns
+returns g c =
+    let s = c.deref-command-items.ensures.value in
+    let d = drop_all _ _ (rw s at c.loop-command-test.false) in
+    rw d at c.loop-command.invariant

@@ -1,0 +1,26 @@
+use Rattle.std.proofs.Common.{◌≡◌, ◌<◌, [], Bool, true, List, map, option_map, reverse, drop, IfOk, string_bytes, ℕ, ◌+◌, ◌-◌, ◌*◌, ◌≤◌, length}
+use Rattle.tclchars.specs.Runs.{Text}
+use Rattle.tclscript.specs.Tree.{commands_of, words_of}
+use Rattle.tclscript.specs.View.{script_view, command_view, word_view}
+use Rattle.tclscript.specs.declared.tree.Script.{out-Script}
+use Rattle.tclscript.specs.declared.piece.ByteRange.{ByteRange}
+use Rattle.tclrules.specs.Derivation.{Counts, Runs}
+use Rattle.tclrules.specs.Leads.{Leads, point}
+use Rattle.tclrules.specs.Variables.{State}
+use Rattle.tclrules.specs.Plans as plans
+use Rattle.tclrules.specs.Words as pieces
+use Rattle.tclrules.specs.Rules as rules
+use Rattle.tclrules.specs.Plans.{Next, on_normal, sized}
+use Rattle.tclrules.specs.Rules.{rule}
+use Rattle.tclforms.specs.Views.{pair_texts}
+use Rattle.tclsteps.specs.Machine.{shown, bounds, control_plan, behind_all, control_weight, frames_weight}
+use Rattle.tcleval.specs.Later.{Later}
+use Rattle.tcleval.proofs.evaluator.Evaluator.file_commands.Given as goal
+
+abbrev pub invariant-loop-command : goal.invariant-loop-command
+invariant-loop-command g l =
+    let o = g.H.Host.oracle in
+    let t = g.H.Host.told in
+    let b = bounds l.limits.value_bytes l.left in
+    let view = map (command_view (shown l.source)) in
+    Leads l.limits.commands (rule l.limits.value_bytes) (rules.file_commands b (script_view (shown l.source) l.script) [] l.fn.self.variables) (point (o l.fn.host) (t l.fn.host) l.fn.self.used) (rules.file_commands b (commands_of (view (drop l.command-index (out-Script ByteRange l.script).commands.items))) (string_bytes l.last) l.self.variables) (point (o l.host) (t l.host) l.self.used)

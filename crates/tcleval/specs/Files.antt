@@ -1,0 +1,38 @@
+-- How a file ends.
+use Rattle.std.specs.Prelude.{◌≡◌, ℕ, Result, Ok, Err, string_bytes, String}
+use Rattle.std.specs.declared.alloc.Global.{Global}
+use Rattle.tclchars.specs.Runs.{Text}
+use Rattle.tclrules.specs.Derivation.{Outcome, Ended, Halted}
+use Rattle.tclrules.specs.Variables.{State}
+use Rattle.tclrules.specs.Plans as plans
+use Rattle.tclrules.specs.Plans.{Normal, Raised, Step, ended, halt, raise}
+use Rattle.tclrules.specs.Promise.{ReportsFault, texts_of}
+use Rattle.tclrules.specs.declared.outcome.Ending.{Ending}
+use Rattle.tclrules.specs.declared.outcome.EvalFault.{EvalFault}
+use Rattle.tclrules.specs.declared.outcome.EvalFault.TheVariants as fault
+use Rattle.tclsteps.specs.Stops.{halt_of}
+use Rattle.tcleval.specs.declared.file.Cut.{Cut}
+use Rattle.tcleval.specs.declared.file.Cut.TheVariants as cuts
+use Rattle.tcleval.specs.declared.evaluator.Evaluator.{Evaluator}
+
+-- the outcome of a file that is cut in this state
+abbrev pub cut_outcome : Cut → State → Outcome plans.Ending
+cut_outcome (cuts.Raised m) s = Ended (Raised (string_bytes m) s)
+cut_outcome (cuts.Halted h) s = Halted (halt_of h)
+
+-- the plan that is left at the end of a file
+abbrev pub after_file : Result (String Global) Cut → State → Step
+after_file (Ok t) s = ended (Normal (string_bytes t) s)
+after_file (Err (cuts.Raised m)) s = raise (string_bytes m) s
+after_file (Err (cuts.Halted h)) s = halt (halt_of h)
+
+-- a fault reports how a file was cut, where its command at hand has this place
+abbrev pub ReportsCut : Text → ℕ → Cut → EvalFault → Type 0
+ReportsCut script place cut f = (s : State) → s.place ≡ place → ReportsFault script f (cut_outcome cut s)
+
+-- what is answered of a file that came to an end with these variables and this count
+abbrev pub Answers : Text → Evaluator → Result (String Global) Cut → Result Ending EvalFault → Type 0
+Answers script e (Ok t) (Ok end) = (string_bytes end.result ≡ string_bytes t) × (end.used_commands ≡ e.used) × (e.variables.globals ≡ texts_of end.globals.items)
+Answers script e (Ok t) (Err f) = f ≡ fault.OutOfMemory
+Answers script e (Err cut) (Ok end) = ⊥
+Answers script e (Err cut) (Err f) = ReportsFault script f (cut_outcome cut e.variables)

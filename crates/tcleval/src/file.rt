@@ -1,0 +1,217 @@
+//! Whole files.
+ghost use Rattle.std.specs.Prelude.{◌≡◌, ◌≤◌, ◌==◌, length, [], take, count_by, min, IfOk};
+ghost use Rattle.tclchars.specs.Runs.{Text};
+ghost use Rattle.tclrules.specs.Derivation.{Halted};
+ghost use Rattle.tclscript.specs.View.{script_view};
+ghost use Rattle.tclrules.specs.Leads.{Leads, point};
+ghost use Rattle.tclrules.specs.Variables.{State, start};
+ghost use Rattle.tclrules.specs.Plans as plans;
+ghost use Rattle.tclrules.specs.Rules as rules;
+ghost use Rattle.tclrules.specs.Rules.{rule, file_ended};
+ghost use Rattle.tclrules.specs.Meaning.{line_at};
+ghost use Rattle.tclrules.specs.Promise.{Evaluates, ReportsFault, texts_of};
+ghost use Rattle.tclsteps.specs.Machine.{shown, bounds};
+ghost use Rattle.tclsteps.specs.Stops.{after, halt_of};
+ghost use Rattle.tcleval.specs.Runs.{finish, ran};
+ghost use Rattle.tcleval.specs.Files.{after_file, ReportsCut, Answers};
+
+use crate::evaluator::Evaluator;
+use crate::trees::tree_of;
+use std::alloc::{AllocError, Global};
+use tclrules::{Ending, EvalFault, Host, Limits};
+use tclscript::{ByteRange, Script};
+use tclsteps::{Halt, Stop};
+use tclvariables::Variables;
+
+impl Evaluator {
+    /// The commands of a file, of each of which the place is kept.
+    #[tactic(none)]
+    fn file_commands<H: Host>(
+        &mut self,
+        host: &mut H,
+        limits: Limits,
+        left: u32,
+        source: &str,
+        script: &Script<ByteRange>,
+    ) -> Result<String, Stop>
+        ensures { Leads limits.commands (rule limits.value_bytes)
+            (rules.file_commands (bounds limits.value_bytes left) (script_view (shown source.now) script.now) [] self.old.variables)
+            (point (H.oracle host.old) (H.told host.old) self.old.used)
+            (after result finish self.new.variables)
+            (point (H.oracle host.new) (H.told host.new) self.new.used) }
+    {
+        let mut last = String::new(self.alloc);
+        for command in &script.commands {
+            self.variables.at_place(command.place);
+            last = self.command(host, limits, left, source, command)?;
+        }
+        Ok(last)
+    }
+
+    /// A text evaluated as a file.
+    #[tactic(none)]
+    fn file<H: Host>(
+        &mut self,
+        host: &mut H,
+        limits: Limits,
+        left: u32,
+        text: &str,
+    ) -> Result<String, Stop>
+        ensures { Leads limits.commands (rule limits.value_bytes)
+            (rule limits.value_bytes (plans.File left text.now self.old.variables))
+            (point (H.oracle host.old) (H.told host.old) self.old.used)
+            (after result finish self.new.variables)
+            (point (H.oracle host.new) (H.told host.new) self.new.used) }
+    {
+        if left == 0 {
+            return Err(Stop::Halted(Halt::TooDeep));
+        }
+        match tree_of(self.alloc, text) {
+            Ok(tree) => {
+                self.file_commands(host, limits, left - 1, tree.text.as_str(), &tree.script)
+            }
+            Err(fault) => Err(Stop::of_text(fault)),
+        }
+    }
+}
+
+/// Why a file ended early.
+#[derive(Drop)]
+enum Cut {
+    /// An error, with its message.
+    Raised(String),
+    /// What nothing catches.
+    Halted(Halt),
+}
+
+/// How a file ends: return and continue end it, break stops it.
+fn end_of_file(alloc: Global, outcome: Result<String, Stop>) -> Result<String, Cut>
+    ensures { (s : State) → ran outcome file_ended s ≡ after_file result s }
+{
+    match outcome {
+        Ok(result) => Ok(result),
+        Err(Stop::Returned(result)) => Ok(result),
+        Err(Stop::Continued) => Ok(String::new(alloc)),
+        Err(Stop::Broken) => Err(Cut::Halted(Halt::Stopped)),
+        Err(Stop::Raised(message)) => Err(Cut::Raised(message)),
+        Err(Stop::Halted(halt)) => Err(Cut::Halted(halt)),
+    }
+}
+
+/// What stands before a place.
+fn front(bytes: &[u8], place: usize) -> &[u8]
+    ensures { result.now ≡ take place bytes.now }
+{
+    if place < bytes.len() {
+        &bytes[..place]
+    } else {
+        bytes
+    }
+}
+
+fn newlines(bytes: &[u8]) -> usize
+    ensures number { result ≡ count_by (λ b. b == 10) bytes.now }
+    ensures within { result ≤ length bytes.now }
+{
+    bytes.iter().filter(|byte| **byte == b'\n').count()
+}
+
+/// The line, from 1, of a place in a script.
+fn line_at(script: &str, place: usize) -> usize
+    ensures { result ≡ line_at script.now place }
+{
+    1 + newlines(front(script.as_bytes(), place))
+}
+
+fn fault_of_halt(halt: Halt) -> EvalFault
+    ensures { (script : Text) → ReportsFault script result (Halted (halt_of halt)) }
+{
+    match halt {
+        Halt::OutOfMemory => EvalFault::OutOfMemory,
+        Halt::Text(fault) => EvalFault::Text(fault),
+        Halt::TooManyCommands => EvalFault::TooManyCommands,
+        Halt::TooDeep => EvalFault::TooDeep,
+        Halt::ValueTooLong => EvalFault::ValueTooLong,
+        Halt::NumberTooLarge => EvalFault::NumberTooLarge,
+        Halt::FractionOperand => EvalFault::FractionOperand,
+        Halt::LeftOut(name) => EvalFault::LeftOut(name),
+        Halt::Stopped => EvalFault::Stopped,
+        Halt::Host(number) => EvalFault::Host(number),
+    }
+}
+
+/// The fault of a file that is cut while the command of this place is at hand.
+fn fault_of(script: &str, place: usize, cut: Cut) -> EvalFault
+    ensures { ReportsCut script.now place cut result }
+{
+    match cut {
+        Cut::Raised(message) => EvalFault::TclError(message, line_at(script, place)),
+        Cut::Halted(halt) => fault_of_halt(halt),
+    }
+}
+
+/// The global variables at first.
+fn variables_of(alloc: Global, globals: Vec<(String, String)>) -> Result<Variables, AllocError>
+    ensures { IfOk result (λ variables. variables ≡ start (texts_of globals.items)) }
+{
+    let mut variables = Variables::new(alloc);
+    for (name, value) in globals {
+        variables.set(alloc, true, name.as_str(), value)?;
+    }
+    Ok(variables)
+}
+
+fn depth_of(limits: Limits) -> u32
+    ensures { result ≡ min limits.depth 200 }
+{
+    limits.depth.min(200)
+}
+
+/// What an evaluation answers, with the global variables that the file left.
+fn ending(
+    evaluator: Evaluator,
+    script: &str,
+    outcome: Result<String, Cut>,
+) -> Result<Ending, EvalFault>
+    ensures { Answers script.now evaluator outcome result }
+{
+    let used_commands = evaluator.used;
+    match outcome {
+        Ok(result) => {
+            let globals = evaluator.variables.into_globals(evaluator.alloc)?;
+            Ok(Ending {
+                result,
+                globals,
+                used_commands,
+            })
+        }
+        Err(cut) => Err(fault_of(script, evaluator.variables.place(), cut)),
+    }
+}
+
+/// The outcome of a script (Tcl(n)), evaluated for a host from these global variables within these limits.
+///
+/// Errors: 11 where memory runs out, here or in the host; 12 where the script, a body or an expression can't be parsed; 13 for
+/// an error, with its message and the line of the script's own command at hand; 14, 15 and 16 where a limit is met; 17 and 18 for
+/// numbers that aren't computed; 19 for what is left out; 20 where the script stops itself; 21 where the host refuses a command.
+#[tactic(none)]
+pub fn evaluate<H: Host>(
+    alloc: Global,
+    script: &str,
+    globals: Vec<(String, String)>,
+    host: &mut H,
+    limits: Limits,
+) -> Result<Ending, EvalFault>
+    ensures evaluates { Evaluates limits script.now (texts_of globals.items) (H.oracle host.old) (H.told host.old) result
+        (H.told host.new) }
+    ensures same { H.oracle host.new ≡ H.oracle host.old }
+{
+    let variables = variables_of(alloc, globals)?;
+    let mut evaluator = Evaluator {
+        alloc,
+        variables,
+        used: 0,
+    };
+    let outcome = evaluator.file(host, limits, depth_of(limits), script);
+    ending(evaluator, script, end_of_file(alloc, outcome))
+}
