@@ -7,3 +7,4 @@ mod Showing
 mod PlayedFiles
 mod PlainFiles
 mod ComputedFiles
+mod RefusedEdits

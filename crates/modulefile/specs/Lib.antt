@@ -1,6 +1,7 @@
 pub mod Results
 pub mod Calls
 pub mod CallViews
+pub mod RecordViews
 pub mod Shells
 pub mod Answers
 pub mod Files

@@ -1,4 +1,5 @@
 use super::*;
+use environment::Env;
 use std::alloc::{AllocError, Global};
 use std::test::Fail;
 
@@ -51,5 +52,47 @@ fn a_path_command(rt: HostRuntime) -> Result<(), Fail> {
 fn names_of_shells(rt: HostRuntime) -> Result<(), Fail> {
     assert_eq!(rt; Shell::Tcsh.name(), "tcsh");
     assert_eq!(rt; Shell::Tcsh.family(), "csh");
+    Ok(())
+}
+
+fn text(alloc: Global, bytes: &str) -> Result<String, AllocError> {
+    String::from_str(alloc, bytes)
+}
+
+// Each record's load and unload, over an environment where the variable is set.
+#[test]
+fn effects_and_their_undoing(rt: HostRuntime) -> Result<(), Fail> {
+    let alloc = rt.alloc();
+    let mut env = Env::new(alloc);
+    let set = env.set("P", "/a").is_ok();
+    assert!(rt; set);
+    let path = Record::Path {
+        edit: PathEdit::Front,
+        delim: ':',
+        var: text(alloc, "P")?,
+        elements: owned(alloc, &["/b"])?,
+    };
+    let pushed = Record::Push {
+        var: text(alloc, "CC")?,
+        value: text(alloc, "gcc")?,
+    };
+    for record in [&path, &pushed] {
+        let loaded = effect(alloc, Mode::Load, "m/1", record, &mut env).is_ok();
+        assert!(rt; loaded);
+    }
+    assert_eq!(rt; env.get("P"), Some("/b:/a"));
+    assert_eq!(rt; env.get("CC"), Some("gcc"));
+    for record in [&path, &pushed] {
+        let unloaded = effect(alloc, Mode::Unload, "m/1", record, &mut env).is_ok();
+        assert!(rt; unloaded);
+    }
+    assert_eq!(rt; env.get("P"), Some("/a"));
+    assert_eq!(rt; env.get("CC"), None);
+    let ill_spelled = Record::Conflict(owned(alloc, &["a", ".b"])?);
+    let refused = matches!(
+        effect(alloc, Mode::Display, "m/1", &ill_spelled, &mut env),
+        Err(RecordFault::BadModuleName(_))
+    );
+    assert!(rt; refused);
     Ok(())
 }

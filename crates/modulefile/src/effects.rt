@@ -1,0 +1,256 @@
+//! The effects of records on an environment, by mode.
+ghost use Rattle.std.specs.Prelude.{◌≡◌, ◌<◌, map, string_bytes};
+ghost use Rattle.std.specs.List.{list_all};
+ghost use Rattle.std.specs.Option.{option_map};
+ghost use Rattle.environment.specs.Reasons.{Edits, bad_value};
+ghost use Rattle.pathstate.specs.PathTexts.{is_delimiter};
+ghost use Rattle.pathstate.specs.PathVariables.{is_element, path_reason, added_path, dropped_path};
+ghost use Rattle.modulerecords.specs.Judgments.{bad_edit, plain_reason, values_of, names_reason, record_reason};
+ghost use Rattle.modulerecords.specs.Effects.{loaded_by, unloaded_by, edited, effect};
+ghost use Rattle.modulefile.specs.RecordViews.{record_view, mode_view, IsJudged, IsEdited, HasFault};
+
+use crate::call::PathEdit;
+use crate::records::{Mode, Record};
+use environment::fields::slices;
+use environment::{EnvFault, Vars, is_plain_value, judge_name};
+use modulename::is_module_name;
+use pathstate::{End, add_path, drop_path};
+use stackstate::{pop_value, push_value};
+use std::alloc::Global;
+
+/// Why a record has no effect.
+#[derive(Debug, Drop)]
+pub enum RecordFault {
+    /// The variable can't be edited so, or memory ran out.
+    Env(EnvFault),
+    /// The name of a module is ill spelled.
+    BadModuleName(String),
+}
+
+/// The variable can't take a value.
+fn bad_value(alloc: Global, var: &str) -> RecordFault
+    ensures { HasFault (bad_edit (bad_value var.now)) result }
+{
+    match String::from_str(alloc, var) {
+        Ok(var) => RecordFault::Env(EnvFault::BadValue(var)),
+        Err(_) => RecordFault::Env(EnvFault::OutOfMemory),
+    }
+}
+
+/// Refuses variables that can't be edited, and then a value with NUL.
+fn judge_plain(alloc: Global, var: &str, value: Option<&str>) -> Result<(), RecordFault>
+    ensures { IsJudged result (option_map bad_edit (plain_reason var.now (values_of (option_map (λ v. v.now) value.entry)))) }
+{
+    if let Err(fault) = judge_name(alloc, var) {
+        return Err(RecordFault::Env(fault));
+    }
+    match value {
+        Some(value) if !is_plain_value(value) => Err(bad_value(alloc, var)),
+        _ => Ok(()),
+    }
+}
+
+fn is_element(delim: char, text: &str) -> bool
+    requires { delim < 128 }
+    ensures { result ≡ is_element delim text.now }
+{
+    let delim = delim as u8;
+    text.as_bytes().iter().all(|b| !(*b == delim || *b == 0))
+}
+
+fn are_elements(delim: char, texts: &[String]) -> bool
+    requires { delim < 128 }
+    ensures { result ≡ list_all (is_element delim) (map string_bytes texts.now) }
+{
+    let mut rest = texts;
+    while let [text, after @ ..] = rest {
+        if !is_element(delim, text) {
+            return false;
+        }
+        rest = after;
+    }
+    true
+}
+
+fn is_delimiter(delim: char) -> bool
+    ensures { result ≡ is_delimiter delim }
+{
+    ' ' <= delim && delim <= '~'
+}
+
+/// Refuses variables that can't be edited, and then delimiters and elements.
+fn judge_path(alloc: Global, var: &str, delim: char, elements: &[String]) -> Result<(), RecordFault>
+    ensures { IsJudged result (option_map bad_edit (path_reason var.now delim (map string_bytes elements.now))) }
+{
+    if let Err(fault) = judge_name(alloc, var) {
+        return Err(RecordFault::Env(fault));
+    }
+    if !is_delimiter(delim) || !are_elements(delim, elements) {
+        return Err(bad_value(alloc, var));
+    }
+    Ok(())
+}
+
+/// Refuses the first name that is ill spelled.
+fn judge_names(alloc: Global, names: &[String]) -> Result<(), RecordFault>
+    ensures { IsJudged result (names_reason (map string_bytes names.now)) }
+{
+    let mut rest = names;
+    while let [name, after @ ..] = rest {
+        if !is_module_name(name) {
+            return match String::from_str(alloc, name) {
+                Ok(name) => Err(RecordFault::BadModuleName(name)),
+                Err(_) => Err(RecordFault::Env(EnvFault::OutOfMemory)),
+            };
+        }
+        rest = after;
+    }
+    Ok(())
+}
+
+/// Refuses a record that is forbidden whatever environment it finds.
+fn judge(alloc: Global, kept: &Record) -> Result<(), RecordFault>
+    ensures { IsJudged result (record_reason (record_view kept.now)) }
+{
+    match kept {
+        Record::Set { var, value } => judge_plain(alloc, var, Some(value.as_str())),
+        Record::Unset { var, value } => judge_plain(alloc, var, value.as_deref()),
+        Record::Push { var, value } => judge_plain(alloc, var, Some(value.as_str())),
+        Record::Path {
+            delim,
+            var,
+            elements,
+            ..
+        } => judge_path(alloc, var, *delim, elements.as_slice()),
+        Record::Conflict(names) => judge_names(alloc, names.as_slice()),
+        Record::Prereq(names) => judge_names(alloc, names.as_slice()),
+        Record::Whatis(_) => Ok(()),
+    }
+}
+
+fn add<V: Vars>(
+    alloc: Global,
+    env: &mut V,
+    var: &str,
+    delim: char,
+    elements: &[String],
+    end: End,
+) -> Result<(), EnvFault>
+    ensures edits { Edits result (V.vars env.old) (V.vars env.new)
+        (added_path (V.vars env.old) var.now delim (map string_bytes elements.entry.now) end) }
+    ensures under { V.under env.new ≡ V.under env.old }
+{
+    let slices = slices(alloc, elements)?;
+    add_path(alloc, env, var, delim, slices.as_slice(), end)
+}
+
+fn drop<V: Vars>(
+    alloc: Global,
+    env: &mut V,
+    var: &str,
+    delim: char,
+    elements: &[String],
+) -> Result<(), EnvFault>
+    ensures edits { Edits result (V.vars env.old) (V.vars env.new)
+        (dropped_path (V.vars env.old) var.now delim (map string_bytes elements.entry.now)) }
+    ensures under { V.under env.new ≡ V.under env.old }
+{
+    let slices = slices(alloc, elements)?;
+    drop_path(alloc, env, var, delim, slices.as_slice())
+}
+
+/// What loading makes of a record.
+fn load<V: Vars>(alloc: Global, owner: &str, kept: &Record, env: &mut V) -> Result<(), EnvFault>
+    ensures edits { Edits result (V.vars env.old) (V.vars env.new) (loaded_by owner.now (record_view kept.now) (V.vars env.old)) }
+    ensures under { V.under env.new ≡ V.under env.old }
+{
+    match kept {
+        Record::Set { var, value } => env.set(var, value),
+        Record::Unset { var, .. } => env.unset(var),
+        Record::Push { var, value } => push_value(alloc, env, var, owner, value),
+        Record::Path {
+            edit,
+            delim,
+            var,
+            elements,
+        } => match edit {
+            PathEdit::Front => add(alloc, env, var, *delim, elements.as_slice(), End::Front),
+            PathEdit::Back => add(alloc, env, var, *delim, elements.as_slice(), End::Back),
+            PathEdit::Remove => drop(alloc, env, var, *delim, elements.as_slice()),
+        },
+        Record::Conflict(_) => Ok(()),
+        Record::Prereq(_) => Ok(()),
+        Record::Whatis(_) => Ok(()),
+    }
+}
+
+/// What unloading makes of a record.
+fn unload<V: Vars>(alloc: Global, owner: &str, kept: &Record, env: &mut V) -> Result<(), EnvFault>
+    ensures edits { Edits result (V.vars env.old) (V.vars env.new) (unloaded_by owner.now (record_view kept.now) (V.vars env.old)) }
+    ensures under { V.under env.new ≡ V.under env.old }
+{
+    match kept {
+        Record::Set { var, .. } => env.unset(var),
+        Record::Unset { var, value } => match value {
+            Some(value) => env.set(var, value),
+            None => Ok(()),
+        },
+        Record::Push { var, .. } => pop_value(alloc, env, var, owner),
+        Record::Path {
+            edit,
+            delim,
+            var,
+            elements,
+        } => match edit {
+            PathEdit::Front => drop(alloc, env, var, *delim, elements.as_slice()),
+            PathEdit::Back => drop(alloc, env, var, *delim, elements.as_slice()),
+            PathEdit::Remove => Ok(()),
+        },
+        Record::Conflict(_) => Ok(()),
+        Record::Prereq(_) => Ok(()),
+        Record::Whatis(_) => Ok(()),
+    }
+}
+
+/// What the mode makes of a record.
+fn edit<V: Vars>(
+    alloc: Global,
+    mode: Mode,
+    owner: &str,
+    kept: &Record,
+    env: &mut V,
+) -> Result<(), EnvFault>
+    ensures edits { Edits result (V.vars env.old) (V.vars env.new)
+        (edited (mode_view mode) owner.now (record_view kept.now) (V.vars env.old)) }
+    ensures under { V.under env.new ≡ V.under env.old }
+{
+    match mode {
+        Mode::Load => load(alloc, owner, kept, env),
+        Mode::Unload => unload(alloc, owner, kept, env),
+        Mode::Display => Ok(()),
+        Mode::Whatis => Ok(()),
+    }
+}
+
+/// Makes the effect of a record of a module, in a mode: the record is judged in every mode, and then loading or unloading
+/// edits the environment.
+///
+/// It is refused, in this order, by 32, 33 and 37, or by 44 of the first name that is ill spelled, in every mode, and then by 34
+/// or 36; or for want of memory. The environment is then as it was.
+pub fn effect<V: Vars>(
+    alloc: Global,
+    mode: Mode,
+    owner: &str,
+    kept: &Record,
+    env: &mut V,
+) -> Result<(), RecordFault>
+    ensures edits { IsEdited result (V.vars env.old) (V.vars env.new)
+        (effect (mode_view mode) owner.now (record_view kept.now) (V.vars env.old)) }
+    ensures under { V.under env.new ≡ V.under env.old }
+{
+    judge(alloc, kept)?;
+    match edit(alloc, mode, owner, kept, env) {
+        Ok(()) => Ok(()),
+        Err(fault) => Err(RecordFault::Env(fault)),
+    }
+}

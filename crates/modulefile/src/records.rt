@@ -1,0 +1,44 @@
+//! What accepted commands leave on record.
+use crate::call::PathEdit;
+
+/// What a file is evaluated for.
+#[derive(Clone, Copy, Debug, PartialEq, Eq)]
+pub enum Mode {
+    Load,
+    Unload,
+    Display,
+    Whatis,
+}
+
+/// What a command leaves on record.
+#[derive(Debug, Drop)]
+pub enum Record {
+    /// `setenv VAR value`
+    Set {
+        var: String,
+        value: String,
+    },
+    /// `unsetenv VAR ?value?`
+    Unset {
+        var: String,
+        value: Option<String>,
+    },
+    /// `pushenv VAR value`
+    Push {
+        var: String,
+        value: String,
+    },
+    /// A path command: the values, cut at the delimiter.
+    Path {
+        edit: PathEdit,
+        delim: char,
+        var: String,
+        elements: Vec<String>,
+    },
+    /// `conflict NAME...`
+    Conflict(Vec<String>),
+    /// `prereq NAME...`, any one of which will do.
+    Prereq(Vec<String>),
+    /// `module-whatis WORD...`, the words joined by spaces.
+    Whatis(String),
+}
