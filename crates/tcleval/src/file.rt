@@ -4,7 +4,7 @@ ghost use Rattle.tclchars.specs.Runs.{Text};
 ghost use Rattle.tclrules.specs.Derivation.{Halted};
 ghost use Rattle.tclscript.specs.View.{script_view};
 ghost use Rattle.tclrules.specs.Leads.{Leads, point};
-ghost use Rattle.tclrules.specs.Variables.{State, start};
+ghost use Rattle.tclrules.specs.Variables.{State};
 ghost use Rattle.tclrules.specs.Plans as plans;
 ghost use Rattle.tclrules.specs.Rules as rules;
 ghost use Rattle.tclrules.specs.Rules.{rule, file_ended};
@@ -17,11 +17,11 @@ ghost use Rattle.tcleval.specs.Files.{after_file, ReportsCut, Answers};
 
 use crate::evaluator::Evaluator;
 use crate::trees::tree_of;
-use std::alloc::{AllocError, Global};
+use std::alloc::Global;
+use tclcommands::started;
 use tclrules::{Ending, EvalFault, Host, Limits};
 use tclscript::{ByteRange, Script};
 use tclsteps::{Halt, Stop};
-use tclvariables::Variables;
 
 impl Evaluator {
     /// The commands of a file, of each of which the place is kept.
@@ -150,17 +150,6 @@ fn fault_of(script: &str, place: usize, cut: Cut) -> EvalFault
     }
 }
 
-/// The global variables at first.
-fn variables_of(alloc: Global, globals: Vec<(String, String)>) -> Result<Variables, AllocError>
-    ensures { IfOk result (λ variables. variables ≡ start (texts_of globals.items)) }
-{
-    let mut variables = Variables::new(alloc);
-    for (name, value) in globals {
-        variables.set(alloc, true, name.as_str(), value)?;
-    }
-    Ok(variables)
-}
-
 fn depth_of(limits: Limits) -> u32
     ensures { result ≡ min limits.depth 200 }
 {
@@ -206,7 +195,7 @@ pub fn evaluate<H: Host>(
         (H.told host.new) }
     ensures same { H.oracle host.new ≡ H.oracle host.old }
 {
-    let variables = variables_of(alloc, globals)?;
+    let variables = started(alloc, globals)?;
     let mut evaluator = Evaluator {
         alloc,
         variables,

@@ -1,8 +1,0 @@
-use Rattle.std.proofs.Common.{◌≡◌}
-use Rattle.std.specs.Vec.Iter.{into_iter_items}
-use Rattle.tclrules.specs.Variables.{start, store_all}
-use Rattle.tclrules.specs.Promise.{texts_of}
-use Rattle.tcleval.proofs.file.variables_of.Given as goal
-
-abbrev pub invariant-loop-name : goal.invariant-loop-name
-invariant-loop-name l = record l.variables { globals = store_all l.variables.globals (texts_of (into_iter_items l.name-iterator)) } ≡ start (texts_of l.fn.globals.items)
