@@ -21,6 +21,7 @@ PROGRAMS = {
     "modulecmd": ("modulecmd_main", "modulecmd_main"),
     "tcltext_cases": ("tcltext_cases", "tcltext_cases"),
     "tclvalue_cases": ("tclvalue_cases", "tclvalue_cases"),
+    "tcleval_cases": ("tcleval_cases", "tcleval_cases"),
     "modulesearch_cases": ("modulesearch_cases", "modulesearch_cases"),
     "envstate_rows": ("envstate_rows", "envstate_rows"),
 }
@@ -34,6 +35,7 @@ SUITES = (
     ("allocations.py", "envstate_rows"),
     ("tcl/compare.py", "tcltext_cases"),
     ("tcl/values.py", "tclvalue_cases"),
+    ("tcl/scripts.py", "tcleval_cases"),
     ("tcl/commands.py", ""),
     ("tcl/memory.py", ""),
     ("runs.py", ""),

@@ -1,0 +1,141 @@
+//! Evaluates scripts: one a line on standard input, as `COMMANDS DEPTH BYTES SCRIPT` with the three limits, and behind it names and
+//! values of the environment. Texts stand in hexadecimal digits, the empty one as `-`. The host keeps the words of `setenv` and what
+//! `puts` says, answers `mode`, and refuses `conflict`.
+//!
+//! Each answer is a line: `ok RESULT COUNT` or `err NUMBER TEXT LINE`, the line only of an error; then `v NAME VALUE...` with the
+//! global variables where the script ended, `m TEXT...` with the messages, and `r WORDS...` with the records, each with its words
+//! joined by commas.
+#![tactic(auto)]
+
+use std::alloc::Global;
+use std::io;
+use tcleval::evaluate;
+use tclrules::{Ending, EvalFault, Limits, Recorder};
+
+/// The text of a word; None where it isn't one.
+fn text_of(alloc: Global, digits: &str) -> Option<String> {
+    if digits == "-" {
+        return Some(String::new(alloc));
+    }
+    String::from_utf8(hex::decode(alloc, digits).ok()?).ok()
+}
+
+fn push_shown(alloc: Global, line: &mut String, text: &str) -> Option<()> {
+    if text.is_empty() {
+        return line.push('-').ok();
+    }
+    line.push_str(&hex::encode(alloc, text).ok()?).ok()
+}
+
+fn push_texts(alloc: Global, line: &mut String, before: char, texts: &[String]) -> Option<()> {
+    for (place, text) in texts.iter().enumerate() {
+        line.push(if place == 0 { ' ' } else { before }).ok()?;
+        push_shown(alloc, line, text)?;
+    }
+    Some(())
+}
+
+fn push_ending(alloc: Global, line: &mut String, ending: &Ending) -> Option<()> {
+    line.push_str("ok ").ok()?;
+    push_shown(alloc, line, &ending.result)?;
+    let count = ending.used_commands;
+    line.push_str(&format!(in alloc; " {count} v").ok()?).ok()?;
+    for (name, value) in &ending.globals {
+        line.push(' ').ok()?;
+        push_shown(alloc, line, name)?;
+        line.push(' ').ok()?;
+        push_shown(alloc, line, value)?;
+    }
+    Some(())
+}
+
+fn push_fault(alloc: Global, line: &mut String, fault: EvalFault) -> Option<()> {
+    let number = fault.number();
+    line.push_str(&format!(in alloc; "err {number} ").ok()?).ok()?;
+    match fault {
+        EvalFault::TclError(message, place) => {
+            push_shown(alloc, line, &message)?;
+            line.push_str(&format!(in alloc; " {place} v").ok()?).ok()
+        }
+        fault => {
+            push_shown(alloc, line, &fault.to_string(alloc).ok()?)?;
+            line.push_str(" 0 v").ok()
+        }
+    }
+}
+
+fn push_told(alloc: Global, line: &mut String, host: &Recorder) -> Option<()> {
+    line.push_str(" m").ok()?;
+    push_texts(alloc, line, ' ', &host.messages)?;
+    line.push_str(" r").ok()?;
+    for record in &host.records {
+        push_texts(alloc, line, ',', record)?;
+    }
+    Some(())
+}
+
+fn environment(alloc: Global, words: &[String]) -> Option<Vec<(String, String)>> {
+    let mut environment = Vec::new(alloc);
+    let mut rest = words;
+    while let [name, value, after @ ..] = rest {
+        environment.push((name.clone().ok()?, value.clone().ok()?)).ok()?;
+        rest = after;
+    }
+    Some(environment)
+}
+
+fn recorder(alloc: Global, environment: Vec<(String, String)>) -> Option<Recorder> {
+    Some(Recorder {
+        alloc,
+        mode: String::from_str(alloc, "load").ok()?,
+        environment,
+        records: Vec::new(alloc),
+        messages: Vec::new(alloc),
+        asked: false,
+    })
+}
+
+fn texts(alloc: Global, words: &[&str]) -> Option<Vec<String>> {
+    let mut texts = Vec::new(alloc);
+    for word in words {
+        texts.push(text_of(alloc, word)?).ok()?;
+    }
+    Some(texts)
+}
+
+/// The answer to a case; None where the line is none.
+fn case(alloc: Global, line: &str) -> Option<String> {
+    let mut words = Vec::new(alloc);
+    for word in line.split(' ') {
+        words.push(word).ok()?;
+    }
+    let [commands, depth, value_bytes, script, variables @ ..] = words.as_slice() else {
+        return None;
+    };
+    let limits = Limits {
+        commands: commands.parse::<u64>().ok()?,
+        depth: depth.parse::<u32>().ok()?,
+        value_bytes: value_bytes.parse::<usize>().ok()?,
+    };
+    let script = text_of(alloc, script)?;
+    let variables = texts(alloc, variables)?;
+    let mut host = recorder(alloc, environment(alloc, &variables)?)?;
+    let mut line = String::new(alloc);
+    match evaluate(alloc, &script, Vec::new(alloc), &mut host, limits) {
+        Ok(ending) => push_ending(alloc, &mut line, &ending)?,
+        Err(fault) => push_fault(alloc, &mut line, fault)?,
+    }
+    push_told(alloc, &mut line, &host)?;
+    Some(line)
+}
+
+fn main(rt: HostRuntime) -> io::Result<()> {
+    for line in rt.lines(rt.alloc()) {
+        let line = line?;
+        match case(rt.alloc(), line.as_str()) {
+            Some(answer) => println!(rt; "{answer}")?,
+            None => println!(rt; "bad case")?,
+        }
+    }
+    Ok(())
+}
