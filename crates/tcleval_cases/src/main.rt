@@ -49,15 +49,16 @@ fn push_ending(alloc: Global, line: &mut String, ending: &Ending) -> Option<()> 
     Some(())
 }
 
-fn push_fault(alloc: Global, line: &mut String, fault: EvalFault) -> Option<()> {
+fn push_fault(alloc: Global, line: &mut String, fault: &EvalFault) -> Option<()> {
     let number = fault.number();
-    line.push_str(&format!(in alloc; "err {number} ").ok()?).ok()?;
+    line.push_str(&format!(in alloc; "err {number} ").ok()?)
+        .ok()?;
     match fault {
         EvalFault::TclError(message, place) => {
-            push_shown(alloc, line, &message)?;
+            push_shown(alloc, line, message)?;
             line.push_str(&format!(in alloc; " {place} v").ok()?).ok()
         }
-        fault => {
+        _ => {
             push_shown(alloc, line, &fault.to_string(alloc).ok()?)?;
             line.push_str(" 0 v").ok()
         }
@@ -78,7 +79,9 @@ fn environment(alloc: Global, words: &[String]) -> Option<Vec<(String, String)>>
     let mut environment = Vec::new(alloc);
     let mut rest = words;
     while let [name, value, after @ ..] = rest {
-        environment.push((name.clone().ok()?, value.clone().ok()?)).ok()?;
+        environment
+            .push((name.clone().ok()?, value.clone().ok()?))
+            .ok()?;
         rest = after;
     }
     Some(environment)
@@ -123,7 +126,7 @@ fn case(alloc: Global, line: &str) -> Option<String> {
     let mut line = String::new(alloc);
     match evaluate(alloc, &script, Vec::new(alloc), &mut host, limits) {
         Ok(ending) => push_ending(alloc, &mut line, &ending)?,
-        Err(fault) => push_fault(alloc, &mut line, fault)?,
+        Err(fault) => push_fault(alloc, &mut line, &fault)?,
     }
     push_told(alloc, &mut line, &host)?;
     Some(line)
