@@ -53,18 +53,24 @@ EVALUATED = "100000 200 1048576 %s " + digits("HOME") + " " + digits("/h")
 
 EVAL_CALLS = (
     (EVALUATED % digits("list a {} {b c}"), "ok "),
-    (EVALUATED % digits("set i 0; while {$i < 3} {incr i; append s $i-[string length $s]}; set s"), "ok "),
+    (EVALUATED % digits("set i 0; set s {}; while {$i < 3} {incr i; append s $i-[string length $s]}; set s"), "ok "),
     (EVALUATED % digits("foreach {x y} {1 2 3} {lappend l $x $y}; unset x; info exists x"), "ok "),
     (EVALUATED % digits("proc f {a {b 2} args} {global g; set g $a; return $a$b$args}; f 1 {2 3} 4"), "ok "),
     (EVALUATED % digits("switch -glob abc {x - a* {catch {expr {1 / 0}} m} default {}}; set m $env(HOME)"), "ok "),
-    (EVALUATED % digits("for {set i 0} {$i < 2} {incr i} {if {$i} {continue} else {catch break}}; puts stderr $i"), "ok "),
+    (EVALUATED % digits("for {set i 0} {$i < 2} {incr i} {if {$i} {continue} else {catch break}}; mode"), "ok "),
     (EVALUATED % digits("catch {nocommand} m; error $m"), "err 13 "),
     (EVALUATED % digits("string repeat p 2000000"), "err 16 "),
 )
 
 # What a program says where memory is refused: nothing, that there is no answer, or the fault of want of memory.
-REFUSED = ("", "no call\n", "fault 1\n", "bad case\n", f"err 11 {digits('Out of memory')}\n",
-           f"err 11 {digits('Out of memory')} 0 v m r\n")
+REFUSED = (
+    "",
+    "no call\n",
+    "fault 1\n",
+    "bad case\n",
+    f"err 11 {digits('Out of memory')}\n",
+    f"err 11 {digits('Out of memory')} 0 v m r\n",
+)
 
 
 def judge(shim, program, call, begins):
@@ -84,7 +90,8 @@ def main():
     passed, failed = 0, 0
     with tempfile.TemporaryDirectory(prefix="tcl-") as folder:
         shim = refuser(os.fsencode(folder))
-        for name, calls in (("tcltext_cases", TEXT_CALLS), ("tclvalue_cases", VALUE_CALLS), ("tcleval_cases", EVAL_CALLS)):
+        programs = (("tcltext_cases", TEXT_CALLS), ("tclvalue_cases", VALUE_CALLS), ("tcleval_cases", EVAL_CALLS))
+        for name, calls in programs:
             for call, begins in calls:
                 try:
                     judge(shim, os.path.join(sys.argv[1], name), call, begins)
