@@ -90,7 +90,8 @@ def main():
         if meant != told:
             wrong += 1
             print(f"{row}: tclsh {answer!r}, so {meant!r}, but expected is {told!r}")
-    print(f"{len(rows)} rows compared with tclsh, {len(DIFFERENCES)} by the profile's own rules, {wrong} wrong")
+    print(f"{len(DIFFERENCES)} differ by the profile's own rules")
+    print(f"{len(rows) - wrong} passed, {wrong} failed")
     sys.exit(1 if wrong else 0)
 
 
