@@ -1,0 +1,44 @@
+-- The shells that code is printed for, and the families of those that read the same text (module(1)).
+use Rattle.std.specs.Prelude.{List, [], ◌∷◌, Option, bytes_eq, codes, find}
+use Rattle.environment.specs.Texts.{Text}
+use Rattle.shells.specs.declared.shell.Shell.{Shell}
+use Rattle.shells.specs.declared.shell.Shell.TheVariants.{Sh, Bash, Ksh, Zsh, Csh, Tcsh, Fish}
+use Rattle.shells.specs.declared.family.Family.{Family}
+use Rattle.shells.specs.declared.family.Family.TheVariants as families
+
+abbrev pub shell_name : Shell → Text
+shell_name Sh = codes "sh"
+shell_name Bash = codes "bash"
+shell_name Ksh = codes "ksh"
+shell_name Zsh = codes "zsh"
+shell_name Csh = codes "csh"
+shell_name Tcsh = codes "tcsh"
+shell_name Fish = codes "fish"
+
+-- all of them
+abbrev pub shells : List Shell
+shells = Sh ∷ Bash ∷ Ksh ∷ Zsh ∷ Csh ∷ Tcsh ∷ Fish ∷ []
+
+-- the shell of this name
+abbrev pub shell_named : Text → Option Shell
+shell_named word = find (λ shell. bytes_eq word (shell_name shell)) shells
+
+-- the shells that read the same text
+abbrev pub family_of : Shell → Family
+family_of Sh = families.Sh
+family_of Bash = families.Sh
+family_of Ksh = families.Sh
+family_of Zsh = families.Sh
+family_of Csh = families.Csh
+family_of Tcsh = families.Csh
+family_of Fish = families.Fish
+
+-- the type of the shells of a family: the name of its first
+abbrev pub family_name : Family → Text
+family_name families.Sh = codes "sh"
+family_name families.Csh = codes "csh"
+family_name families.Fish = codes "fish"
+
+-- the type of a shell
+abbrev pub shell_family : Shell → Text
+shell_family shell = family_name (family_of shell)
