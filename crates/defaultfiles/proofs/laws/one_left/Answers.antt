@@ -1,0 +1,5 @@
+use Rattle.defaultfiles.proofs.OneLeft as Laws
+use Rattle.defaultfiles.proofs.laws.one_left.Goals as goal
+
+pub returns : goal.returns
+returns c = Laws.one_left

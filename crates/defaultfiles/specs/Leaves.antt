@@ -1,0 +1,64 @@
+-- What the evaluation of a default file leaves (modulefile(5), module-version). The rules of evaluation are those of Tcl.
+use Rattle.std.specs.Prelude.{◌≡◌, false, List, [], ◌∷◌, codes, bytes_eq, if◌then◌else◌, Option, Some, None}
+use Rattle.modulename.specs.ModuleName.{Text}
+use Rattle.tclrules.specs.Oracle.{Oracle, Told, Answer, Nothing, Kept, Done, Unknown, LeftOut, Refused}
+use Rattle.tclrules.specs.Derivation.{Outcome, Ended, Halted, World}
+use Rattle.tclrules.specs.Variables.{lookup}
+use Rattle.tclrules.specs.Plans.{Ending, Normal, Raised, Returned, Broken, Continued}
+use Rattle.tclrules.specs.Names.{is_among, left_out_module_commands}
+use Rattle.tclrules.specs.Meaning.{Setting, ComesTo}
+use Rattle.tclrules.specs.declared.limits.Limits.{Limits}
+use Rattle.modulesearch.specs.DefaultFiles.{Left}
+
+-- `module-version NAME WORD...` has a name and at least one word, and is kept
+abbrev pub version_answer : List Text → Answer
+version_answer (command ∷ name ∷ word ∷ words) = Done [] (Kept (command ∷ name ∷ word ∷ words)) false
+version_answer words = Refused 56 false
+
+-- These are refused: to pass over them could load another module than the one that is meant.
+unfoldable pub renaming_commands : List Text
+renaming_commands =
+    codes "module-alias" ∷ codes "module-virtual" ∷ codes "module-hide" ∷ codes "module-forbid" ∷ codes "module-tag" ∷ []
+
+-- Besides `module-version` a default file has no command of modulefiles. What it writes is dropped.
+abbrev pub named_answer : Text → List Text → Answer
+named_answer name words =
+    if bytes_eq name (codes "module-version") then version_answer words
+    else if bytes_eq name (codes "puts") then Done [] Nothing false
+    else if is_among renaming_commands name then Refused 45 false
+    else if is_among left_out_module_commands name then LeftOut name false
+    else Unknown false
+
+abbrev pub answer_to : List Text → Answer
+answer_to [] = Unknown false
+answer_to (name ∷ words) = named_answer name (name ∷ words)
+
+-- No answer hangs on the commands before, and each variable of the environment is unset.
+abbrev pub default_oracle : Oracle
+default_oracle = record { command = λ records words. answer_to words; variable = λ records name. None }
+
+-- the evaluation of the text at this path, which the file knows
+abbrev pub default_setting : Limits → Text → Text → Setting
+default_setting limits path text =
+    record {
+      limits = limits;
+      script = text;
+      globals = (codes "ModulesCurrentModulefile", path) ∷ [];
+      oracle = default_oracle;
+      told = record { records = []; messages = []; asked = false };
+    }
+
+-- At its end its commands are left, and its global variable ModulesVersion. Any fault leaves nothing.
+abbrev pub left_of : Outcome Ending → Told → Option Left
+left_of (Ended (Normal result s)) told =
+    Some (record { commands = told.records; version = lookup s.globals (codes "ModulesVersion") })
+left_of (Ended (Raised message s)) told = None
+left_of (Ended (Returned result s)) told = None
+left_of (Ended (Broken s)) told = None
+left_of (Ended (Continued s)) told = None
+left_of (Halted halt) told = None
+
+-- What the text of a default file at a path leaves under these limits.
+abbrev pub Leaves : Limits → Text → Text → Option Left → Type 0
+Leaves limits path text left =
+    (o : Outcome Ending) × (w : World) × ComesTo (default_setting limits path text) o w × (left ≡ left_of o w.told)

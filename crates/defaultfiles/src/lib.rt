@@ -1,0 +1,6 @@
+//! What default files leave, and laws about it.
+#![tactic(auto)]
+
+mod laws;
+
+pub use laws::{one_left, some_left};
