@@ -11,9 +11,9 @@ use Rattle.tclrules.specs.Oracle.{Oracle, Answer, Addition, Nothing, Kept, Messa
 use Rattle.modulerecords.specs.Records.{Record}
 use Rattle.modulerecords.specs.Judgments.{RecordReason, bad_edit, bad_module_name}
 use Rattle.modulerecords.specs.Effects.{Mode, load, unload, display, whatis, effect, effects}
-use Rattle.modulefile.specs.declared.shell.Shell.{Shell}
+use Rattle.shells.specs.declared.shell.Shell.{Shell}
 use Rattle.modulefile.specs.Results.{◌>>=◌}
-use Rattle.modulefile.specs.Shells.{shell_name, shell_family}
+use Rattle.shells.specs.Shells.{shell_name, shell_family}
 use Rattle.modulefile.specs.Calls.{Topic, mode, shell, shell_type, Call, keeps, says, getenv, is_loaded, own_name, typed_name, tells, tests, CallReason, unknown, left_out, bad_arguments, bad_record, Form, call_of}
 
 -- What a file is evaluated in: the mode, and whether it is half of a switch; the module's full name and the path of its

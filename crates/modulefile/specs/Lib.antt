@@ -2,7 +2,6 @@ pub mod Results
 pub mod Calls
 pub mod CallViews
 pub mod RecordViews
-pub mod Shells
 pub mod Answers
 pub mod Files
 pub mod Reports

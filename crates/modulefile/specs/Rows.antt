@@ -6,8 +6,8 @@ use Rattle.tclrules.specs.Derivation.{Halt}
 use Rattle.tclrules.specs.declared.limits.Limits.{Limits}
 use Rattle.modulerecords.specs.Records.{Record}
 use Rattle.modulerecords.specs.Effects.{Mode, load, unload, display, whatis}
-use Rattle.modulefile.specs.declared.shell.Shell.{Shell}
-use Rattle.modulefile.specs.declared.shell.Shell.TheVariants.{Sh, Zsh, Tcsh}
+use Rattle.shells.specs.declared.shell.Shell.{Shell}
+use Rattle.shells.specs.declared.shell.Shell.TheVariants.{Sh, Zsh, Tcsh}
 use Rattle.modulefile.specs.Answers.{Context}
 use Rattle.modulefile.specs.Files.{halted, failed, Runs}
 

@@ -7,7 +7,6 @@ mod effects;
 mod laws;
 mod records;
 mod rows;
-mod shell;
 
 pub use call::{Call, PathEdit, Topic, call_of};
 pub use call_fault::CallFault;
@@ -15,7 +14,7 @@ pub use effects::{RecordFault, effect};
 pub use laws::{files, plain, played, words};
 pub use records::{Mode, Record};
 pub use rows::{ending_rows, file_rows, path_rows, question_rows, refused_rows, report_rows};
-pub use shell::Shell;
+pub use shells::Shell;
 
 #[cfg(test)]
 mod tests;

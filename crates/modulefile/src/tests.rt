@@ -48,13 +48,6 @@ fn a_path_command(rt: HostRuntime) -> Result<(), Fail> {
     Ok(())
 }
 
-#[test]
-fn names_of_shells(rt: HostRuntime) -> Result<(), Fail> {
-    assert_eq!(rt; Shell::Tcsh.name(), "tcsh");
-    assert_eq!(rt; Shell::Tcsh.family(), "csh");
-    Ok(())
-}
-
 fn text(alloc: Global, bytes: &str) -> Result<String, AllocError> {
     String::from_str(alloc, bytes)
 }
