@@ -1,0 +1,93 @@
+use Rattle.std.proofs.Common.{[], ◌∷◌, codes, refl, arith}
+use Rattle.shelltext.specs.Reading.{plain, mark}
+use Rattle.shelltext.proofs.rows.value_rows.Goals as goal
+
+pub returns-clause-sh : goal.returns-clause-sh
+returns-clause-sh c = (
+  codes "FOO='on'; export FOO;\n",
+  [],
+  refl,
+  (codes "'on'", record { parts = plain (codes "on") ∷ []; some = omega arith; proper = (refl, tt); spelled = refl; meant = refl }, refl),
+  refl,
+  refl,
+)
+
+pub returns-clause-sh_empty : goal.returns-clause-sh_empty
+returns-clause-sh_empty c = (
+  codes "N=''; export N;\n",
+  [],
+  refl,
+  (codes "''", record { parts = plain [] ∷ []; some = omega arith; proper = (refl, tt); spelled = refl; meant = refl }, refl),
+  refl,
+  refl,
+)
+
+pub returns-clause-sh_quote : goal.returns-clause-sh_quote
+returns-clause-sh_quote c = (
+  codes "Q='it'\\''s!'; export Q;\n",
+  [],
+  refl,
+  (codes "'it'\\''s!'", record { parts = plain (codes "it") ∷ mark 39 ∷ plain (codes "s!") ∷ []; some = omega arith; proper = (refl, (refl, (refl, tt))); spelled = refl; meant = refl }, refl),
+  refl,
+  refl,
+)
+
+pub returns-clause-csh : goal.returns-clause-csh
+returns-clause-csh c = (
+  codes "setenv N 'a'\\!'b\\';\n",
+  [],
+  refl,
+  (codes "'a'\\!'b\\'", record { parts = plain (codes "a") ∷ mark 33 ∷ plain (codes "b\\") ∷ []; some = omega arith; proper = (refl, (refl, (refl, tt))); spelled = refl; meant = refl }, refl),
+  refl,
+  refl,
+)
+
+pub returns-clause-csh_empty : goal.returns-clause-csh_empty
+returns-clause-csh_empty c = (
+  codes "setenv N '';\n",
+  [],
+  refl,
+  (codes "''", record { parts = plain [] ∷ []; some = omega arith; proper = (refl, tt); spelled = refl; meant = refl }, refl),
+  refl,
+  refl,
+)
+
+pub returns-clause-csh_quote : goal.returns-clause-csh_quote
+returns-clause-csh_quote c = (
+  codes "setenv Q 'it'\\''s';\n",
+  [],
+  refl,
+  (codes "'it'\\''s'", record { parts = plain (codes "it") ∷ mark 39 ∷ plain (codes "s") ∷ []; some = omega arith; proper = (refl, (refl, (refl, tt))); spelled = refl; meant = refl }, refl),
+  refl,
+  refl,
+)
+
+pub returns-clause-fish : goal.returns-clause-fish
+returns-clause-fish c = (
+  codes "set -xg N 'a!b\\\\';\n",
+  [],
+  refl,
+  (codes "'a!b\\\\'", record { parts = plain (codes "a!b") ∷ mark 92 ∷ []; some = omega arith; proper = (refl, (refl, tt)); spelled = refl; meant = refl }, refl),
+  refl,
+  refl,
+)
+
+pub returns-clause-fish_empty : goal.returns-clause-fish_empty
+returns-clause-fish_empty c = (
+  codes "set -xg N '';\n",
+  [],
+  refl,
+  (codes "''", record { parts = plain [] ∷ []; some = omega arith; proper = (refl, tt); spelled = refl; meant = refl }, refl),
+  refl,
+  refl,
+)
+
+pub returns-clause-fish_quote : goal.returns-clause-fish_quote
+returns-clause-fish_quote c = (
+  codes "set -xg Q 'it\\'s';\n",
+  [],
+  refl,
+  (codes "'it\\'s'", record { parts = plain (codes "it") ∷ mark 39 ∷ plain (codes "s") ∷ []; some = omega arith; proper = (refl, (refl, (refl, tt))); spelled = refl; meant = refl }, refl),
+  refl,
+  refl,
+)

@@ -1,0 +1,110 @@
+//! Changes of an environment as a text for a shell.
+ghost use Rattle.std.specs.Prelude.{◌≡◌, ◌++◌, map, Some, IfOk, IfErr, OnOk, string_bytes};
+ghost use Rattle.environment.specs.Changes.{edit_of};
+ghost use Rattle.message.specs.Messages.{text_of};
+ghost use Rattle.shelltext.specs.Reading.{IsText};
+ghost use Rattle.shelltext.specs.Printing as printing;
+ghost use Rattle.shelltext.specs.Printing.{printed_line, IsPrintFault, print_fault_number, print_message};
+ghost use Rattle.shelltext.specs.declared.print.PrintFault.TheVariants.{OutOfMemory};
+
+use crate::spelling::{are_sayable, push_set, push_unset};
+use environment::{Change, is_variable_name};
+use message::Message;
+use shells::{Family, Shell};
+use std::alloc::{AllocError, Global};
+use std::error::Error;
+use std::fmt;
+use std::fmt::Display;
+
+/// Why changes have no text.
+#[derive(Debug, Drop)]
+pub enum PrintFault {
+    /// Memory was refused.
+    OutOfMemory,
+    /// The value of this variable, or its name, can't be written for the shell.
+    NotSayable(String),
+}
+
+impl PrintFault {
+    /// The number of the refusal.
+    pub fn number(&self) -> u16
+        ensures { result ≡ print_fault_number self.now }
+    {
+        match self {
+            PrintFault::OutOfMemory => 61,
+            PrintFault::NotSayable(_) => 62,
+        }
+    }
+
+    /// What the fault says.
+    pub fn message(&self) -> Message<'_>
+        ensures { text_of result ≡ print_message self.now }
+    {
+        match self {
+            PrintFault::OutOfMemory => Message::plain("Out of memory"),
+            PrintFault::NotSayable(name) => Message::around(
+                "Value of '",
+                name.as_str(),
+                "' can't be said in this shell",
+            ),
+        }
+    }
+}
+
+impl fmt::Display for PrintFault {
+    ghost output = { λ fault. Some (print_message fault) };
+
+    fn fmt<W: fmt::Write>(&self, f: &mut fmt::Formatter<W>) -> fmt::Result {
+        self.message().fmt(f)
+    }
+}
+
+impl Error for PrintFault {}
+
+impl From<AllocError> for PrintFault {
+    ghost from_gives = { λ _ e. e ≡ OutOfMemory };
+
+    fn from(_e: AllocError) -> PrintFault {
+        PrintFault::OutOfMemory
+    }
+}
+
+fn is_sayable(family: Family, change: &Change) -> bool
+    ensures { result ≡ printing.is_sayable family (edit_of change.now) }
+{
+    if !is_variable_name(change.name.as_str()) {
+        return false;
+    }
+    match &change.value {
+        None => true,
+        Some(value) => are_sayable(family, value.as_str().as_bytes()),
+    }
+}
+
+fn push_line(out: &mut String, family: Family, change: &Change) -> Result<(), AllocError>
+    ensures { OnOk result (string_bytes out.new ≡ string_bytes out.old ++ printed_line family (edit_of change.now)) }
+{
+    match &change.value {
+        None => push_unset(out, family, change.name.as_str()),
+        Some(value) => push_set(out, family, change.name.as_str(), value.as_str()),
+    }
+}
+
+/// The text of these changes, one a line, which the shell reads as exactly these, in order.
+///
+/// Refused as `NotSayable` exactly where no text of the shell says them all: a value holds NUL, or in csh and tcsh a
+/// newline, or a name is not a letter or `_` followed by letters, digits and `_`. The variable named is the first such.
+pub fn print_changes(alloc: Global, shell: Shell, changes: &[Change]) -> Result<String, PrintFault>
+    ensures text { IfOk result (λ text. IsText shell (string_bytes text) (map edit_of changes.now)) }
+    ensures fault { IfErr result (IsPrintFault shell (map edit_of changes.now)) }
+{
+    let family = shell.family();
+    let mut out = String::new(alloc);
+    for change in changes {
+        if !is_sayable(family, change) {
+            return Err(PrintFault::NotSayable(change.name.clone()?));
+        }
+        push_line(&mut out, family, change)?;
+    }
+    Ok(out)
+}

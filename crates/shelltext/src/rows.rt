@@ -1,0 +1,27 @@
+//! Texts with what their shells read in them, worked by hand.
+ghost use Rattle.std.specs.Prelude.{[], ◌∷◌, Some, None, codes};
+ghost use Rattle.environment.specs.Texts.{Text};
+ghost use Rattle.shells.specs.declared.shell.Shell.TheVariants.{Sh, Zsh, Csh, Tcsh, Fish};
+ghost use Rattle.shelltext.specs.Reading.{IsText};
+
+/// Values between quotes, with marks, and without anything.
+pub fn value_rows()
+    ensures sh { IsText Sh (codes "FOO='on'; export FOO;\n") ((codes "FOO", Some (codes "on")) ∷ []) }
+    ensures sh_empty { IsText Sh (codes "N=''; export N;\n") ((codes "N", Some []) ∷ []) }
+    ensures sh_quote { IsText Zsh (codes "Q='it'\\''s!'; export Q;\n") ((codes "Q", Some (codes "it's!")) ∷ []) }
+    ensures csh { IsText Csh (codes "setenv N 'a'\\!'b\\';\n") ((codes "N", Some (codes "a!b\\")) ∷ []) }
+    ensures csh_empty { IsText Tcsh (codes "setenv N '';\n") ((codes "N", Some []) ∷ []) }
+    ensures csh_quote { IsText Tcsh (codes "setenv Q 'it'\\''s';\n") ((codes "Q", Some (codes "it's")) ∷ []) }
+    ensures fish { IsText Fish (codes "set -xg N 'a!b\\\\';\n") ((codes "N", Some (codes "a!b\\")) ∷ []) }
+    ensures fish_empty { IsText Fish (codes "set -xg N '';\n") ((codes "N", Some []) ∷ []) }
+    ensures fish_quote { IsText Fish (codes "set -xg Q 'it\\'s';\n") ((codes "Q", Some (codes "it's")) ∷ []) }
+{}
+
+/// Variables that are unset, no line at all, and a value that no text says.
+pub fn line_rows()
+    ensures nothing { IsText Sh [] [] }
+    ensures sh { IsText Sh (codes "unset FOO;\nunset N;\n") ((codes "FOO", None) ∷ (codes "N", None) ∷ []) }
+    ensures csh { IsText Csh (codes "unsetenv FOO;\n") ((codes "FOO", None) ∷ []) }
+    ensures fish { IsText Fish (codes "set -e FOO;\n") ((codes "FOO", None) ∷ []) }
+    ensures csh_newline { (text : Text) → IsText Csh text ((codes "N", Some (codes "a\nb")) ∷ []) → ⊥ }
+{}
