@@ -5,6 +5,7 @@
 #![tactic(auto)]
 
 ghost use Rattle.std.specs.Prelude.{◌≡◌, Some};
+ghost use Rattle.std.specs.List.{flat_map};
 ghost use Rattle.message.specs.Messages as messages;
 ghost use Rattle.message.specs.Messages.{around, text_of, word_text};
 
@@ -20,17 +21,23 @@ pub enum Word<'a> {
     Name(&'a str),
     /// A number, in decimal digits.
     Number(usize),
+    /// The line, in decimal digits from 1, of what the text before it says: ` (line N)`.
+    Line(usize),
 }
 
 impl<'a> Word<'a> {
-    /// The text of the word. A number's digits stand in the buffer.
-    pub fn text<'b>(&'b self, digits: &'b mut Buffer) -> &'b str
-        ensures { result.now ≡ word_text self.now }
+    /// The text of the word, in three parts. The digits of a number stand in the buffer.
+    pub fn parts<'b>(&'b self, digits: &'b mut Buffer) -> [&'b str; 3]
+        ensures { flat_map (λ part. part.now) result ≡ word_text self.now }
     {
         match self {
-            Word::Nothing => "",
-            Word::Name(name) => name,
-            Word::Number(n) => digits.format(*n),
+            Word::Nothing => ["", "", ""],
+            Word::Name(name) => {
+                let name: &'b str = name;
+                ["", name, ""]
+            }
+            Word::Number(n) => ["", digits.format(*n), ""],
+            Word::Line(n) => [" (line ", digits.format(*n), ")"],
         }
     }
 }
@@ -86,6 +93,27 @@ impl<'a> Message<'a> {
             after: "",
         }
     }
+
+    /// A text and the line, from 1, that it is about.
+    pub fn at_line(text: &'a str, line: usize) -> Message<'a>
+        ensures { text_of result ≡ messages.at_line text.now line }
+    {
+        Message {
+            before: text,
+            word: Word::Line(line),
+            after: "",
+        }
+    }
+
+    /// The text, in five parts. The digits of a number stand in the buffer.
+    pub fn parts<'b>(&'b self, digits: &'b mut Buffer) -> [&'b str; 5]
+        ensures { flat_map (λ part. part.now) result ≡ text_of self.now }
+    {
+        let before: &'b str = self.before;
+        let after: &'b str = self.after;
+        let [left, word, right] = self.word.parts(digits);
+        [before, left, word, right, after]
+    }
 }
 
 impl<'a> fmt::Display for Message<'a> {
@@ -97,6 +125,7 @@ impl<'a> fmt::Display for Message<'a> {
             Word::Nothing => {}
             Word::Name(name) => f.write_str(name)?,
             Word::Number(n) => write!(f, "{n}")?,
+            Word::Line(n) => write!(f, " (line {n})")?,
         }
         f.write_str(self.after)
     }

@@ -116,16 +116,18 @@ impl From<ArgumentsFault> for CommandFault {
 /// Writes a line of an error, of these parts.
 fn write_line<'a, E: Write>(
     before: &'a str,
+    left: &'a str,
     word: &'a str,
+    right: &'a str,
     after: &'a str,
     err: &mut E,
 ) -> Result<(), WriteFault>
     ensures whole { OnOk result (Appends (E.contents err.old) (E.contents err.new)
-        (error_line (around before.now word.now after.now))) }
+        (error_line (around before.now (around left.now word.now right.now) after.now))) }
     ensures cut { OnErr result (AppendsPart (E.contents err.old) (E.contents err.new)
-        (error_line (around before.now word.now after.now))) }
+        (error_line (around before.now (around left.now word.now right.now) after.now))) }
 {
-    write_parts(err, &["ERROR: ", before, word, after, "\n"])
+    write_parts(err, &["ERROR: ", before, left, word, right, after, "\n"])
 }
 
 /// Writes the line that tells of a refusal, without taking memory. It is tried once: a write that fails ends it. Then a
@@ -136,6 +138,6 @@ pub fn write_refusal<E: Write>(fault: &CommandFault, err: &mut E) -> Result<(), 
 {
     let mut digits = Buffer::new();
     let message = fault.message();
-    let word = message.word;
-    write_line(message.before, word.text(&mut digits), message.after, err)
+    let [before, left, word, right, after] = message.parts(&mut digits);
+    write_line(before, left, word, right, after, err)
 }
