@@ -1,0 +1,570 @@
+"""The worked rows of the program: what each command prints over real folders, and where a session leaves the environment.
+
+    python3 -B tests/rows.py PROGRAM
+
+The expected texts are typed by hand from the rules of the program. In them, and in the modulefiles, `/m`, `/n` and `/o`
+stand for the folders that a row makes. What a command prints is evaluated by sh, and the next command starts from there.
+"""
+
+import os
+import re
+import shutil
+import subprocess
+import sys
+
+from harness import SECONDS, Failed, case, run_all, same, true
+
+SH = shutil.which("dash") or "/bin/sh"
+ENV = shutil.which("env")
+FOLDER = re.compile(rb"(?<![A-Za-z0-9_])/([mno])(?=[/:'&\n]|$)")
+LINE = re.compile(rb"([A-Za-z_][A-Za-z0-9_]*)='((?:[^']|'\\'')*)'; export \1;\n|unset ([A-Za-z_][A-Za-z0-9_]*);\n")
+OWN = (b"PWD", b"OLDPWD", b"_")
+
+# The modulefiles of the rows, by path, without their first line.
+FILES = {
+    "/m/foo/1.0": "setenv FOO on\nprepend-path PATH /opt/foo/bin\n",
+    "/m/x/1": "prepend-path PATH /opt/x/bin\n",
+    "/m/y/1": "append-path P /s\n",
+    "/m/z/1": "append-path P /s\n",
+    "/m/ab/1": "prepend-path P /a:/b\n",
+    "/m/man/1": 'append-path MANPATH ""\n',
+    "/m/c/1": "prepend-path P /c\n",
+    "/m/a/1": "pushenv CC gcc\n",
+    "/m/b/1": "pushenv CC clang\n",
+    "/m/q/1": "pushenv CC x\n",
+    "/m/k/1": "setenv K 1\n",
+    "/m/n/1": "conflict k\n",
+    "/m/gcc/9": "setenv GCC 9\n",
+    "/m/mpi/1": "prereq gcc\nsetenv MPI 1\n",
+    "/m/w/1": "if {[module-info mode load]} {setenv X 1}\n",
+    "/m/loop/1": "catch {while 1 {set i 1}}\n",
+    "/m/t/1": "setenv A {b",
+    "/m/nl/1": 'setenv MSG "a\\nb"\n',
+    "/m/sq/1": 'setenv Q "it\'s!"\n',
+    "/m/mp/1": "prepend-path MODULEPATH /n\n",
+    "/n/ver/1.9": "setenv V 1.9\n",
+    "/n/ver/1.10": "setenv V 1.10\n",
+    "/n/ver/1.10-rc": "setenv V 1.10-rc\n",
+}
+
+
+def real(folder, text):
+    """The text with the folders of the row in place of `/m`, `/n` and `/o`."""
+    text = text if isinstance(text, bytes) else text.encode()
+    return FOLDER.sub(lambda found: os.path.join(folder.path, found[1]), text)
+
+
+def write(folder, path, text):
+    """Writes a modulefile, whose first line is the cookie."""
+    path = real(folder, path)
+    os.makedirs(os.path.dirname(path), exist_ok=True)
+    with open(path, "wb") as file:
+        file.write(b"#%Module\n" + real(folder, text))
+
+
+def printed(text):
+    """The changes that lines for sh say."""
+    changes, at = {}, 0
+    while at < len(text):
+        found = LINE.match(text, at)
+        true(found, f"no line for sh at {text[at:]!r}")
+        name = found[1] or found[3]
+        true(name not in changes, f"{name} is printed twice")
+        changes[name] = None if found[1] is None else found[2].replace(b"'\\''", b"'")
+        at = found.end()
+    return changes
+
+
+class Session:
+    """Commands one after another, from MODULEPATH and the variables that are given."""
+
+    def __init__(self, folder, modulepath="/m", files=None, **variables):
+        self.folder = folder
+        for path, text in {**FILES, **(files or {})}.items():
+            write(folder, path, text)
+        self.env = {b"MODULEPATH": real(folder, modulepath)}
+        for name, value in variables.items():
+            self.env[name.encode()] = real(folder, value)
+
+    def run(self, line, shell="sh"):
+        return self.folder.run(shell, *line.split(), env=self.env)
+
+    def prints(self, line, out, said="", shell="sh"):
+        """The command is accepted, and writes exactly this. The session stays where it is."""
+        done = self.run(line, shell)
+        same(done.stderr, real(self.folder, said), f"standard error of {line}")
+        same(done.stdout, real(self.folder, out), f"standard output of {line}")
+        same(done.returncode, 0, f"status of {line}")
+        return done.stdout
+
+    def makes(self, line, said="", **values):
+        """The command is accepted, and makes these changes, None for an unset, and no others but of the loaded lists,
+        unless they are named. sh evaluates what it prints, and the session goes on from there."""
+        done = self.run(line)
+        same(done.stderr, real(self.folder, said), f"standard error of {line}")
+        same(done.returncode, 0, f"status of {line}")
+        changes = printed(done.stdout)
+        wanted = {name.encode(): None if v is None else real(self.folder, v) for name, v in values.items()}
+        for name in (b"LOADEDMODULES", b"_LMFILES_"):
+            if name in changes and name not in wanted:
+                wanted[name] = changes[name]
+        same(changes, wanted, f"the changes of {line}")
+        same(list(changes), sorted(changes), f"the order of the changes of {line}")
+        self.goes_on(done.stdout)
+
+    def makes_exactly(self, line, out, said=""):
+        """The command is accepted and writes exactly this. The session goes on from there."""
+        self.goes_on(self.prints(line, out, said))
+
+    def goes_on(self, text):
+        done = subprocess.run(
+            [SH, "-c", f'eval "$1"; exec {ENV} -0', "sh", text],
+            env=self.env,
+            capture_output=True,
+            timeout=SECONDS,
+            check=True,
+        )
+        same(done.stderr, b"", "standard error of sh")
+        pairs = [entry.split(b"=", 1) for entry in done.stdout.split(b"\0") if entry]
+        self.env = {name: value for name, value in pairs if name not in OWN}
+
+    def refuses(self, line, text, shell="sh"):
+        """The command changes nothing, and says this after `ERROR: `."""
+        done = self.run(line, shell)
+        same(done.stdout, b"", f"standard output of {line}")
+        same(done.stderr, b"ERROR: " + real(self.folder, text) + b"\n", f"standard error of {line}")
+        same(done.returncode, 1, f"status of {line}")
+
+    def holds(self, **values):
+        """The variables have these values now, None where one isn't set."""
+        for name, value in values.items():
+            wanted = None if value is None else real(self.folder, value)
+            same(self.env.get(name.encode()), wanted, f"the value of {name}")
+
+
+# Loads and unloads.
+
+
+@case
+def a_load_its_unload_and_a_second_load(folder):
+    s = Session(folder, PATH="/usr/bin:/bin")
+    loads = (
+        "FOO='on'; export FOO;\n"
+        "LOADEDMODULES='foo/1.0'; export LOADEDMODULES;\n"
+        "PATH='/opt/foo/bin:/usr/bin:/bin'; export PATH;\n"
+        "_LMFILES_='/m/foo/1.0'; export _LMFILES_;\n"
+    )
+    s.prints("load foo", loads)
+    s.makes_exactly("load foo/1.0", loads)
+    s.makes_exactly("load foo/1.0", "")
+    s.makes_exactly("load foo", "")
+    unloads = "unset FOO;\nunset LOADEDMODULES;\nPATH='/usr/bin:/bin'; export PATH;\nunset _LMFILES_;\n"
+    s.prints("unload foo/1.0", unloads)
+    s.makes_exactly("unload foo", unloads)
+    s.refuses("load nope", "Unable to locate a modulefile for 'nope'")
+
+
+@case
+def an_element_that_was_there_is_counted(folder):
+    s = Session(folder, PATH="/opt/x/bin:/bin")
+    s.makes_exactly(
+        "load x",
+        "LOADEDMODULES='x/1'; export LOADEDMODULES;\n"
+        "_LMFILES_='/m/x/1'; export _LMFILES_;\n"
+        "__MODULES_SHARE_PATH='/opt/x/bin:2'; export __MODULES_SHARE_PATH;\n",
+    )
+    s.prints("switch x x", "")
+    s.makes_exactly("unload x", "unset LOADEDMODULES;\nunset _LMFILES_;\nunset __MODULES_SHARE_PATH;\n")
+
+
+@case
+def two_modules_that_add_one_element(folder):
+    s = Session(folder)
+    s.makes("load y", P="/s")
+    s.makes("load z", __MODULES_SHARE_P="/s:2")
+    s.makes("unload y", __MODULES_SHARE_P=None, LOADEDMODULES="z/1")
+    s.makes("unload z", P=None)
+
+
+@case
+def two_elements_in_one_value(folder):
+    s = Session(folder)
+    s.makes("load ab", P="/a:/b")
+    s.makes("unload ab", P=None)
+
+
+@case
+def one_empty_element(folder):
+    s = Session(folder)
+    out = s.run("load man").stdout
+    for line in (b"MANPATH=''; export MANPATH;", b"__MODULES_SHARE_MANPATH=':1'; export __MODULES_SHARE_MANPATH;"):
+        true(line in out.splitlines(), f"{line!r} is printed")
+    s.makes("load man", MANPATH="", __MODULES_SHARE_MANPATH=":1")
+    s.makes("unload man", MANPATH=None, __MODULES_SHARE_MANPATH=None)
+
+
+@case
+def repeated_and_empty_elements_stay(folder):
+    s = Session(folder, P="/a:/a::/b")
+    s.makes("load c", P="/c:/a:/a::/b")
+    s.makes("unload c", P="/a:/a::/b")
+
+
+@case
+def an_empty_text_is_not_in_order(folder):
+    s = Session(folder, P="")
+    s.makes("load c", P="/c")
+    s.makes("unload c", P=None)
+
+
+@case
+def a_stack_of_two_modules(folder):
+    s = Session(folder, CC="cc")
+    s.makes("load a", CC="gcc", __MODULES_PUSHENV_CC="a/1&gcc:&cc")
+    s.makes("load b", CC="clang", __MODULES_PUSHENV_CC="b/1&clang:a/1&gcc:&cc")
+    s.makes("unload a", __MODULES_PUSHENV_CC="b/1&clang:&cc")
+    s.makes("unload b", CC="cc", __MODULES_PUSHENV_CC=None)
+
+
+@case
+def a_stack_over_an_odd_value(folder):
+    s = Session(folder, CC="a:b\\c'd")
+    out = s.run("load q").stdout
+    pushes = (
+        b"CC='x'; export CC;",
+        b"__MODULES_PUSHENV_CC='q/1&x:&a\\:b\\\\c'\\''d'; export __MODULES_PUSHENV_CC;",
+    )
+    for line in pushes:
+        true(line in out.splitlines(), f"{line!r} is printed")
+    s.makes("load q", CC="x", __MODULES_PUSHENV_CC="q/1&x:&a\\:b\\\\c'd")
+    same(s.run("unload q").stdout.splitlines()[0], b"CC='a:b\\c'\\''d'; export CC;", "the first line of unload q")
+    lines = s.run("unload q", shell="fish").stdout.splitlines()
+    true(b"set -xg CC 'a:b\\\\c\\'d';" in lines, f"the line of CC for fish, in {lines!r}")
+
+
+@case
+def a_conflict_between_two_names_of_one_command(folder):
+    s = Session(folder)
+    s.refuses("load k n", "Conflict with 'k/1'")
+
+
+@case
+def a_module_that_needs_another(folder):
+    s = Session(folder)
+    s.refuses("load mpi", "Missing one of 'gcc'")
+    s.makes_exactly(
+        "load gcc mpi",
+        "GCC='9'; export GCC;\n"
+        "LOADEDMODULES='gcc/9:mpi/1'; export LOADEDMODULES;\n"
+        "MPI='1'; export MPI;\n"
+        "_LMFILES_='/m/gcc/9:/m/mpi/1'; export _LMFILES_;\n"
+        "__MODULES_LMPREREQ='mpi/1&gcc'; export __MODULES_LMPREREQ;\n",
+    )
+    s.refuses("unload gcc", "Still needed by 'mpi/1'")
+    unsets = "unset GCC;\nunset LOADEDMODULES;\nunset MPI;\nunset _LMFILES_;\nunset __MODULES_LMPREREQ;\n"
+    s.prints("purge", unsets)
+    s.makes_exactly("unload gcc mpi", unsets)
+
+
+@case
+def versions_and_a_default_file(folder):
+    s = Session(folder, modulepath="/n")
+    s.prints(
+        "load ver",
+        "LOADEDMODULES='ver/1.10-rc'; export LOADEDMODULES;\nV='1.10-rc'; export V;\n"
+        "_LMFILES_='/n/ver/1.10-rc'; export _LMFILES_;\n",
+    )
+    write(folder, "/n/ver/.version", 'set ModulesVersion "1.9"\n')
+    s.prints("avail", "", said="/n:\nver/1.9(default)\nver/1.10\nver/1.10-rc\n")
+    s.makes("load ver", V="1.9", LOADEDMODULES="ver/1.9", _LMFILES_="/n/ver/1.9")
+
+
+@case
+def a_module_that_asks_for_the_mode(folder):
+    s = Session(folder)
+    s.makes("load w", X="1")
+    s.makes_exactly("unload w", "unset LOADEDMODULES;\nunset _LMFILES_;\n")
+    s.holds(X="1")
+
+
+@case
+def a_loop_without_end(folder):
+    Session(folder).refuses("load loop", "Too many commands")
+
+
+@case
+def a_brace_that_nothing_closes(folder):
+    Session(folder).refuses("load t", "Missing close-brace at byte 18")
+
+
+@case
+def a_value_of_two_lines(folder):
+    s = Session(folder)
+    s.refuses("load nl", "Value of 'MSG' can't be said in this shell", shell="csh")
+    lists = ("LOADEDMODULES='nl/1'; export LOADEDMODULES;\n", "_LMFILES_='/m/nl/1'; export _LMFILES_;\n")
+    s.prints("load nl", lists[0] + "MSG='a\nb'; export MSG;\n" + lists[1])
+    s.prints(
+        "load nl",
+        "set -xg LOADEDMODULES 'nl/1';\nset -xg MSG 'a\nb';\nset -xg _LMFILES_ '/m/nl/1';\n",
+        shell="fish",
+    )
+
+
+@case
+def a_quote_and_a_mark_in_three_families(folder):
+    s = Session(folder)
+    for shells, line in (
+        (("sh", "bash", "ksh", "zsh"), b"Q='it'\\''s!'; export Q;"),
+        (("csh", "tcsh"), b"setenv Q 'it'\\''s'\\!'';"),
+        (("fish",), b"set -xg Q 'it\\'s!';"),
+    ):
+        for shell in shells:
+            done = s.run("load sq", shell=shell)
+            same((done.returncode, done.stderr), (0, b""), f"the end of load sq in {shell}")
+            same(done.stdout.splitlines()[1], line, f"the second line of load sq in {shell}")
+
+
+@case
+def odd_values_in_csh_and_fish(folder):
+    files = {"/m/odd/1": "setenv N a!b\\\\\n", "/m/none/1": "setenv N {}\n"}
+    s = Session(folder, files=files)
+    for shell, module, line in (
+        ("csh", "odd", b"setenv N 'a'\\!'b\\';"),
+        ("fish", "odd", b"set -xg N 'a!b\\\\';"),
+        ("csh", "none", b"setenv N '';"),
+        ("fish", "none", b"set -xg N '';"),
+    ):
+        true(line in s.run(f"load {module}", shell=shell).stdout.splitlines(), f"{line!r} of load {module} in {shell}")
+
+
+@case
+def list_of_the_loaded_modules(folder):
+    s = Session(folder, PATH="/usr/bin:/bin")
+    s.prints("list", "", said="No Modulefiles Currently Loaded.\n")
+    s.makes("load foo", FOO="on", PATH="/opt/foo/bin:/usr/bin:/bin")
+    s.prints("list", "", said="Currently Loaded Modulefiles:\nfoo/1.0\n")
+
+
+@case
+def a_module_that_adds_a_directory(folder):
+    s = Session(folder)
+    s.makes("load mp", MODULEPATH="/n:/m")
+    s.makes("load ver", V="1.10-rc", _LMFILES_="/m/mp/1:/n/ver/1.10-rc")
+    s.makes("unload mp", MODULEPATH="/m", LOADEDMODULES="ver/1.10-rc")
+    s.makes("unload ver", V=None, LOADEDMODULES=None, _LMFILES_=None)
+
+
+@case
+def lists_of_two_lengths(folder):
+    Session(folder, LOADEDMODULES="a/1").refuses("load k", "Loaded modules are inconsistent")
+
+
+@case
+def show_of_a_module(folder):
+    s = Session(folder)
+    s.prints("show foo", "", said="/m/foo/1.0:\nsetenv FOO on\nprepend-path PATH /opt/foo/bin\n")
+    s.prints("display foo", "", said="/m/foo/1.0:\nsetenv FOO on\nprepend-path PATH /opt/foo/bin\n")
+
+
+# Counters and stacks.
+
+
+@case
+def an_element_twice_in_one_value(folder):
+    s = Session(folder, files={"/m/e/1": "prepend-path P /a:/a\n"})
+    s.makes("load e", P="/a", __MODULES_SHARE_P="/a:2")
+    s.makes("unload e", P=None, __MODULES_SHARE_P=None)
+
+
+@case
+def several_values_of_which_one_is_there(folder):
+    s = Session(folder, files={"/m/e/1": "append-path P /b /c:/a\n"}, P="/a")
+    s.makes("load e", P="/a:/b:/c", __MODULES_SHARE_P="/a:2")
+    s.makes("unload e", P="/a", __MODULES_SHARE_P=None)
+
+
+@case
+def counters_of_which_some_do_not_count(folder):
+    counters = "/a:2:/z:3:/b:01:/a:5"
+    s = Session(folder, files={"/m/e/1": "append-path P /b\n"}, P="/a:/b", __MODULES_SHARE_P=counters)
+    s.makes("load e", __MODULES_SHARE_P="/a:2:/b:2")
+    s.makes("unload e", __MODULES_SHARE_P="/a:2")
+
+
+@case
+def a_counter_that_is_full(folder):
+    s = Session(folder, files={"/m/e/1": "append-path P /a\n"}, P="/a", __MODULES_SHARE_P="/a:4294967295")
+    s.refuses("load e", "Counter of 'P' is full")
+
+
+@case
+def a_module_that_pushes_twice(folder):
+    s = Session(folder, files={"/m/m/1": "pushenv CC gcc\npushenv CC icc\n"}, CC="cc")
+    s.makes("load m", CC="icc", __MODULES_PUSHENV_CC="m/1&icc:&cc")
+    s.makes("unload m", CC="cc", __MODULES_PUSHENV_CC=None)
+
+
+@case
+def an_unset_is_not_undone(folder):
+    s = Session(folder, files={"/m/e/1": "unsetenv LANG\n"}, LANG="C")
+    s.makes("load e", LANG=None)
+    s.makes("unload e")
+    s.holds(LANG=None)
+
+
+# Conflicts, needs, several names.
+
+
+@case
+def a_recorded_conflict(folder):
+    s = Session(folder)
+    s.makes("load n", __MODULES_LMCONFLICT="n/1&k")
+    s.refuses("load k", "Conflict with 'n/1'")
+
+
+@case
+def two_groups_of_needs(folder):
+    s = Session(folder, files={"/m/p/1": "prereq gcc icc\nprereq k\n"})
+    s.refuses("load p", "Missing one of 'gcc icc'")
+    s.makes("load gcc k p", GCC="9", K="1", LOADEDMODULES="gcc/9:k/1:p/1", __MODULES_LMPREREQ="p/1&gcc|icc&k")
+
+
+@case
+def a_switch_to_another_version(folder):
+    s = Session(folder, modulepath="/m:/o", files={"/o/gcc/10": "setenv GCC 10\n"})
+    start = dict(s.env)
+    s.makes("load gcc mpi", GCC="9", MPI="1", LOADEDMODULES="gcc/9:mpi/1", __MODULES_LMPREREQ="mpi/1&gcc")
+    s.makes_exactly(
+        "switch gcc/10",
+        "GCC='10'; export GCC;\n"
+        "LOADEDMODULES='mpi/1:gcc/10'; export LOADEDMODULES;\n"
+        "_LMFILES_='/m/mpi/1:/o/gcc/10'; export _LMFILES_;\n",
+    )
+    s.makes("purge", GCC=None, MPI=None, LOADEDMODULES=None, _LMFILES_=None, __MODULES_LMPREREQ=None)
+    same(s.env, start, "the environment after all")
+
+
+@case
+def a_session_with_a_refused_request(folder):
+    s = Session(folder, PATH="/opt/x/bin:/bin")
+    start = dict(s.env)
+    s.makes("load x", __MODULES_SHARE_PATH="/opt/x/bin:2")
+    s.makes("load y", P="/s")
+    s.refuses("load nope", "Unable to locate a modulefile for 'nope'")
+    s.makes("load z", __MODULES_SHARE_P="/s:2")
+    s.makes("unload y", __MODULES_SHARE_P=None, LOADEDMODULES="x/1:z/1")
+    s.makes("unload x", __MODULES_SHARE_PATH=None, LOADEDMODULES="z/1")
+    s.makes("unload z", P=None)
+    same(s.env, start, "the environment after all")
+
+
+# Reports and what modulefiles ask.
+
+
+@case
+def show_and_whatis_of_several_commands(folder):
+    s = Session(folder, files={"/m/d/1": "module-whatis A {B c}\nappend-path P /a /b:/c\nprereq gcc icc\n"})
+    s.prints("show d", "", said="/m/d/1:\nmodule-whatis {A B c}\nappend-path P /a:/b:/c\nprereq gcc icc\n")
+    s.prints("whatis d", "", said="d/1: A B c\n")
+
+
+@case
+def show_of_a_module_that_asks_for_a_variable(folder):
+    s = Session(folder, files={"/m/ge/1": "setenv H [getenv HOME]\n"}, HOME="/home/me")
+    s.prints("show ge", "", said="/m/ge/1:\nsetenv H {$HOME}\n")
+    s.makes("load ge", H="/home/me")
+
+
+@case
+def a_module_that_asks_what_is_loaded(folder):
+    files = {"/m/il/1": "if {[is-loaded gcc]} {setenv G 1}\n"}
+    s = Session(folder, files=files)
+    s.makes("load il")
+    s.holds(G=None)
+    s = Session(folder, files=files)
+    s.makes("load gcc il", GCC="9", G="1", LOADEDMODULES="gcc/9:il/1")
+
+
+@case
+def avail_by_the_front_of_a_name(folder):
+    s = Session(folder, modulepath="/n")
+    s.prints("avail ver/1.1", "", said="/n:\nver/1.10\nver/1.10-rc\n")
+    write(folder, "/n/ver/.modulerc", "module-hide ver/1.9\n")
+    s.prints("avail ver/1.1", "", said="/n:\nver/1.10\nver/1.10-rc\n")
+    s.refuses("load ver", "Bad default file '/n/ver/.modulerc'")
+
+
+@case
+def a_module_that_asks_for_the_shell(folder):
+    text = (
+        "puts stderr [module-info shelltype],[module-info shell],[module-info shell zsh],[module-info shell sh]\n"
+        "puts stderr [module-info mode],[module-info mode remove]\n"
+    )
+    s = Session(folder, files={"/m/sh/1": text})
+    done = s.run("load sh", shell="zsh")
+    same((done.returncode, done.stderr), (0, b"sh,zsh,1,0\nload,0\n"), "what a load says under zsh")
+    s.makes("load sh", said="sh,sh,0,1\nload,0\n")
+    done = s.run("unload sh", shell="zsh")
+    same((done.returncode, done.stderr), (0, b"sh,zsh,1,0\nunload,1\n"), "what an unload says under zsh")
+
+
+# Delimiters.
+
+
+@case
+def elements_parted_by_another_delimiter(folder):
+    files = {"/m/dl/1": "prepend-path -d {;} Q {a:b;c}\n", "/m/dm/1": "append-path --delim {;} Q a:b\n"}
+    s = Session(folder, files=files)
+    s.prints("show dl", "", said="/m/dl/1:\nprepend-path --delim {;} Q {a:b;c}\n")
+    s.makes("load dl", Q="a:b;c")
+    line = b"__MODULES_SHARE_Q='a\\:b:2'; export __MODULES_SHARE_Q;"
+    true(line in s.run("load dm").stdout.splitlines(), f"{line!r} is printed")
+    s.makes("load dm", __MODULES_SHARE_Q="a\\:b:2")
+    s.makes("unload dl", Q="a:b", __MODULES_SHARE_Q=None)
+    s.makes("unload dm", Q=None)
+
+
+@case
+def a_backslash_in_old_counters(folder):
+    s = Session(folder, files={"/m/e/1": "prepend-path P {x\\y}\n"}, P="x\\y", __MODULES_SHARE_P="x\\y:2")
+    s.makes("load e", __MODULES_SHARE_P="x\\\\y:3")
+
+
+@case
+def ill_spelled_delimiters(folder):
+    s = Session(folder, files={"/m/e/1": "prepend-path -d {} P a\n", "/m/e/2": "prepend-path -d ab P a\n"})
+    s.refuses("load e/1", "Bad arguments")
+    s.refuses("load e/2", "Bad arguments")
+
+
+# An unset with a value.
+
+
+@case
+def an_unset_with_the_value_of_the_start(folder):
+    s = Session(folder, files={"/m/lg/1": "unsetenv LANG C\n"}, LANG="C")
+    s.prints("show lg", "", said="/m/lg/1:\nunsetenv LANG C\n")
+    s.makes_exactly(
+        "load lg",
+        "unset LANG;\nLOADEDMODULES='lg/1'; export LOADEDMODULES;\n_LMFILES_='/m/lg/1'; export _LMFILES_;\n",
+    )
+    s.makes_exactly("unload lg", "LANG='C'; export LANG;\nunset LOADEDMODULES;\nunset _LMFILES_;\n")
+
+
+@case
+def an_unset_with_another_value(folder):
+    s = Session(folder, files={"/m/lg/1": "unsetenv LANG C\n"}, LANG="de_DE")
+    s.makes("load lg", LANG=None)
+    s.makes("unload lg", LANG="C")
+
+
+def main():
+    if len(sys.argv) != 2:
+        sys.exit(f"{sys.argv[0]} PROGRAM")
+    passed, failed = run_all(sys.argv[1])
+    print(f"{passed} passed, {failed} failed")
+    return 1 if failed else 0
+
+
+if __name__ == "__main__":
+    sys.exit(main())
