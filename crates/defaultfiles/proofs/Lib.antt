@@ -1,1 +1,1 @@
-pub mod OneLeft
+pub mod Ends

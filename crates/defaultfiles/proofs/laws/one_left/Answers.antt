@@ -1,4 +1,4 @@
-use Rattle.defaultfiles.proofs.OneLeft as Laws
+use Rattle.defaultfiles.specs.OneLeft as Laws
 use Rattle.defaultfiles.proofs.laws.one_left.Goals as goal
 
 pub returns : goal.returns

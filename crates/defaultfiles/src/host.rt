@@ -1,0 +1,72 @@
+//! The host of a default file.
+ghost use Rattle.std.specs.Prelude.{◌≡◌, ◌++◌, ◌∷◌, [], map, string_bytes, IfOk, OnOk, OnErr};
+ghost use Rattle.defaultfiles.specs.Replies.{texts_of_words};
+
+use crate::replies::{Reply, reply_to};
+use std::alloc::{AllocError, Global};
+use tclrules::{Host, HostAnswer};
+
+/// Keeps the `module-version` commands of a default file. To the file each variable of the environment is unset, and
+/// what it writes is dropped.
+#[derive(Drop)]
+pub(crate) struct DefaultHost {
+    pub(crate) alloc: Global,
+    /// The words of each `module-version` command.
+    pub(crate) commands: Vec<Vec<String>>,
+    /// Whether a variable of the environment was read.
+    pub(crate) asked: bool,
+}
+
+fn copy_words(alloc: Global, words: &[String]) -> Result<Vec<String>, AllocError>
+    ensures { IfOk result (λ copies. map string_bytes copies.items ≡ map string_bytes words.now) }
+{
+    let mut copies = Vec::new(alloc);
+    for word in words {
+        copies.push(String::from_str(alloc, word.as_str())?)?;
+    }
+    Ok(copies)
+}
+
+impl DefaultHost {
+    fn keep(&mut self, words: &[String]) -> Result<(), AllocError>
+        ensures kept { OnOk result (map texts_of_words self.new.commands.items
+            ≡ map texts_of_words self.old.commands.items ++ map string_bytes words.now ∷ []) }
+        ensures same { OnErr result (self.new.commands.items ≡ self.old.commands.items) }
+        ensures asked { self.new.asked ≡ self.old.asked }
+    {
+        let copies = copy_words(self.alloc, words)?;
+        self.commands.push(copies)?;
+        Ok(())
+    }
+}
+
+impl Host for DefaultHost {
+    ghost use Rattle.std.specs.Prelude.{[], map};
+    ghost use Rattle.defaultfiles.specs.Leaves.{default_oracle};
+    ghost use Rattle.defaultfiles.specs.Replies.{texts_of_words};
+
+    ghost told = { λ h. record { records = map texts_of_words h.commands.items; messages = []; asked = h.asked } };
+
+    ghost oracle = { λ h. default_oracle };
+
+    fn command(&mut self, words: &[String]) -> HostAnswer {
+        match reply_to(words) {
+            Reply::Kept => match self.keep(words) {
+                Ok(()) => HostAnswer::Done(String::new(self.alloc)),
+                Err(_) => HostAnswer::OutOfMemory,
+            },
+            Reply::Dropped => HostAnswer::Done(String::new(self.alloc)),
+            Reply::Refused(number) => HostAnswer::Refused(number),
+            Reply::LeftOut(name) => match String::from_str(self.alloc, name) {
+                Ok(name) => HostAnswer::LeftOut(name),
+                Err(_) => HostAnswer::OutOfMemory,
+            },
+            Reply::Unknown => HostAnswer::Unknown,
+        }
+    }
+
+    fn read_env(&mut self, _name: &str) -> Result<Option<String>, AllocError> {
+        self.asked = true;
+        Ok(None)
+    }
+}

@@ -1,0 +1,85 @@
+//! What commands of default files are answered.
+ghost use Rattle.std.specs.Prelude.{◌≡◌, map, string_bytes};
+ghost use Rattle.tclrules.specs.Names.{is_among, left_out_module_commands};
+ghost use Rattle.defaultfiles.specs.Leaves.{version_answer, renaming_commands, named_answer, answer_to};
+ghost use Rattle.defaultfiles.specs.Replies.{reply_view};
+
+/// What is answered to a command.
+#[derive(Clone, Copy)]
+pub(crate) enum Reply<'a> {
+    /// It is kept.
+    Kept,
+    /// It is done, and leaves nothing.
+    Dropped,
+    /// It is refused by this number.
+    Refused(u16),
+    /// The command of this name is left out.
+    LeftOut(&'a str),
+    /// No such command is known.
+    Unknown,
+}
+
+/// Whether a command of this name gives a module another name, or hides or tags modules.
+#[tactic(auto, unfolding(crate::specs::Leaves::renaming_commands))]
+fn is_renaming(name: &str) -> bool
+    ensures { result ≡ is_among renaming_commands name.now }
+{
+    match name {
+        "module-alias" | "module-virtual" | "module-hide" => true,
+        "module-forbid" | "module-tag" => true,
+        _ => false,
+    }
+}
+
+/// Whether a command of this name is left out.
+#[tactic(auto, unfolding(tclrules::specs::Names::left_out_module_commands))]
+fn is_left_out(name: &str) -> bool
+    ensures { result ≡ is_among left_out_module_commands name.now }
+{
+    match name {
+        "module" | "depends-on" | "set-alias" | "set-function" | "system" | "uname" => true,
+        "source-sh" | "x-resource" | "chdir" | "family" | "complete" | "module-alias" => true,
+        "module-virtual" | "module-tag" | "module-hide" | "module-forbid" => true,
+        "prereq-all" | "prereq-any" | "module-help" | "is-avail" | "is-saved" | "is-used" => true,
+        "unset-alias" | "unset-function" | "uncomplete" => true,
+        "variant" | "getvariant" | "versioncmp" => true,
+        _ => false,
+    }
+}
+
+/// What `module-version` is answered, by all its words.
+fn version_reply(words: &[String]) -> Reply<'static>
+    ensures { reply_view result (map string_bytes words.now) ≡ version_answer (map string_bytes words.now) }
+{
+    match words {
+        [_command, _name, _word, ..] => Reply::Kept,
+        _ => Reply::Refused(56),
+    }
+}
+
+/// What a command is answered by its name and all its words.
+fn named_reply<'a>(name: &'a str, words: &[String]) -> Reply<'a>
+    ensures { reply_view result (map string_bytes words.now) ≡ named_answer name.entry.now (map string_bytes words.now) }
+{
+    if name == "module-version" {
+        version_reply(words)
+    } else if name == "puts" {
+        Reply::Dropped
+    } else if is_renaming(name) {
+        Reply::Refused(45)
+    } else if is_left_out(name) {
+        Reply::LeftOut(name)
+    } else {
+        Reply::Unknown
+    }
+}
+
+/// What a command is answered by its words.
+pub(crate) fn reply_to<'a>(words: &'a [String]) -> Reply<'a>
+    ensures { reply_view result (map string_bytes words.entry.now) ≡ answer_to (map string_bytes words.entry.now) }
+{
+    match words {
+        [name, ..] => named_reply(name, words),
+        [] => Reply::Unknown,
+    }
+}
