@@ -1,20 +1,19 @@
 -- What is left at the end of an evaluation by the program.
-use Rattle.std.proofs.Common.{◌≡◌, true, false, [], ◌∷◌, Option, Some, None, Ok, Err, refl, sym, ap}
+use Rattle.std.proofs.Common.{◌≡◌, false, [], ◌∷◌, Some, None, Ok, Err, refl, sym, ap}
 use Rattle.std.specs.Prelude.{codes}
 use Rattle.modulename.specs.ModuleName.{Text}
 use Rattle.tclrules.specs.Oracle.{Told}
-use Rattle.tclrules.specs.Derivation.{Outcome, Ended, World}
+use Rattle.tclrules.specs.Derivation.{Outcome}
 use Rattle.tclrules.specs.Variables.{Variables, lookup}
 use Rattle.tclrules.specs.Plans as plans
 use Rattle.tclrules.specs.Plans.{Normal}
-use Rattle.tclrules.specs.Meaning.{Setting}
 use Rattle.tclrules.specs.Promise.{ReportsFault, is_want_of_memory, texts_of, Evaluates}
 use Rattle.tclrules.specs.declared.limits.Limits.{Limits}
 use Rattle.tclrules.specs.declared.outcome.Ending.{Ending}
 use Rattle.tclrules.specs.declared.outcome.EvalFault.{EvalFault}
 use Rattle.tclrules.specs.declared.outcome.EvalFault.TheVariants as fault
 use Rattle.modulesearch.specs.DefaultFiles.{Left}
-use Rattle.defaultfiles.specs.Leaves.{default_setting, default_oracle, left_of, Leaves}
+use Rattle.defaultfiles.specs.Leaves.{default_oracle, left_of, Leaves}
 
 -- a fault but want of memory leaves nothing
 nothing_left : (script : Text) (f : EvalFault) (o : Outcome plans.Ending) (told : Told) → is_want_of_memory f ≡ false → ReportsFault script f o → left_of o told ≡ None

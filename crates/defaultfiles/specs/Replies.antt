@@ -1,5 +1,5 @@
 -- Replies of the host, as answers.
-use Rattle.std.specs.Prelude.{ℕ, false, List, [], map, string_bytes, vec_items, String}
+use Rattle.std.specs.Prelude.{false, List, [], map, string_bytes, vec_items, String}
 use Rattle.std.specs.declared.vec.Vec.{Vec}
 use Rattle.std.specs.declared.alloc.Global.{Global}
 use Rattle.modulename.specs.ModuleName.{Text}
