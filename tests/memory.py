@@ -41,13 +41,15 @@ def refusals_with_too_little_memory(folder):
     folder.module("left/1", "puts hello\n")
     folder.module("mark/1", "setenv A $b\n")
     folder.module("bytes/1", b"\xff")
+    folder.module("line/1", "setenv A {\n}\n")
     for words in (
         ["sh", "load", "nope"],
         ["sh", "load", ".."],
         ["sh", "load", "left/1"],
         ["sh", "load", "mark/1"],
         ["sh", "load", "bytes/1"],
-        ["csh", "load", "foo/1.0"],
+        ["elvish", "load", "foo/1.0"],
+        ["csh", "load", "line/1"],
         ["sh", "avail"],
     ):
         answers_or_refuses(folder, words, folder.environment())

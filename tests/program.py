@@ -67,6 +67,34 @@ def a_quote_in_a_value(folder):
     folder.accepts(["sh", "load", "sq/1"], lists[0] + b"Q='it'\\''s!'; export Q;\n" + lists[1])
 
 
+@case
+def a_quote_in_the_shells_of_other_families(folder):
+    path = folder.module("sq/1", "setenv Q it's!\n")
+    for shell in ("csh", "tcsh"):
+        text = b"setenv LOADEDMODULES 'sq/1';\nsetenv Q 'it'\\''s'\\!'';\nsetenv _LMFILES_ '" + path + b"';\n"
+        folder.accepts([shell, "load", "sq/1"], text)
+    text = b"set -xg LOADEDMODULES 'sq/1';\nset -xg Q 'it\\'s!';\nset -xg _LMFILES_ '" + path + b"';\n"
+    folder.accepts(["fish", "load", "sq/1"], text)
+    loaded_sq = folder.environment(Q="it's!", LOADEDMODULES="sq/1", _LMFILES_=path)
+    folder.accepts(["tcsh", "unload", "sq"], b"unsetenv LOADEDMODULES;\nunsetenv Q;\nunsetenv _LMFILES_;\n", env=loaded_sq)
+    folder.accepts(["fish", "unload", "sq"], b"set -e LOADEDMODULES;\nset -e Q;\nset -e _LMFILES_;\n", env=loaded_sq)
+
+
+@case
+def a_newline_in_the_shells_of_each_family(folder):
+    folder.module("nl/1", 'setenv MSG "a\\nb"\n')
+    lists = new_lists(folder, "nl/1")
+    folder.accepts(["sh", "load", "nl/1"], lists[0] + b"MSG='a\nb'; export MSG;\n" + lists[1])
+    done = folder.run("fish", "load", "nl/1")
+    same(done.stdout.split(b";\n")[1], b"set -xg MSG 'a\nb'", "the line for fish")
+    for shell in ("csh", "tcsh"):
+        folder.refuses([shell, "load", "nl/1"], "Value of 'MSG' can't be said in this shell")
+    folder.module("two/1", 'setenv B "a\\nb"\nsetenv C fine\nsetenv A "\\n"\n')
+    folder.refuses(["csh", "load", "two/1"], "Value of 'A' can't be said in this shell")
+    held = folder.environment(MSG="a\nb", LOADEDMODULES="nl/1", _LMFILES_=folder.at("nl/1"))
+    folder.accepts(["csh", "unload", "nl"], b"unsetenv LOADEDMODULES;\nunsetenv MSG;\nunsetenv _LMFILES_;\n", env=held)
+
+
 # What stands at a module's path.
 
 
@@ -534,8 +562,10 @@ def words_that_are_refused(folder):
         (["sh", "avail"], "Unknown subcommand 'avail'"),
         (["sh", "frobnicate"], "Unknown subcommand 'frobnicate'"),
         (["sh", ""], "Unknown subcommand ''"),
-        (["csh", "load", "foo/1.0"], "Unknown shell 'csh'"),
-        (["fish"], "Unknown shell 'fish'"),
+        (["elvish", "load", "foo/1.0"], "Unknown shell 'elvish'"),
+        (["rc"], "Unknown shell 'rc'"),
+        (["Sh", "load", "foo/1.0"], "Unknown shell 'Sh'"),
+        (["fish"], "Bad arguments"),
         (["", "load", "foo/1.0"], "Unknown shell ''"),
         ([b"\xff", "load", "foo/1.0"], "Bad arguments"),
         (["sh", b"\xff", "foo/1.0"], "Bad arguments"),

@@ -159,9 +159,6 @@ def the_pages_tell_what_waits(folder):
     for name in ("switch", "swap", "purge", "list", "avail", "show", "display", "whatis"):
         true(name in waits, f"the page says that {name} waits")
         folder.refuses(["sh", name, "foo"], f"Unknown subcommand '{name}'")
-    for name in ("csh", "tcsh", "fish"):
-        true(f".Ql {name}" in waits, f"the page says that {name} waits")
-        folder.refuses([name, "load", "foo/1.0"], f"Unknown shell '{name}'")
     folder.module("foo/1.0", "setenv FOO on\n")
     folder.refuses(["sh", "load", "foo/1.0", "bar"], "Bad arguments")
     folder.refuses(["sh", "load", "foo"], "Unable to locate a modulefile for 'foo'")

@@ -1,11 +1,13 @@
 -- What a command line asks for and what that makes of an environment, over the files of a tree.
-use Rattle.std.specs.Prelude.{ℕ, List, [], ◌∷◌, codes, if◌then◌else◌, Option, Some, None, Result, Ok, Err, bytes_eq, string_bytes}
+use Rattle.std.specs.Prelude.{ℕ, List, [], ◌∷◌, Option, Some, None, Result, Ok, Err, string_bytes}
 use Rattle.envstate.specs.Texts.{Text}
 use Rattle.envstate.specs.Environment.{Environment}
 use Rattle.envstate.specs.Changes.{Edit, AreChanges}
 use Rattle.lookup.specs.Agreement.{Files}
-use Rattle.modules.specs.declared.requests.Shell.{Shell}
-use Rattle.modules.specs.declared.requests.Shell.TheVariants.{Sh, Bash, Ksh, Zsh}
+use Rattle.shells.specs.declared.shell.Shell.{Shell}
+use Rattle.shells.specs.Shells.{shell_named}
+use Rattle.shelltext.specs.declared.print.PrintFault.TheVariants as prints
+use Rattle.shelltext.specs.Printing.{IsUnsayable, print_fault_number}
 use Rattle.modules.specs.declared.running.Limits.{Limits}
 use Rattle.modules.specs.Reasons.{Reason, bad_arguments}
 use Rattle.modules.specs.Requests.{Asked, request_of}
@@ -13,26 +15,15 @@ use Rattle.modules.specs.Answers.{origin_of, IsOrigin}
 use Rattle.modules.specs.Answers.{number_of as refusal_number}
 use Rattle.modules.specs.Steps.{Done, step}
 use Rattle.modules.specs.declared.refusal.Refusal.TheVariants as refusals
-use Rattle.modulecmd.specs.declared.print.PrintFault.TheVariants as prints
 use Rattle.modulecmd.specs.declared.process.ArgumentsFault.{ArgumentsFault}
 use Rattle.modulecmd.specs.declared.process.ArgumentsFault.TheVariants as given
 use Rattle.modulecmd.specs.declared.refuse.CommandFault.{CommandFault}
 use Rattle.modulecmd.specs.declared.refuse.CommandFault.TheVariants.{Refused, Unprinted, UnknownShell, WriteFailed}
-use Rattle.modulecmd.specs.Printing.{IsUnsayable, print_fault_number}
 
 -- Why a command is refused, apart from want of memory, a failed device, a failed write and changes without a text.
 pub data CommandReason : Type 0 where
   unknown_shell : (word : Text) → CommandReason
   because : (reason : Reason) → CommandReason
-
--- the shell of this name
-abbrev pub shell_named : Text → Option Shell
-shell_named word =
-    if bytes_eq word (codes "sh") then Some Sh
-    else if bytes_eq word (codes "bash") then Some Bash
-    else if bytes_eq word (codes "ksh") then Some Ksh
-    else if bytes_eq word (codes "zsh") then Some Zsh
-    else None
 
 -- what is asked for, and the shell that is to read the text
 abbrev pub Command : Type 0

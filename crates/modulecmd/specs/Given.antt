@@ -1,5 +1,5 @@
 -- The environment that a process is given (environ(7)): a block of entries NAME=VALUE, each ended by NUL.
-use Rattle.std.specs.Prelude.{ℕ, Bool, List, [], ◌∷◌, not, ◌&&◌, ◌==◌, nat_lt, length, if◌then◌else◌, Option, Some, None}
+use Rattle.std.specs.Prelude.{ℕ, Bool, List, [], ◌∷◌, ◌&&◌, ◌==◌, nat_lt, length, if◌then◌else◌, Option, Some, None}
 use Rattle.std.specs.List.{position_or_len, before_first, after_first, slice_split}
 use Rattle.std.specs.Str.{is_utf8}
 use Rattle.std.specs.FinMap as finite

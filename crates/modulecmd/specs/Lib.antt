@@ -1,5 +1,3 @@
-pub mod Shells
-pub mod Printing
 pub mod Writing
 pub mod Given
 pub mod Lines

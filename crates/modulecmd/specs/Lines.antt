@@ -1,16 +1,10 @@
 -- What faults say, and the line on standard error that tells why a command is refused.
 use Rattle.std.specs.Prelude.{[], ◌∷◌, ◌++◌, codes, string_bytes}
-use Rattle.message.specs.Messages.{Text, around, quoting}
+use Rattle.message.specs.Messages.{Text, quoting}
 use Rattle.modules.specs.Answers.{refusal_message}
-use Rattle.modulecmd.specs.declared.print.PrintFault.{PrintFault}
-use Rattle.modulecmd.specs.declared.print.PrintFault.TheVariants as prints
+use Rattle.shelltext.specs.Printing.{print_message}
 use Rattle.modulecmd.specs.declared.refuse.CommandFault.{CommandFault}
 use Rattle.modulecmd.specs.declared.refuse.CommandFault.TheVariants.{Refused, Unprinted, UnknownShell, WriteFailed}
-
-abbrev pub print_message : PrintFault → Text
-print_message prints.OutOfMemory = codes "Out of memory"
-print_message (prints.NotSayable name) =
-    around (codes "Value of '") (string_bytes name) (codes "' can't be said in this shell")
 
 -- the text of its layer's fault, or its own
 abbrev pub message_of : CommandFault → Text

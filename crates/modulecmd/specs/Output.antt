@@ -6,7 +6,7 @@ use Rattle.envstate.specs.Environment.{Environment}
 use Rattle.modules.specs.Steps.{Done}
 use Rattle.modulecmd.specs.declared.refuse.CommandFault.{CommandFault}
 use Rattle.modulecmd.specs.declared.refuse.CommandFault.TheVariants.{WriteFailed}
-use Rattle.modulecmd.specs.Shells.{SaysDifference}
+use Rattle.shelltext.specs.Reading.{SaysDifference}
 use Rattle.lookup.specs.Agreement.{Files, Listings, Shows}
 use Rattle.modulecmd.specs.Writing.{AppendsPart}
 use Rattle.modulecmd.specs.Command.{Effect, CommandReason, HasReason, IsUnsaid}

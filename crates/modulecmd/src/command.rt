@@ -2,22 +2,23 @@
 ghost use Rattle.std.specs.Prelude.{◌≡◌, ◌<◌, ◌≤◌, ◌⊎◌, [], map, Ok, Err, IfOk, IfErr, OnOk, OnErr, string_bytes};
 ghost use Rattle.std.specs.Io.KnownBytes.{Keeps, Appends};
 ghost use Rattle.lookup.specs.Agreement.{Shows, Narrows};
+ghost use Rattle.shelltext.specs.Reading.{SaysDifference};
 ghost use Rattle.modules.specs.Requests.{asked};
 ghost use Rattle.modulecmd.specs.declared.ends.Exit.{Exit};
 ghost use Rattle.modulecmd.specs.Command as spec;
 ghost use Rattle.modulecmd.specs.Command.{effect, HasReason, LacksText};
 ghost use Rattle.modulecmd.specs.Output.{Ends, Finishes, IsAnswer, IsRefused, Tells, status_of};
-ghost use Rattle.modulecmd.specs.Shells.{SaysDifference};
 ghost use Rattle.modulecmd.specs.Words.{words_of};
 ghost use Rattle.modulecmd.specs.Writing.{AppendsPart};
 
 use crate::ends::Exit;
-use crate::print::print_changes;
 use crate::refuse::{CommandFault, write_refusal};
 use crate::writers::{WriteFault, write_bytes, write_parts};
 use envstate::{Env, changes};
 use lookup::Tree;
-use modules::{Limits, Refusal, Request, Shell, request, run};
+use modules::{Limits, Refusal, Request, request, run};
+use shells::Shell;
+use shelltext::print_changes;
 use std::alloc::Global;
 use std::io::Write;
 
@@ -36,18 +37,6 @@ struct Answer {
     text: String,
 }
 
-fn shell_named(word: &str) -> Option<Shell>
-    ensures { result ≡ spec.shell_named word.now }
-{
-    match word {
-        "sh" => Some(Shell::Sh),
-        "bash" => Some(Shell::Bash),
-        "ksh" => Some(Shell::Ksh),
-        "zsh" => Some(Shell::Zsh),
-        _ => None,
-    }
-}
-
 /// The request that the arguments make: the name of a shell, and then the words of the request.
 fn command_of(alloc: Global, args: &[String]) -> Result<Request, CommandFault>
     ensures made { IfOk result (λ r. spec.command_of (map string_bytes args.now) ≡ Ok (r.shell, asked r.action)) }
@@ -57,7 +46,7 @@ fn command_of(alloc: Global, args: &[String]) -> Result<Request, CommandFault>
     let [word, words @ ..] = args else {
         return Err(CommandFault::Refused(Refusal::BadArguments));
     };
-    match shell_named(word.as_str()) {
+    match Shell::named(word.as_str()) {
         None => Err(CommandFault::UnknownShell(word.clone()?)),
         Some(shell) => Ok(request(alloc, shell, words)?),
     }

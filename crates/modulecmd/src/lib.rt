@@ -4,11 +4,8 @@
 mod block;
 mod command;
 mod ends;
-pub mod laws;
-mod print;
 pub mod process;
 mod refuse;
-mod shells;
 mod writers;
 
 pub use block::environment_of;
@@ -16,7 +13,8 @@ pub use command::{modulecmd, run_command};
 pub use ends::Exit;
 pub use envstate::{Change, Env, EnvFault, changes};
 pub use lookup::{DiskTree, MemoryTree, Tree, TreeFault};
-pub use modules::{Action, Limits, Refusal, Reply, Request, Shell, request, run};
-pub use print::{PrintFault, print_changes};
+pub use modules::{Action, Limits, Refusal, Reply, Request, request, run};
 pub use refuse::{CommandFault, write_refusal};
+pub use shells::Shell;
+pub use shelltext::{PrintFault, print_changes};
 pub use writers::WriteFault;

@@ -8,13 +8,13 @@ ghost use Rattle.modules.specs.declared.refusal.Refusal.TheVariants as refusals;
 ghost use Rattle.modulecmd.specs.declared.refuse.CommandFault.TheVariants.{Refused, Unprinted};
 ghost use Rattle.modulecmd.specs.Command.{number_of, of_arguments};
 
-use crate::print::PrintFault;
 use crate::process::ArgumentsFault;
 use crate::writers::{WriteFault, write_parts};
 use envstate::EnvFault;
 use itoa::Buffer;
 use message::Message;
 use modules::Refusal;
+use shelltext::PrintFault;
 use std::alloc::AllocError;
 use std::error::Error;
 use std::fmt;

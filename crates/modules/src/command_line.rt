@@ -5,8 +5,9 @@ ghost use Rattle.modules.specs.Answers.{Gives, origin_of, IsOrigin};
 ghost use Rattle.modules.specs.Subcommands.{subcommand_of};
 
 use crate::refusal::Refusal;
-use crate::requests::{Action, Request, Shell};
+use crate::requests::{Action, Request};
 use crate::running::{one_name, only};
+use shells::Shell;
 use std::alloc::Global;
 
 /// A subcommand of this tool.

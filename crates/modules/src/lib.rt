@@ -14,5 +14,6 @@ pub use envstate::{Change, End, Env, EnvFault, Loaded};
 pub use evaluate::Mode;
 pub use lookup::{FindFault, Tree, TreeFault};
 pub use refusal::Refusal;
-pub use requests::{Action, Request, Shell};
+pub use requests::{Action, Request};
 pub use running::{Limits, Reply, run};
+pub use shells::Shell;

@@ -1,13 +1,6 @@
 //! What a command line asks for.
 
-/// A shell whose code is printed.
-#[derive(Clone, Copy, Debug, PartialEq, Eq)]
-pub enum Shell {
-    Sh,
-    Bash,
-    Ksh,
-    Zsh,
-}
+use shells::Shell;
 
 /// What is asked for: each with the names of modules as they were typed.
 #[derive(Debug, Drop)]

@@ -1,9 +1,0 @@
-use Rattle.std.proofs.Common.{sym}
-use Rattle.modulecmd.proofs.laws.difference_makes.Goals as goal
-
-pub returns : goal.returns
-returns c shell text old new difference = record {
-  settings = difference.settings;
-  says = difference.says;
-  made = sym (c.changes.ensures old new difference.settings difference.exact);
-}

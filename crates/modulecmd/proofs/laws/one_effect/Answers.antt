@@ -1,8 +1,0 @@
-use Rattle.std.proofs.Common.{sym, ap, ◌∙◌}
-use Rattle.envstate.specs.Changes.{applied}
-use Rattle.modulecmd.proofs.Reader.{one}
-use Rattle.modulecmd.proofs.laws.one_effect.Goals as goal
-
-pub returns : goal.returns
-returns c shell text old new other h k =
-    h.made ∙ (ap (λ ss. applied ss old) (one shell text h.settings k.settings h.says k.says) ∙ sym k.made)

@@ -1,9 +1,0 @@
-use Rattle.std.proofs.Common.{rules, sym}
-use Rattle.modulecmd.proofs.Bytes.{spell_char, spell_char_mark}
-use Rattle.modulecmd.proofs.shells.push_char.Goals as goal
-
-pub returns-then-is_mark : goal.returns-then-is_mark
-returns-then-is_mark c = rw (spell_char_mark c.args.family c.args.c (sym c.if-is_mark.ensures)) (search rules)
-
-pub returns-else-is_mark : goal.returns-else-is_mark
-returns-else-is_mark c = rw (spell_char c.args.family c.args.c (sym c.if-is_mark.ensures)) (search rules)
