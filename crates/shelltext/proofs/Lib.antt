@@ -1,3 +1,4 @@
 pub mod Bytes
 pub mod Printed
 pub mod Reader
+pub mod Together

@@ -1,0 +1,38 @@
+-- Texts that are run one after the other, each by its own shell: what a user's shells hold after all commands so far.
+use Rattle.std.specs.Prelude.{◌≡◌, List, [], ◌∷◌}
+use Rattle.environment.specs.Texts.{Text}
+use Rattle.environment.specs.Environment.{Environment}
+use Rattle.shells.specs.declared.shell.Shell.{Shell}
+use Rattle.shelltext.specs.Reading.{MakesOf, SaysDifference}
+
+-- a text, and the shell that runs it
+abbrev pub Run : Type 0
+Run = Shell × Text
+
+-- what the runs make of an environment, each over what the one before it left
+abbrev pub MakeOf : List Run → Environment → Environment → Type 0
+MakeOf [] old new = new ≡ old
+MakeOf (run ∷ runs) old new =
+    (between : Environment) × MakesOf run.0 run.1 old between × MakeOf runs between new
+
+-- Each text says the difference between the environment before it and the next of these.
+abbrev pub SayDifferences : List Run → Environment → List Environment → Type 0
+SayDifferences [] old [] = Unit {0}
+SayDifferences [] old (new ∷ later) = ⊥
+SayDifferences (run ∷ runs) old [] = ⊥
+SayDifferences (run ∷ runs) old (new ∷ later) = SaysDifference run.0 run.1 old new × SayDifferences runs new later
+
+-- the last of the environments, or the first where there is no other
+abbrev pub last_of : Environment → List Environment → Environment
+last_of old [] = old
+last_of old (new ∷ later) = last_of new later
+
+-- runs make one thing of an environment
+abbrev pub OneEffectTogether : Type 0
+OneEffectTogether = (runs : List Run) (old new other : Environment) → MakeOf runs old new → MakeOf runs old other → new ≡ other
+
+-- runs whose texts say the differences from each environment to the next make the last of the first
+abbrev pub DifferencesMake : Type 0
+DifferencesMake =
+    (runs : List Run) (old : Environment) (later : List Environment) → SayDifferences runs old later
+    → MakeOf runs old (last_of old later)
