@@ -721,6 +721,9 @@ def main():
         scripts.append(joined("; ", [command("set p 1"), command("catch {%s} m", alone), command("set n 2")]))
         turn = command("if {$j} {%s}", alone)
         scripts.append(command("foreach j {0 1} {%s}", turned(turn)))
+    # more different bodies and conditions than are kept
+    bodies = [command("if {$n >= -%d} {%s}" % (n, "%s"), command("incr n %d" % n)) for n in range(1100)]
+    scripts.append(joined("; ", [command("set n 0"), command("foreach j {0 1} {%s}", turned(joined("; ", bodies)))]))
     start = time.time()
     ours = [Answer(line, True) for line in ask(program, [case(s.ours) for s in scripts])]
     took = time.time() - start

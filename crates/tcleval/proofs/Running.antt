@@ -1,5 +1,5 @@
 -- How an evaluation comes on in a derivation, besides the steps of words and expressions.
-use Rattle.std.proofs.Common.{◌≡◌, ℕ, ◌+◌, ◌<◌, ◌≤◌, Bool, true, false, List, [], ◌∷◌, length, get_or, drop, drop-cons, add-one, suc, map, String, Global, Result, Ok, Err, Option, Some, None, Bor, refl, sym, ◌∙◌, ap, arith, rules}
+use Rattle.std.proofs.Common.{◌≡◌, ℕ, ◌+◌, ◌<◌, ◌≤◌, Bool, true, false, List, [], ◌∷◌, length, get_or, drop, drop-cons, add-one, suc, map, String, Global, Result, Ok, Err, Option, Some, None, Bor, refl, sym, ◌∙◌, ap, ◌++◌, append_assoc, append-nil, arith, rules}
 use Rattle.std.specs.Prelude.{string_bytes, IsErrAnd, IfOk, IfSome, if◌then◌else◌, nat_eq, nat_le}
 use Rattle.std.proofs.lemmas.Bool.Decides.{nat_tests}
 use Rattle.std.proofs.lemmas.Bool.{ne_eqb}
@@ -32,6 +32,8 @@ use Rattle.tclsteps.specs.Stops.{after, stopped, stop_of, text_stop}
 use Rattle.tclsteps.specs.declared.stop.Stop.{Stop}
 use Rattle.tclsteps.specs.declared.stop.Stop.TheVariants as stops
 use Rattle.tcleval.specs.Runs.{finish, ran}
+use Rattle.tclkept.specs.Trees.{Begins}
+use Rattle.tclkept.specs.Kept.{Kept, BeginWith}
 use Rattle.tcleval.specs.Later.{Later}
 use Rattle.tcleval.specs.declared.evaluator.Evaluator.{Evaluator}
 
@@ -110,11 +112,38 @@ module _ {P : Type 0} (shown : P → Text) where
   word_parts w = search (rules, rust_word.the_lemmas)
 
 -- later and later
+pub begins_refl : {A : Type 0} {xs : List A} → Begins xs xs
+begins_refl {A} {xs} = ([], sym (append-nil xs))
+
+begins_on : {A : Type 0} (xs ys zs : List A) → Begins xs ys → Begins ys zs → Begins xs zs
+begins_on xs ys zs a b = (a.0 ++ b.0, b.1 ∙ ap (λ l. l ++ b.0) a.1 ∙ append_assoc xs a.0 b.0)
+
+begin_with_on : (a b c : Kept) → BeginWith a b → BeginWith b c → BeginWith a c
+begin_with_on a b c h k = (begins_on a.scripts b.scripts c.scripts h.0 k.0, begins_on a.expressions b.expressions c.expressions h.1 k.1)
+
+pub later_still : {a b : Evaluator} → b.used ≡ a.used → b.kept ≡ a.kept → Later a b
+later_still u k = record { rises = omega (arith, u); begins = rw k (begins_refl, begins_refl) }
+
 pub later_refl : {a : Evaluator} → Later a a
-later_refl = record { rises = omega arith }
+later_refl = later_still refl refl
 
 pub later_on : {a b c : Evaluator} → Later a b → Later b c → Later a c
-later_on l m = record { rises = omega (arith, l.rises, m.rises) }
+later_on {a} {b} {c} l m = record { rises = omega (arith, l.rises, m.rises); begins = begin_with_on a.kept b.kept c.kept l.begins m.begins }
+
+-- a command or a turn is counted
+pub later_counted : {a b : Evaluator} → b.used ≡ a.used + 1 → b.kept ≡ a.kept → Later a b
+later_counted u k = record { rises = omega (arith, u); begins = rw k (begins_refl, begins_refl) }
+
+-- a text is parsed
+pub later_begun : {a b : Evaluator} → b.used ≡ a.used → BeginWith a.kept b.kept → Later a b
+later_begun u k = record { rises = omega (arith, u); begins = k }
+
+pub later_parsed : {a b c : Evaluator} → b.used ≡ a.used → BeginWith a.kept b.kept → Later b c → Later a c
+later_parsed u k l = later_on (later_begun u k) l
+
+-- variables change besides
+pub later_beside : {a a' b b' : Evaluator} → a'.used ≡ a.used → a'.kept ≡ a.kept → b'.used ≡ b.used → b'.kept ≡ b.kept → Later a' b' → Later a b
+later_beside u k v l h = later_on (later_still u k) (later_on h (later_still (sym v) (sym l)))
 
 -- a text that is no script
 pub text_stops : {most : ℕ} {r : Job → Step} {x : Point} (f : TextFault) (read : Result tree.Commands TextFault) (k : tree.Commands → Step) (s : State) → FailsWith f read → Leads most r (parsed read k) x (stopped (text_stop f) s) x

@@ -19,7 +19,6 @@ use Rattle.tclrules.proofs.Outcomes.{unstarved}
 use Rattle.tcleval.specs.Files.{cut_outcome, after_file, Answers}
 use Rattle.tcleval.specs.declared.file.Cut.{Cut}
 use Rattle.tcleval.specs.declared.file.Cut.TheVariants as cuts
-use Rattle.tcleval.specs.declared.evaluator.Evaluator.{Evaluator}
 
 -- a file that is cut has its outcome
 cut_ends : (cut : Cut) (s : State) → after_file (Err cut) s ≡ Ends (cut_outcome cut s)
@@ -40,8 +39,8 @@ fed script (fault.LeftOut name) h d = unstarved d (λ e. cc)
 fed script fault.Stopped h d = unstarved d (λ e. cc)
 fed script (fault.Host n) h d = unstarved d (λ e. cc)
 
-pub evaluated : (l : Limits) (script : Text) (globals : Variables) (oracle oracle' : Oracle) (told told' : Told) (e : Evaluator) (res : Result (String Global) Cut) (result : Result Ending EvalFault) → Leads l.commands (rule l.value_bytes) (plan_of l script globals) (point oracle told 0) (after_file res e.variables) (point oracle' told' e.used) → Answers script e res result → Evaluates l script globals oracle told result told'
-evaluated l script globals oracle oracle' told told' e (Ok t) (Ok end) led a = (e.variables, rw (a.0, a.1) (unstarved (led.by _ _ ends) (λ q. cc)), a.2)
-evaluated l script globals oracle oracle' told told' e (Ok t) (Err f) led a = rw a (Halted OutOfMemory, e.used, refl, led.by (Halted OutOfMemory) (record { used = e.used; told = told' }) (starves false refl))
-evaluated l script globals oracle oracle' told told' e (Err cut) (Ok end) led a = absurd a
-evaluated l script globals oracle oracle' told told' e (Err cut) (Err f) led a = (cut_outcome cut e.variables, e.used, a, fed script f a (led.by _ _ (rw (cut_ends cut e.variables) ends)))
+pub evaluated : (l : Limits) (script : Text) (globals : Variables) (oracle oracle' : Oracle) (told told' : Told) (s : State) (used : ℕ) (res : Result (String Global) Cut) (result : Result Ending EvalFault) → Leads l.commands (rule l.value_bytes) (plan_of l script globals) (point oracle told 0) (after_file res s) (point oracle' told' used) → Answers script s used res result → Evaluates l script globals oracle told result told'
+evaluated l script globals oracle oracle' told told' s used (Ok t) (Ok end) led a = (s, rw (a.0, a.1) (unstarved (led.by _ _ ends) (λ q. cc)), a.2)
+evaluated l script globals oracle oracle' told told' s used (Ok t) (Err f) led a = rw a (Halted OutOfMemory, used, refl, led.by (Halted OutOfMemory) (record { used = used; told = told' }) (starves false refl))
+evaluated l script globals oracle oracle' told told' s used (Err cut) (Ok end) led a = absurd a
+evaluated l script globals oracle oracle' told told' s used (Err cut) (Err f) led a = (cut_outcome cut s, used, a, fed script f a (led.by _ _ (rw (cut_ends cut s) ends)))

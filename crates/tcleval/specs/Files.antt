@@ -13,7 +13,6 @@ use Rattle.tclrules.specs.declared.outcome.EvalFault.TheVariants as fault
 use Rattle.tclsteps.specs.Stops.{halt_of}
 use Rattle.tcleval.specs.declared.file.Cut.{Cut}
 use Rattle.tcleval.specs.declared.file.Cut.TheVariants as cuts
-use Rattle.tcleval.specs.declared.evaluator.Evaluator.{Evaluator}
 
 -- the outcome of a file that is cut in this state
 abbrev pub cut_outcome : Cut → State → Outcome plans.Ending
@@ -31,8 +30,8 @@ abbrev pub ReportsCut : Text → ℕ → Cut → EvalFault → Type 0
 ReportsCut script place cut f = (s : State) → s.place ≡ place → ReportsFault script f (cut_outcome cut s)
 
 -- what is answered of a file that came to an end with these variables and this count
-abbrev pub Answers : Text → Evaluator → Result (String Global) Cut → Result Ending EvalFault → Type 0
-Answers script e (Ok t) (Ok end) = (string_bytes end.result ≡ string_bytes t) × (end.used_commands ≡ e.used) × (e.variables.globals ≡ texts_of end.globals.items)
-Answers script e (Ok t) (Err f) = f ≡ fault.OutOfMemory
-Answers script e (Err cut) (Ok end) = ⊥
-Answers script e (Err cut) (Err f) = ReportsFault script f (cut_outcome cut e.variables)
+abbrev pub Answers : Text → State → ℕ → Result (String Global) Cut → Result Ending EvalFault → Type 0
+Answers script s used (Ok t) (Ok end) = (string_bytes end.result ≡ string_bytes t) × (end.used_commands ≡ used) × (s.globals ≡ texts_of end.globals.items)
+Answers script s used (Ok t) (Err f) = f ≡ fault.OutOfMemory
+Answers script s used (Err cut) (Ok end) = ⊥
+Answers script s used (Err cut) (Err f) = ReportsFault script f (cut_outcome cut s)

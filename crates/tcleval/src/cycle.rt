@@ -23,7 +23,7 @@ ghost use Rattle.tcleval.specs.Later.{Later};
 use crate::endings::{after_call, after_catch, after_next, after_turn};
 use crate::evaluator::{Evaluator, sized};
 use crate::plain::{plain, unknown};
-use crate::trees::{express_tree, normal, tree_of};
+use crate::trees::{express_tree, normal};
 use crate::turns::begin_turn;
 use crate::words::push_words;
 use tclarguments::{Loops, allotted, chosen};
@@ -56,7 +56,7 @@ impl Evaluator {
         if left == 0 {
             return Err(Stop::Halted(Halt::TooDeep));
         }
-        match tree_of(self.alloc, text) {
+        match self.kept.script_tree(text) {
             Ok(tree) => self.commands(host, limits, left - 1, tree.text.as_str(), &tree.script),
             Err(fault) => Err(Stop::of_text(fault)),
         }
@@ -220,7 +220,7 @@ impl Evaluator {
             (point (H.oracle host.new) (H.told host.new) self.new.used) }
         ensures later { Later self.old self.new }
     {
-        let tree = express_tree(self.alloc, text)?;
+        let tree = express_tree(self.alloc, &mut self.kept, text)?;
         let start = Control::Expression(&tree.expression);
         let value = self.value(host, limits, left, tree.text.as_str(), start)?;
         let value = normal(self.alloc, value)?;

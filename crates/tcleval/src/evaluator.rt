@@ -9,14 +9,16 @@ ghost use Rattle.tclsteps.specs.declared.stop.Stop.TheVariants.{Halted};
 ghost use Rattle.tclsteps.specs.declared.stop.Halt.TheVariants.{TooManyCommands};
 
 use std::alloc::Global;
+use tclkept::Kept;
 use tclrules::Limits;
 use tclsteps::{Halt, Stop};
 use tclvariables::Variables;
 
-/// The variables, and how many commands and turns of loops were counted.
+/// The trees that are kept, the variables, and how many commands and turns of loops were counted.
 #[derive(Drop)]
 pub(crate) struct Evaluator {
     pub(crate) alloc: Global,
+    pub(crate) kept: Kept,
     pub(crate) variables: Variables,
     pub(crate) used: u64,
 }
@@ -28,6 +30,7 @@ impl Evaluator {
             (λ _. (self.old.used < limits.commands) × (self.new.used ≡ self.old.used + 1))
             (λ stop. (limits.commands ≤ self.old.used) × (self.new.used ≡ self.old.used) × (stop ≡ Halted TooManyCommands)) }
         ensures variables { self.new.variables ≡ self.old.variables }
+        ensures kept { self.new.kept ≡ self.old.kept }
     {
         if self.used >= limits.commands {
             return Err(Stop::Halted(Halt::TooManyCommands));

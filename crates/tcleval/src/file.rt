@@ -12,16 +12,20 @@ ghost use Rattle.tclrules.specs.Meaning.{line_at};
 ghost use Rattle.tclrules.specs.Promise.{Evaluates, ReportsFault, texts_of};
 ghost use Rattle.tclsteps.specs.Machine.{shown, bounds};
 ghost use Rattle.tclsteps.specs.Stops.{after, halt_of};
+ghost use Rattle.tclkept.specs.Kept.{BeginWith};
+ghost use Rattle.tcleval.specs.Later.{Later};
 ghost use Rattle.tcleval.specs.Runs.{finish, ran};
 ghost use Rattle.tcleval.specs.Files.{after_file, ReportsCut, Answers};
 
 use crate::evaluator::Evaluator;
-use crate::trees::tree_of;
 use std::alloc::Global;
+use std::mem;
 use tclcommands::started;
+use tclkept::Kept;
 use tclrules::{Ending, EvalFault, Host, Limits};
 use tclscript::{ByteRange, Script};
 use tclsteps::{Halt, Stop};
+use tclvariables::Variables;
 
 impl Evaluator {
     /// The commands of a file, of each of which the place is kept.
@@ -34,11 +38,12 @@ impl Evaluator {
         source: &str,
         script: &Script<ByteRange>,
     ) -> Result<String, Stop>
-        ensures { Leads limits.commands (rule limits.value_bytes)
+        ensures comes { Leads limits.commands (rule limits.value_bytes)
             (rules.file_commands (bounds limits.value_bytes left) (script_view (shown source.now) script.now) [] self.old.variables)
             (point (H.oracle host.old) (H.told host.old) self.old.used)
             (after result finish self.new.variables)
             (point (H.oracle host.new) (H.told host.new) self.new.used) }
+        ensures later { Later self.old self.new }
     {
         let mut last = String::new(self.alloc);
         for command in &script.commands {
@@ -57,16 +62,17 @@ impl Evaluator {
         left: u32,
         text: &str,
     ) -> Result<String, Stop>
-        ensures { Leads limits.commands (rule limits.value_bytes)
+        ensures comes { Leads limits.commands (rule limits.value_bytes)
             (rule limits.value_bytes (plans.File left text.now self.old.variables))
             (point (H.oracle host.old) (H.told host.old) self.old.used)
             (after result finish self.new.variables)
             (point (H.oracle host.new) (H.told host.new) self.new.used) }
+        ensures later { Later self.old self.new }
     {
         if left == 0 {
             return Err(Stop::Halted(Halt::TooDeep));
         }
-        match tree_of(self.alloc, text) {
+        match self.kept.script_tree(text) {
             Ok(tree) => {
                 self.file_commands(host, limits, left - 1, tree.text.as_str(), &tree.script)
             }
@@ -158,31 +164,66 @@ fn depth_of(limits: Limits) -> u32
 
 /// What an evaluation answers, with the global variables that the file left.
 fn ending(
-    evaluator: Evaluator,
+    alloc: Global,
+    variables: Variables,
+    used_commands: u64,
     script: &str,
     outcome: Result<String, Cut>,
 ) -> Result<Ending, EvalFault>
-    ensures { Answers script.now evaluator outcome result }
+    ensures { Answers script.now variables used_commands outcome result }
 {
-    let used_commands = evaluator.used;
     match outcome {
         Ok(result) => {
-            let globals = evaluator.variables.into_globals(evaluator.alloc)?;
+            let globals = variables.into_globals(alloc)?;
             Ok(Ending {
                 result,
                 globals,
                 used_commands,
             })
         }
-        Err(cut) => Err(fault_of(script, evaluator.variables.place(), cut)),
+        Err(cut) => Err(fault_of(script, variables.place(), cut)),
     }
 }
 
-/// The outcome of a script (Tcl(n)), evaluated for a host from these global variables within these limits.
+/// The outcome of a script (Tcl(n)), evaluated for a host from these global variables within these limits. What is parsed is kept,
+/// and what is kept isn't parsed again; the lists then begin with those that were there, after a fault too.
 ///
 /// Errors: 11 where memory runs out, here or in the host; 12 where the script, a body or an expression can't be parsed; 13 for
 /// an error, with its message and the line of the script's own command at hand; 14, 15 and 16 where a limit is met; 17 and 18 for
 /// numbers that aren't computed; 19 for what is left out; 20 where the script stops itself; 21 where the host refuses a command.
+#[tactic(none)]
+pub fn evaluate_with<H: Host>(
+    alloc: Global,
+    kept: &mut Kept,
+    script: &str,
+    globals: Vec<(String, String)>,
+    host: &mut H,
+    limits: Limits,
+) -> Result<Ending, EvalFault>
+    ensures evaluates { Evaluates limits script.now (texts_of globals.items) (H.oracle host.old) (H.told host.old) result
+        (H.told host.new) }
+    ensures same { H.oracle host.new ≡ H.oracle host.old }
+    ensures begins { BeginWith kept.old kept.new }
+{
+    let variables = started(alloc, globals)?;
+    let mut evaluator = Evaluator {
+        alloc,
+        kept: mem::replace(kept, Kept::new(alloc)),
+        variables,
+        used: 0,
+    };
+    let outcome = evaluator.file(host, limits, depth_of(limits), script);
+    let Evaluator {
+        alloc: _,
+        kept: trees,
+        variables,
+        used,
+    } = evaluator;
+    *kept = trees;
+    ending(alloc, variables, used, script, end_of_file(alloc, outcome))
+}
+
+/// The outcome of a script, evaluated as `evaluate_with` does where nothing is kept yet.
 #[tactic(none)]
 pub fn evaluate<H: Host>(
     alloc: Global,
@@ -195,12 +236,6 @@ pub fn evaluate<H: Host>(
         (H.told host.new) }
     ensures same { H.oracle host.new ≡ H.oracle host.old }
 {
-    let variables = started(alloc, globals)?;
-    let mut evaluator = Evaluator {
-        alloc,
-        variables,
-        used: 0,
-    };
-    let outcome = evaluator.file(host, limits, depth_of(limits), script);
-    ending(evaluator, script, end_of_file(alloc, outcome))
+    let mut kept = Kept::new(alloc);
+    evaluate_with(alloc, &mut kept, script, globals, host, limits)
 }

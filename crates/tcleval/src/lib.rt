@@ -10,4 +10,4 @@ mod trees;
 mod turns;
 mod words;
 
-pub use file::evaluate;
+pub use file::{evaluate, evaluate_with};

@@ -1,52 +1,22 @@
 //! The trees of texts that are evaluated, and the values of whole expressions.
 ghost use Rattle.std.specs.Prelude.{◌≡◌, IfOk, None, MatchOption, drop, option_map, string_bytes};
 ghost use Rattle.std.specs.Fmt.{signed_decimal};
-ghost use Rattle.tclscript.specs.Text.{script_of};
-ghost use Rattle.tclscript.specs.Owned as scripts;
 ghost use Rattle.tclexpr.specs.Text.{expr_of};
 ghost use Rattle.tclexpr.specs.Owned as expressions;
 ghost use Rattle.tcltext.specs.Numerals.{numeral};
 ghost use Rattle.tclvalue.specs.Faults.{Gives, GivesText, HasReason, left_out};
 ghost use Rattle.tclchars.specs.Runs.{begins};
-ghost use Rattle.tclchars.specs.Whole.{Reads};
 ghost use Rattle.tclrules.specs.Expressions.{omitted_at, begins_letter, is_operator, function_named, fault_of, parsed, normal};
+ghost use Rattle.tclkept.specs.Kept.{BeginWith};
 ghost use Rattle.tcleval.specs.Runs.{IsReasonOf, value_fault};
 
 use std::alloc::{AllocError, Global};
 use std::rc::Rc;
 use tclchars::{Class, TextFault, split_front};
-use tclexpr::{OwnedExpr, own_expr};
-use tclscript::{OwnedScript, own_script};
+use tclexpr::OwnedExpr;
+use tclkept::Kept;
 use tcltext::{Numeral, read_number};
 use tclvalue::ValueFault;
-
-/// The tree of a script.
-pub(crate) fn tree_of(alloc: Global, text: &str) -> Result<Rc<OwnedScript>, TextFault>
-    ensures { Reads (λ o. scripts.owned_view o.value) result (script_of text.now) }
-{
-    let Ok(copy) = String::from_str(alloc, text) else {
-        return Err(TextFault::OutOfMemory);
-    };
-    let tree = own_script(alloc, copy)?;
-    match Rc::new(alloc, tree) {
-        Ok(tree) => Ok(tree),
-        Err(_) => Err(TextFault::OutOfMemory),
-    }
-}
-
-/// The tree of an expression.
-fn expr_tree_of(alloc: Global, text: &str) -> Result<Rc<OwnedExpr>, TextFault>
-    ensures { Reads (λ o. expressions.owned_view o.value) result (expr_of text.now) }
-{
-    let Ok(copy) = String::from_str(alloc, text) else {
-        return Err(TextFault::OutOfMemory);
-    };
-    let tree = own_expr(alloc, copy)?;
-    match Rc::new(alloc, tree) {
-        Ok(tree) => Ok(tree),
-        Err(_) => Err(TextFault::OutOfMemory),
-    }
-}
 
 /// What stands in a text from a place on, where a character begins there.
 fn behind(text: &str, place: usize) -> Option<&str>
@@ -145,10 +115,15 @@ fn expr_fault(alloc: Global, text: &str, fault: TextFault) -> ValueFault
 }
 
 /// The tree of an expression, or the fault of its evaluation.
-pub(crate) fn express_tree(alloc: Global, text: &str) -> Result<Rc<OwnedExpr>, ValueFault>
-    ensures { Gives (λ o. expressions.owned_view o.value) result (parsed text.now (expr_of text.now)) }
+pub(crate) fn express_tree(
+    alloc: Global,
+    kept: &mut Kept,
+    text: &str,
+) -> Result<Rc<OwnedExpr>, ValueFault>
+    ensures tree { Gives (λ o. expressions.owned_view o.value) result (parsed text.now (expr_of text.now)) }
+    ensures begins { BeginWith kept.old kept.new }
 {
-    match expr_tree_of(alloc, text) {
+    match kept.expr_tree(text) {
         Ok(tree) => Ok(tree),
         Err(fault) => Err(expr_fault(alloc, text, fault)),
     }

@@ -5,11 +5,15 @@
 //! Each answer is a line: `ok RESULT COUNT` or `err NUMBER TEXT LINE`, the line only of an error; then `v NAME VALUE...` with the
 //! global variables where the script ended, `m TEXT...` with the messages, and `r WORDS...` with the records, each with its words
 //! joined by commas.
+//!
+//! A line `kept SCRIPT TEXT...` evaluates a script over new lists of trees, and then asks them for the places of texts: of a script
+//! behind `s`, of an expression behind `e`.
 #![tactic(auto)]
 
 use std::alloc::Global;
 use std::io;
-use tcleval::evaluate;
+use tcleval::{evaluate, evaluate_with};
+use tclkept::Kept;
 use tclrules::{Ending, EvalFault, Limits, Recorder};
 
 /// The text of a word; None where it isn't one.
@@ -112,6 +116,9 @@ fn case(alloc: Global, line: &str) -> Option<String> {
     for word in line.split(' ') {
         words.push(word).ok()?;
     }
+    if let ["kept", script, texts @ ..] = words.as_slice() {
+        return places(alloc, script, texts);
+    }
     let [commands, depth, value_bytes, script, variables @ ..] = words.as_slice() else {
         return None;
     };
@@ -129,6 +136,49 @@ fn case(alloc: Global, line: &str) -> Option<String> {
         Err(fault) => push_fault(alloc, &mut line, &fault)?,
     }
     push_told(alloc, &mut line, &host)?;
+    Some(line)
+}
+
+/// How far the evaluation goes over which trees are kept.
+const LIMITS: Limits = Limits {
+    commands: 100_000,
+    depth: 200,
+    value_bytes: 1_048_576,
+};
+
+/// The place of a text among what is kept, and `-` where it isn't kept; None where it can't be parsed.
+fn place(alloc: Global, kept: &mut Kept, kind: &str, text: &str) -> Option<String> {
+    let place = match kind {
+        "s" => kept.script(text).ok()?,
+        _ => kept.expr(text).ok()?,
+    };
+    match place {
+        Some(place) => format!(in alloc; " {place}").ok(),
+        None => String::from_str(alloc, " -").ok(),
+    }
+}
+
+/// The places of texts among what an evaluation keeps; None where the line is none.
+fn places(alloc: Global, script: &str, texts: &[&str]) -> Option<String> {
+    let mut kept = Kept::new(alloc);
+    let mut host = recorder(alloc, Vec::new(alloc))?;
+    let script = text_of(alloc, script)?;
+    let _ = evaluate_with(
+        alloc,
+        &mut kept,
+        &script,
+        Vec::new(alloc),
+        &mut host,
+        LIMITS,
+    )
+    .ok()?;
+    let mut line = String::from_str(alloc, "kept").ok()?;
+    let mut rest = texts;
+    while let [kind, text, after @ ..] = rest {
+        let text = text_of(alloc, text)?;
+        line.push_str(&place(alloc, &mut kept, kind, &text)?).ok()?;
+        rest = after;
+    }
     Some(line)
 }
 

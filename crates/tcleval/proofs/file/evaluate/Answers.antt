@@ -1,25 +1,7 @@
-use Rattle.std.proofs.Common.{◌≡◌, ◌∙◌, refl, false, arith}
-use Rattle.std.proofs.lemmas.Result.{err_from_is_err_and}
-use Rattle.tclrules.specs.Derivation.{OutOfMemory, Halted, starves}
-use Rattle.tclrules.specs.Rules.{file_ended}
-use Rattle.tclrules.specs.Promise.{texts_of}
-use Rattle.tcleval.proofs.Running.{run_after, same_as}
-use Rattle.tcleval.proofs.Whole.{evaluated}
 use Rattle.tcleval.proofs.file.evaluate.Goals as goal
 
-pub returns-in_err-variables-clause-evaluates : goal.returns-in_err-variables-clause-evaluates
-returns-in_err-variables-clause-evaluates g c =
-    let p = err_from_is_err_and c.from_residual.result c.from_residual.ensures.1 in
-    rw (p.1, p.2) (Halted OutOfMemory, 0, refl, starves false refl)
-
-pub returns-in_err-variables-clause-same : goal.returns-in_err-variables-clause-same
-returns-in_err-variables-clause-same g c = refl
-
 pub returns-clause-evaluates : goal.returns-clause-evaluates
-returns-clause-evaluates g c =
-    let f = rw (c.in_ok-variables.ensures, c.depth_of.ensures) at c.file-outcome.ensures in
-    let l = same_as (c.end_of_file.ensures _) (run_after file_ended _ _ f) in
-    evaluated c.args.limits c.args.script.now (texts_of c.args.globals.items) _ _ _ _ _ _ _ l c.ending.ensures
+returns-clause-evaluates g c = c.evaluate_with.ensures.evaluates
 
 pub returns-clause-same : goal.returns-clause-same
-returns-clause-same g c = c.file-outcome.ensures.same
+returns-clause-same g c = c.evaluate_with.ensures.same

@@ -28,7 +28,7 @@ use Rattle.tclrules.specs.Expressions.{normal}
 use Rattle.tclrules.proofs.Leading.{stay, go_on, starve, count_on, count_over, run_on, run_halts, run_tail}
 use Rattle.tclsteps.proofs.Leading.{passed_on, starved_end, starved_after, given_on, value_stops, sized_on, run_stops}
 use Rattle.tclsteps.proofs.Trees.{empty_of, first_and_rest}
-use Rattle.tcleval.proofs.Running.{run_after, run_normal, begin_on, begin_stops, drop_here, same_as, script_commands, command_words, word_parts, later_refl, later_on, text_stops, limited_stops, limited_on, ok_any, counted_on, core_stops, turned_some, turned_none, foreach_done, foreach_more, on_branch, branch_on}
+use Rattle.tcleval.proofs.Running.{run_after, run_normal, begin_on, begin_stops, drop_here, same_as, script_commands, command_words, word_parts, later_refl, later_on, later_still, later_counted, later_beside, later_begun, later_parsed, text_stops, limited_stops, limited_on, ok_any, counted_on, core_stops, turned_some, turned_none, foreach_done, foreach_more, on_branch, branch_on}
 use Rattle.tcleval.proofs.evaluator.Evaluator.+evaluate.Goals as goal
 
 pub bracket-commands-requires : goal.bracket-commands-requires
@@ -41,13 +41,13 @@ pub bracket-returns-clause-comes : goal.bracket-returns-clause-comes
 bracket-returns-clause-comes g t c = λ k. run_normal _ _ _ (go_on (begin_on _ _ c.if-left-eq0.false) c.commands.ensures.comes)
 
 pub bracket-returns-clause-later : goal.bracket-returns-clause-later
-bracket-returns-clause-later g t c = record { rises = omega arith }
+bracket-returns-clause-later g t c = c.commands.ensures.later
 
 pub bracket-returns-then-left-eq0-clause-comes : goal.bracket-returns-then-left-eq0-clause-comes
 bracket-returns-then-left-eq0-clause-comes g t c = λ k. run_halts (begin_stops _ _ c.if-left-eq0.true)
 
 pub bracket-returns-then-left-eq0-clause-later : goal.bracket-returns-then-left-eq0-clause-later
-bracket-returns-then-left-eq0-clause-later g t c = record { rises = omega arith }
+bracket-returns-then-left-eq0-clause-later g t c = later_refl
 
 pub branches-decide-requires : goal.branches-decide-requires
 branches-decide-requires g t c κs within = search rules
@@ -84,7 +84,7 @@ branches-returns-clause-comes g t c = λ k.
     go_on (rw d at (c.loop-condition.invariant.comes k)) (c.otherwise.ensures.comes k)
 
 pub branches-returns-clause-later : goal.branches-returns-clause-later
-branches-returns-clause-later g t c = record { rises = omega arith }
+branches-returns-clause-later g t c = later_on c.loop-condition.invariant.later c.otherwise.ensures.later
 
 pub branches-returns-in_err-decide-clause-comes : goal.branches-returns-in_err-decide-clause-comes
 branches-returns-in_err-decide-clause-comes g t c = λ k.
@@ -97,7 +97,7 @@ branches-returns-in_err-decide-clause-comes g t c = λ k.
     passed_on _ _ _ _ c.from_residual.ensures.1 (go_on l (c.in_err-decide.ensures.comes next))
 
 pub branches-returns-in_err-decide-clause-later : goal.branches-returns-in_err-decide-clause-later
-branches-returns-in_err-decide-clause-later g t c = record { rises = omega arith }
+branches-returns-in_err-decide-clause-later g t c = later_on c.loop-condition.invariant.later c.in_err-decide.ensures.later
 
 pub branches-returns-then-branch-clause-comes : goal.branches-returns-then-branch-clause-comes
 branches-returns-then-branch-clause-comes g t c = λ k.
@@ -111,7 +111,7 @@ branches-returns-then-branch-clause-comes g t c = λ k.
     go_on (go_on l h) (run_normal _ _ _ c.script.ensures.comes)
 
 pub branches-returns-then-branch-clause-later : goal.branches-returns-then-branch-clause-later
-branches-returns-then-branch-clause-later g t c = record { rises = omega arith }
+branches-returns-then-branch-clause-later g t c = later_on (later_on c.loop-condition.invariant.later c.in_ok-decide.ensures.later) c.script.ensures.later
 
 pub branches-script-requires : goal.branches-script-requires
 branches-script-requires g t c κs within = search rules
@@ -136,7 +136,7 @@ call-returns-clause-comes g t c = λ k.
     rw (c.leave.ensures, c.enter-caller.ensures.caller) (go_on l (c.after_call.ensures _ _ c.args.self.now.variables.frame k _ _))
 
 pub call-returns-clause-later : goal.call-returns-clause-later
-call-returns-clause-later g t c = record { rises = omega arith }
+call-returns-clause-later g t c = later_beside refl refl refl refl c.script-outcome.ensures.later
 
 pub call-returns-in_err-assign-clause-comes : goal.call-returns-in_err-assign-clause-comes
 call-returns-in_err-assign-clause-comes g t c = λ k.
@@ -147,7 +147,7 @@ call-returns-in_err-assign-clause-comes g t c = λ k.
     passed_on _ _ _ _ c.from_residual-in_err-assign.ensures.1 (go_on (given_on _ _ _ _ v) a)
 
 pub call-returns-in_err-assign-clause-later : goal.call-returns-in_err-assign-clause-later
-call-returns-in_err-assign-clause-later g t c = record { rises = omega arith }
+call-returns-in_err-assign-clause-later g t c = later_still refl refl
 
 pub call-returns-in_err-values-clause-comes : goal.call-returns-in_err-values-clause-comes
 call-returns-in_err-values-clause-comes g t c = λ k.
@@ -155,7 +155,7 @@ call-returns-in_err-values-clause-comes g t c = λ k.
     value_stops _ _ _ _ _ _ c.from_residual.ensures.1 h
 
 pub call-returns-in_err-values-clause-later : goal.call-returns-in_err-values-clause-later
-call-returns-in_err-values-clause-later g t c = record { rises = omega arith }
+call-returns-in_err-values-clause-later g t c = later_refl
 
 pub call-script-outcome-requires : goal.call-script-outcome-requires
 call-script-outcome-requires g t c κs within = search rules
@@ -173,7 +173,7 @@ called-returns-in-None-clause-comes g t c = λ k.
     rw e (go_on (given_on _ _ _ _ v) h)
 
 pub called-returns-in-None-clause-later : goal.called-returns-in-None-clause-later
-called-returns-in-None-clause-later g t c = record { rises = omega arith }
+called-returns-in-None-clause-later g t c = c.core_command.ensures.later
 
 pub called-returns-in-Some-2-clause-comes : goal.called-returns-in-Some-2-clause-comes
 called-returns-in-Some-2-clause-comes g t c = λ k.
@@ -182,7 +182,7 @@ called-returns-in-Some-2-clause-comes g t c = λ k.
     rw e (given_on _ _ _ _ h)
 
 pub called-returns-in-Some-2-clause-later : goal.called-returns-in-Some-2-clause-later
-called-returns-in-Some-2-clause-later g t c = record { rises = omega arith }
+called-returns-in-Some-2-clause-later g t c = later_refl
 
 pub called-returns-in_default-clause-comes : goal.called-returns-in_default-clause-comes
 called-returns-in_default-clause-comes g t c = λ k.
@@ -190,7 +190,7 @@ called-returns-in_default-clause-comes g t c = λ k.
     rw (e, c.new.ensures.bytes) stay
 
 pub called-returns-in_default-clause-later : goal.called-returns-in_default-clause-later
-called-returns-in_default-clause-later g t c = record { rises = omega arith }
+called-returns-in_default-clause-later g t c = later_refl
 
 pub called-returns-in_err-value-clause-comes : goal.called-returns-in_err-value-clause-comes
 called-returns-in_err-value-clause-comes g t c = λ k.
@@ -199,13 +199,13 @@ called-returns-in_err-value-clause-comes g t c = λ k.
     rw e (value_stops _ _ _ _ _ _ c.from_residual.ensures.1 h)
 
 pub called-returns-in_err-value-clause-later : goal.called-returns-in_err-value-clause-later
-called-returns-in_err-value-clause-later g t c = record { rises = omega arith }
+called-returns-in_err-value-clause-later g t c = later_refl
 
 pub catch-returns-clause-comes : goal.catch-returns-clause-comes
 catch-returns-clause-comes g t c = λ k. go_on (run_after _ _ _ c.script-outcome.ensures.comes) (c.after_catch.ensures _ c.args.left _ k _)
 
 pub catch-returns-clause-later : goal.catch-returns-clause-later
-catch-returns-clause-later g t c = record { rises = omega arith }
+catch-returns-clause-later g t c = later_beside refl refl refl refl c.script-outcome.ensures.later
 
 pub catch-script-outcome-requires : goal.catch-script-outcome-requires
 catch-script-outcome-requires g t c κs within = search rules
@@ -223,7 +223,7 @@ command-returns-clause-comes g t c = λ k.
     rw v (go_on (go_on (go_on (count_on h.counted.0) w) l) (c.sized.ensures.comes _ _ k _ _))
 
 pub command-returns-clause-later : goal.command-returns-clause-later
-command-returns-clause-later g t c = record { rises = omega (arith, c.in_ok-count.ensures.counted.1) }
+command-returns-clause-later g t c = later_on (later_counted c.in_ok-count.ensures.counted.1 c.in_ok-count.ensures.kept) (later_on c.in_ok-texts.ensures.later c.in_ok-value.ensures.later)
 
 pub command-returns-in_err-count-clause-comes : goal.command-returns-in_err-count-clause-comes
 command-returns-in_err-count-clause-comes g t c = λ k.
@@ -231,7 +231,7 @@ command-returns-in_err-count-clause-comes g t c = λ k.
     passed_on _ _ _ _ c.from_residual.ensures.1 (rw (h.2, h.1) (count_over h.0))
 
 pub command-returns-in_err-count-clause-later : goal.command-returns-in_err-count-clause-later
-command-returns-in_err-count-clause-later g t c = record { rises = omega (arith, c.in_err-count.ensures.counted.1) }
+command-returns-in_err-count-clause-later g t c = later_still c.in_err-count.ensures.counted.1 c.in_err-count.ensures.kept
 
 pub command-returns-in_err-texts-clause-comes : goal.command-returns-in_err-texts-clause-comes
 command-returns-in_err-texts-clause-comes g t c = λ k.
@@ -242,7 +242,7 @@ command-returns-in_err-texts-clause-comes g t c = λ k.
     passed_on _ _ _ _ c.from_residual-in_err-texts.ensures.1 (rw v (go_on (count_on h.counted.0) w))
 
 pub command-returns-in_err-texts-clause-later : goal.command-returns-in_err-texts-clause-later
-command-returns-in_err-texts-clause-later g t c = record { rises = omega (arith, c.in_ok-count.ensures.counted.1) }
+command-returns-in_err-texts-clause-later g t c = later_on (later_counted c.in_ok-count.ensures.counted.1 c.in_ok-count.ensures.kept) c.in_err-texts.ensures.later
 
 pub command-returns-in_err-value-clause-comes : goal.command-returns-in_err-value-clause-comes
 command-returns-in_err-value-clause-comes g t c = λ k.
@@ -254,7 +254,7 @@ command-returns-in_err-value-clause-comes g t c = λ k.
     passed_on _ _ _ _ c.from_residual-in_err-value.ensures.1 (rw v (go_on (go_on (count_on h.counted.0) w) l))
 
 pub command-returns-in_err-value-clause-later : goal.command-returns-in_err-value-clause-later
-command-returns-in_err-value-clause-later g t c = record { rises = omega (arith, c.in_ok-count.ensures.counted.1) }
+command-returns-in_err-value-clause-later g t c = later_on (later_counted c.in_ok-count.ensures.counted.1 c.in_ok-count.ensures.kept) (later_on c.in_ok-texts.ensures.later c.in_err-value.ensures.later)
 
 pub command-words-requires : goal.command-words-requires
 command-words-requires g t c κs within = search rules
@@ -285,7 +285,7 @@ commands-returns-clause-comes g t c =
     rw d at c.loop-command.invariant.comes
 
 pub commands-returns-clause-later : goal.commands-returns-clause-later
-commands-returns-clause-later g t c = record { rises = omega arith }
+commands-returns-clause-later g t c = c.loop-command.invariant.later
 
 pub commands-returns-in_err-last-clause-comes : goal.commands-returns-in_err-last-clause-comes
 commands-returns-in_err-last-clause-comes g t c =
@@ -295,7 +295,7 @@ commands-returns-in_err-last-clause-comes g t c =
     passed_on _ _ _ _ c.from_residual.ensures.1 (go_on l (c.in_err-last.ensures.comes _))
 
 pub commands-returns-in_err-last-clause-later : goal.commands-returns-in_err-last-clause-later
-commands-returns-in_err-last-clause-later g t c = record { rises = omega arith }
+commands-returns-in_err-last-clause-later g t c = later_on c.loop-command.invariant.later c.in_err-last.ensures.later
 
 pub core_command-core_form-requires-text-name : goal.core_command-core_form-requires-text-name
 core_command-core_form-requires-text-name g t c κs = search rules
@@ -312,7 +312,7 @@ core_command-returns-in-None-clause-comes g t c = λ k.
     rw (turned_none _ h) (c.other_command.ensures.comes k)
 
 pub core_command-returns-in-None-clause-later : goal.core_command-returns-in-None-clause-later
-core_command-returns-in-None-clause-later g t c = record { rises = omega arith }
+core_command-returns-in-None-clause-later g t c = c.other_command.ensures.later
 
 pub core_command-returns-in-Some-clause-comes : goal.core_command-returns-in-Some-clause-comes
 core_command-returns-in-Some-clause-comes g t c = λ k.
@@ -320,13 +320,13 @@ core_command-returns-in-Some-clause-comes g t c = λ k.
     rw (turned_some _ _ h) (c.form.ensures.comes k)
 
 pub core_command-returns-in-Some-clause-later : goal.core_command-returns-in-Some-clause-later
-core_command-returns-in-Some-clause-later g t c = record { rises = omega arith }
+core_command-returns-in-Some-clause-later g t c = c.form.ensures.later
 
 pub core_command-returns-in_err-form-clause-comes : goal.core_command-returns-in_err-form-clause-comes
 core_command-returns-in_err-form-clause-comes g t c = λ k. passed_on _ _ _ _ c.from_residual.ensures.1 (core_stops (bounds c.args.limits.value_bytes c.args.left) c.args.name.now (map string_bytes c.args.operands.now) c.args.self.now.variables k _ _ c.in_err-form.ensures)
 
 pub core_command-returns-in_err-form-clause-later : goal.core_command-returns-in_err-form-clause-later
-core_command-returns-in_err-form-clause-later g t c = record { rises = omega arith }
+core_command-returns-in_err-form-clause-later g t c = later_refl
 
 pub decide-express-requires : goal.decide-express-requires
 decide-express-requires g t c κs within = search rules
@@ -337,7 +337,7 @@ decide-returns-clause-comes g t c = λ k.
     go_on (c.in_ok-value.ensures.comes _) (given_on _ _ _ _ h)
 
 pub decide-returns-clause-later : goal.decide-returns-clause-later
-decide-returns-clause-later g t c = record { rises = omega arith }
+decide-returns-clause-later g t c = c.in_ok-value.ensures.later
 
 pub decide-returns-in_err-truth-clause-comes : goal.decide-returns-in_err-truth-clause-comes
 decide-returns-in_err-truth-clause-comes g t c = λ k.
@@ -345,13 +345,13 @@ decide-returns-in_err-truth-clause-comes g t c = λ k.
     go_on (c.in_ok-value.ensures.comes _) (value_stops _ _ _ _ _ _ c.from_residual-in_err-truth.ensures.1 h)
 
 pub decide-returns-in_err-truth-clause-later : goal.decide-returns-in_err-truth-clause-later
-decide-returns-in_err-truth-clause-later g t c = record { rises = omega arith }
+decide-returns-in_err-truth-clause-later g t c = c.in_ok-value.ensures.later
 
 pub decide-returns-in_err-value-clause-comes : goal.decide-returns-in_err-value-clause-comes
 decide-returns-in_err-value-clause-comes g t c = λ k. passed_on _ _ _ _ c.from_residual.ensures.1 (c.in_err-value.ensures.comes _)
 
 pub decide-returns-in_err-value-clause-later : goal.decide-returns-in_err-value-clause-later
-decide-returns-in_err-value-clause-later g t c = record { rises = omega arith }
+decide-returns-in_err-value-clause-later g t c = c.in_err-value.ensures.later
 
 pub decide-truth-requires-text-text : goal.decide-truth-requires-text-text
 decide-truth-requires-text-text g t c κs = search rules
@@ -362,35 +362,35 @@ express-express_tree-requires-text-text g t c κs = search rules
 pub express-returns-clause-comes : goal.express-returns-clause-comes
 express-returns-clause-comes g t c = λ k.
     let h = rw (c.as_str.ensures.value, c.deref-2.ensures, c.deref.ensures) at (c.in_ok-value.ensures.comes (λ v s'. given (normal v (numeral v)) s' (λ u. sized c.args.limits.value_bytes u (k u s')))) in
-    let l = go_on (given_on _ _ _ _ c.in_ok-tree.ensures) h in
+    let l = go_on (given_on _ _ _ _ c.in_ok-tree.ensures.tree) h in
     go_on (go_on l (given_on _ _ _ _ c.in_ok-value-2.ensures)) (c.sized.ensures.comes _ _ k _ _)
 
 pub express-returns-clause-later : goal.express-returns-clause-later
-express-returns-clause-later g t c = record { rises = omega arith }
+express-returns-clause-later g t c = later_parsed refl c.in_ok-tree.ensures.begins c.in_ok-value.ensures.later
 
 pub express-returns-in_err-tree-clause-comes : goal.express-returns-in_err-tree-clause-comes
-express-returns-in_err-tree-clause-comes g t c = λ k. value_stops _ _ _ _ _ _ c.from_residual.ensures.1 c.in_err-tree.ensures
+express-returns-in_err-tree-clause-comes g t c = λ k. value_stops _ _ _ _ _ _ c.from_residual.ensures.1 c.in_err-tree.ensures.tree
 
 pub express-returns-in_err-tree-clause-later : goal.express-returns-in_err-tree-clause-later
-express-returns-in_err-tree-clause-later g t c = record { rises = omega arith }
+express-returns-in_err-tree-clause-later g t c = later_begun refl c.in_err-tree.ensures.begins
 
 pub express-returns-in_err-value-2-clause-comes : goal.express-returns-in_err-value-2-clause-comes
 express-returns-in_err-value-2-clause-comes g t c = λ k.
     let h = rw (c.as_str.ensures.value, c.deref-2.ensures, c.deref.ensures) at (c.in_ok-value.ensures.comes (λ v s'. given (normal v (numeral v)) s' (λ u. sized c.args.limits.value_bytes u (k u s')))) in
-    let l = go_on (given_on _ _ _ _ c.in_ok-tree.ensures) h in
+    let l = go_on (given_on _ _ _ _ c.in_ok-tree.ensures.tree) h in
     go_on l (value_stops _ _ _ _ _ _ c.from_residual-in_err-value-2.ensures.1 c.in_err-value-2.ensures)
 
 pub express-returns-in_err-value-2-clause-later : goal.express-returns-in_err-value-2-clause-later
-express-returns-in_err-value-2-clause-later g t c = record { rises = omega arith }
+express-returns-in_err-value-2-clause-later g t c = later_parsed refl c.in_ok-tree.ensures.begins c.in_ok-value.ensures.later
 
 pub express-returns-in_err-value-clause-comes : goal.express-returns-in_err-value-clause-comes
 express-returns-in_err-value-clause-comes g t c = λ k.
     let h = rw (c.as_str.ensures.value, c.deref-2.ensures, c.deref.ensures) at (c.in_err-value.ensures.comes (λ v s'. given (normal v (numeral v)) s' (λ u. sized c.args.limits.value_bytes u (k u s')))) in
-    let l = go_on (given_on _ _ _ _ c.in_ok-tree.ensures) h in
+    let l = go_on (given_on _ _ _ _ c.in_ok-tree.ensures.tree) h in
     passed_on _ _ _ _ c.from_residual-in_err-value.ensures.1 l
 
 pub express-returns-in_err-value-clause-later : goal.express-returns-in_err-value-clause-later
-express-returns-in_err-value-clause-later g t c = record { rises = omega arith }
+express-returns-in_err-value-clause-later g t c = later_parsed refl c.in_ok-tree.ensures.begins c.in_err-value.ensures.later
 
 pub express-value-requires : goal.express-value-requires
 express-value-requires g t c κs within = search rules
@@ -402,13 +402,13 @@ pub for_loop-returns-clause-comes : goal.for_loop-returns-clause-comes
 for_loop-returns-clause-comes g t c = λ k. go_on (run_on c.in_ok-script.ensures.comes) (c.for_turns.ensures.comes k)
 
 pub for_loop-returns-clause-later : goal.for_loop-returns-clause-later
-for_loop-returns-clause-later g t c = record { rises = omega arith }
+for_loop-returns-clause-later g t c = later_on c.in_ok-script.ensures.later c.for_turns.ensures.later
 
 pub for_loop-returns-in_err-script-clause-comes : goal.for_loop-returns-in_err-script-clause-comes
 for_loop-returns-in_err-script-clause-comes g t c = λ k. passed_on _ _ _ _ c.from_residual.ensures.1 (run_stops _ _ c.in_err-script.ensures.comes)
 
 pub for_loop-returns-in_err-script-clause-later : goal.for_loop-returns-in_err-script-clause-later
-for_loop-returns-in_err-script-clause-later g t c = record { rises = omega arith }
+for_loop-returns-in_err-script-clause-later g t c = c.in_err-script.ensures.later
 
 pub for_loop-script-requires : goal.for_loop-script-requires
 for_loop-script-requires g t c κs within = search rules
@@ -445,7 +445,7 @@ for_turns-returns-in_err-after_next-clause-comes g t c = λ k.
     passed_on _ _ _ _ c.from_residual-in_err-after_next.ensures.1 (go_on (c.loop-self.invariant.comes k) (run_stops _ _ (same_as (c.in_err-after_next.ensures again _) n)))
 
 pub for_turns-returns-in_err-after_next-clause-later : goal.for_turns-returns-in_err-after_next-clause-later
-for_turns-returns-in_err-after_next-clause-later g t c = record { rises = omega arith }
+for_turns-returns-in_err-after_next-clause-later g t c = later_on (later_on c.loop-self.invariant.later c.in_ok-guarded_turn.ensures.later) c.script.ensures.later
 
 pub for_turns-returns-in_err-guarded_turn-clause-comes : goal.for_turns-returns-in_err-guarded_turn-clause-comes
 for_turns-returns-in_err-guarded_turn-clause-comes g t c = λ k.
@@ -454,7 +454,7 @@ for_turns-returns-in_err-guarded_turn-clause-comes g t c = λ k.
     passed_on _ _ _ _ c.from_residual.ensures.1 (go_on (c.loop-self.invariant.comes k) (run_stops _ _ (c.in_err-guarded_turn.ensures.comes between)))
 
 pub for_turns-returns-in_err-guarded_turn-clause-later : goal.for_turns-returns-in_err-guarded_turn-clause-later
-for_turns-returns-in_err-guarded_turn-clause-later g t c = record { rises = omega arith }
+for_turns-returns-in_err-guarded_turn-clause-later g t c = later_on c.loop-self.invariant.later c.in_err-guarded_turn.ensures.later
 
 pub for_turns-returns-then-not-branch-2-clause-comes : goal.for_turns-returns-then-not-branch-2-clause-comes
 for_turns-returns-then-not-branch-2-clause-comes g t c = λ k.
@@ -466,7 +466,7 @@ for_turns-returns-then-not-branch-2-clause-comes g t c = λ k.
     rw c.new-then-not-branch-2.ensures.bytes (go_on (c.loop-self.invariant.comes k) (run_on (same_as e n)))
 
 pub for_turns-returns-then-not-branch-2-clause-later : goal.for_turns-returns-then-not-branch-2-clause-later
-for_turns-returns-then-not-branch-2-clause-later g t c = record { rises = omega arith }
+for_turns-returns-then-not-branch-2-clause-later g t c = later_on (later_on c.loop-self.invariant.later c.in_ok-guarded_turn.ensures.later) c.script.ensures.later
 
 pub for_turns-returns-then-not-branch-clause-comes : goal.for_turns-returns-then-not-branch-clause-comes
 for_turns-returns-then-not-branch-clause-comes g t c = λ k.
@@ -476,7 +476,7 @@ for_turns-returns-then-not-branch-clause-comes g t c = λ k.
     rw c.new.ensures.bytes (go_on (c.loop-self.invariant.comes k) (run_on h))
 
 pub for_turns-returns-then-not-branch-clause-later : goal.for_turns-returns-then-not-branch-clause-later
-for_turns-returns-then-not-branch-clause-later g t c = record { rises = omega arith }
+for_turns-returns-then-not-branch-clause-later g t c = later_on c.loop-self.invariant.later c.in_ok-guarded_turn.ensures.later
 
 pub for_turns-script-requires : goal.for_turns-script-requires
 for_turns-script-requires g t c κs within = search rules
@@ -488,13 +488,13 @@ pub foreach-returns-clause-comes : goal.foreach-returns-clause-comes
 foreach-returns-clause-comes g t c = λ k. go_on (given_on _ _ _ _ c.in_ok-loops.ensures) (c.foreach_turns.ensures.comes k)
 
 pub foreach-returns-clause-later : goal.foreach-returns-clause-later
-foreach-returns-clause-later g t c = record { rises = omega arith }
+foreach-returns-clause-later g t c = c.foreach_turns.ensures.later
 
 pub foreach-returns-in_err-loops-clause-comes : goal.foreach-returns-in_err-loops-clause-comes
 foreach-returns-in_err-loops-clause-comes g t c = λ k. value_stops _ _ _ _ _ _ c.from_residual.ensures.1 c.in_err-loops.ensures
 
 pub foreach-returns-in_err-loops-clause-later : goal.foreach-returns-in_err-loops-clause-later
-foreach-returns-in_err-loops-clause-later g t c = record { rises = omega arith }
+foreach-returns-in_err-loops-clause-later g t c = later_refl
 
 pub foreach_turns-loop-limits-init : goal.foreach_turns-loop-limits-init
 foreach_turns-loop-limits-init g t c = record { comes = λ k. stay; later = later_refl }
@@ -510,7 +510,7 @@ foreach_turns-loop-limits-preserved g t c = record {
       let a = go_on (foreach_more b c.loop-limits.loops c.args.body.now c.loop-limits.self.variables e) (c.in_ok-begin_turn.ensures.comes c.args.limits.commands c.args.left (rule c.args.limits.value_bytes) next here) in
       let h = rw c.if-not-branch.false at (c.in_ok-turn.ensures.comes again) in
       rw c.in_ok-begin_turn.ensures.rest (go_on (c.loop-limits.invariant.comes k) (run_tail (go_on a h)));
-  later = record { rises = omega arith };
+  later = later_on c.loop-limits.invariant.later (later_beside refl refl refl refl c.in_ok-turn.ensures.later);
 }
 
 pub foreach_turns-loop-limits-smaller : goal.foreach_turns-loop-limits-smaller
@@ -529,7 +529,7 @@ foreach_turns-returns-in_err-begin_turn-clause-comes g t c = λ k.
     passed_on _ _ _ _ c.from_residual.ensures.1 (go_on (c.loop-limits.invariant.comes k) (run_stops _ _ a))
 
 pub foreach_turns-returns-in_err-begin_turn-clause-later : goal.foreach_turns-returns-in_err-begin_turn-clause-later
-foreach_turns-returns-in_err-begin_turn-clause-later g t c = record { rises = omega arith }
+foreach_turns-returns-in_err-begin_turn-clause-later g t c = later_beside refl refl refl refl c.loop-limits.invariant.later
 
 pub foreach_turns-returns-in_err-turn-clause-comes : goal.foreach_turns-returns-in_err-turn-clause-comes
 foreach_turns-returns-in_err-turn-clause-comes g t c = λ k.
@@ -542,7 +542,7 @@ foreach_turns-returns-in_err-turn-clause-comes g t c = λ k.
     passed_on _ _ _ _ c.from_residual-in_err-turn.ensures.1 (go_on (c.loop-limits.invariant.comes k) (run_stops _ _ (go_on a (c.in_err-turn.ensures.comes again))))
 
 pub foreach_turns-returns-in_err-turn-clause-later : goal.foreach_turns-returns-in_err-turn-clause-later
-foreach_turns-returns-in_err-turn-clause-later g t c = record { rises = omega arith }
+foreach_turns-returns-in_err-turn-clause-later g t c = later_on c.loop-limits.invariant.later (later_beside refl refl refl refl c.in_err-turn.ensures.later)
 
 pub foreach_turns-returns-then-are_done-clause-comes : goal.foreach_turns-returns-then-are_done-clause-comes
 foreach_turns-returns-then-are_done-clause-comes g t c = λ k.
@@ -551,7 +551,7 @@ foreach_turns-returns-then-are_done-clause-comes g t c = λ k.
     rw c.new.ensures.bytes (go_on (c.loop-limits.invariant.comes k) (run_on (foreach_done b c.loop-limits.loops c.args.body.now c.loop-limits.self.variables e)))
 
 pub foreach_turns-returns-then-are_done-clause-later : goal.foreach_turns-returns-then-are_done-clause-later
-foreach_turns-returns-then-are_done-clause-later g t c = record { rises = omega arith }
+foreach_turns-returns-then-are_done-clause-later g t c = c.loop-limits.invariant.later
 
 pub foreach_turns-returns-then-not-branch-clause-comes : goal.foreach_turns-returns-then-not-branch-clause-comes
 foreach_turns-returns-then-not-branch-clause-comes g t c = λ k.
@@ -565,7 +565,7 @@ foreach_turns-returns-then-not-branch-clause-comes g t c = λ k.
     rw c.new-then-not-branch.ensures.bytes (go_on (c.loop-limits.invariant.comes k) (run_on (go_on a h)))
 
 pub foreach_turns-returns-then-not-branch-clause-later : goal.foreach_turns-returns-then-not-branch-clause-later
-foreach_turns-returns-then-not-branch-clause-later g t c = record { rises = omega arith }
+foreach_turns-returns-then-not-branch-clause-later g t c = later_on c.loop-limits.invariant.later (later_beside refl refl refl refl c.in_ok-turn.ensures.later)
 
 pub foreach_turns-turn-requires : goal.foreach_turns-turn-requires
 foreach_turns-turn-requires g t c κs within = search rules
@@ -595,13 +595,13 @@ pub form-returns-in-Catch-clause-comes : goal.form-returns-in-Catch-clause-comes
 form-returns-in-Catch-clause-comes g t c = λ k. rw c.in-Catch.is (c.catch.ensures.comes k)
 
 pub form-returns-in-Catch-clause-later : goal.form-returns-in-Catch-clause-later
-form-returns-in-Catch-clause-later g t c = record { rises = omega arith }
+form-returns-in-Catch-clause-later g t c = c.catch.ensures.later
 
 pub form-returns-in-For-clause-comes : goal.form-returns-in-For-clause-comes
 form-returns-in-For-clause-comes g t c = λ k. rw c.in-For.is (c.for_loop.ensures.comes k)
 
 pub form-returns-in-For-clause-later : goal.form-returns-in-For-clause-later
-form-returns-in-For-clause-later g t c = record { rises = omega arith }
+form-returns-in-For-clause-later g t c = c.for_loop.ensures.later
 
 pub form-returns-in-Foreach-clause-comes : goal.form-returns-in-Foreach-clause-comes
 form-returns-in-Foreach-clause-comes g t c = λ k.
@@ -609,7 +609,7 @@ form-returns-in-Foreach-clause-comes g t c = λ k.
     rw c.in-Foreach.is h
 
 pub form-returns-in-Foreach-clause-later : goal.form-returns-in-Foreach-clause-later
-form-returns-in-Foreach-clause-later g t c = record { rises = omega arith }
+form-returns-in-Foreach-clause-later g t c = c.foreach.ensures.later
 
 pub form-returns-in-If-clause-comes : goal.form-returns-in-If-clause-comes
 form-returns-in-If-clause-comes g t c = λ k.
@@ -617,7 +617,7 @@ form-returns-in-If-clause-comes g t c = λ k.
     rw c.in-If.is h
 
 pub form-returns-in-If-clause-later : goal.form-returns-in-If-clause-later
-form-returns-in-If-clause-later g t c = record { rises = omega arith }
+form-returns-in-If-clause-later g t c = c.branches.ensures.later
 
 pub form-returns-in-Switch-clause-comes : goal.form-returns-in-Switch-clause-comes
 form-returns-in-Switch-clause-comes g t c = λ k.
@@ -625,25 +625,25 @@ form-returns-in-Switch-clause-comes g t c = λ k.
     rw (c.in-Switch.is, ← e) (c.otherwise.ensures.comes k)
 
 pub form-returns-in-Switch-clause-later : goal.form-returns-in-Switch-clause-later
-form-returns-in-Switch-clause-later g t c = record { rises = omega arith }
+form-returns-in-Switch-clause-later g t c = c.otherwise.ensures.later
 
 pub form-returns-in-While-clause-comes : goal.form-returns-in-While-clause-comes
 form-returns-in-While-clause-comes g t c = λ k. rw c.in-While.is (c.while_turns.ensures.comes k)
 
 pub form-returns-in-While-clause-later : goal.form-returns-in-While-clause-later
-form-returns-in-While-clause-later g t c = record { rises = omega arith }
+form-returns-in-While-clause-later g t c = c.while_turns.ensures.later
 
 pub form-returns-in_default : goal.form-returns-in_default
 form-returns-in_default g t c = record {
   comes = c.plain.ensures _ c.args.left c.args.self.now.used _;
-  later = record { rises = omega arith };
+  later = later_still refl refl;
 }
 
 pub form-returns-in_err-text-in-Express-clause-comes : goal.form-returns-in_err-text-in-Express-clause-comes
 form-returns-in_err-text-in-Express-clause-comes g t c = λ k. rw c.in-Express.is (passed_on _ _ _ _ c.from_residual.ensures.1 (limited_stops _ _ _ _ _ c.in_err-text-in-Express.ensures))
 
 pub form-returns-in_err-text-in-Express-clause-later : goal.form-returns-in_err-text-in-Express-clause-later
-form-returns-in_err-text-in-Express-clause-later g t c = record { rises = omega arith }
+form-returns-in_err-text-in-Express-clause-later g t c = later_refl
 
 pub form-returns-in_ok-text-in-Express-clause-comes : goal.form-returns-in_ok-text-in-Express-clause-comes
 form-returns-in_ok-text-in-Express-clause-comes g t c = λ k.
@@ -652,7 +652,7 @@ form-returns-in_ok-text-in-Express-clause-comes g t c = λ k.
     rw c.in-Express.is (go_on (sized_on _ _ _ q.0) h)
 
 pub form-returns-in_ok-text-in-Express-clause-later : goal.form-returns-in_ok-text-in-Express-clause-later
-form-returns-in_ok-text-in-Express-clause-later g t c = record { rises = omega arith }
+form-returns-in_ok-text-in-Express-clause-later g t c = c.express.ensures.later
 
 pub form-while_turns-requires : goal.form-while_turns-requires
 form-while_turns-requires g t c κs within = search rules
@@ -669,7 +669,7 @@ pub guarded_turn-returns-clause-counted : goal.guarded_turn-returns-clause-count
 guarded_turn-returns-clause-counted g t c = λ e. absurd (false≢true e)
 
 pub guarded_turn-returns-clause-later : goal.guarded_turn-returns-clause-later
-guarded_turn-returns-clause-later g t c = record { rises = omega arith }
+guarded_turn-returns-clause-later g t c = c.in_ok-decide.ensures.later
 
 pub guarded_turn-returns-in_err-decide-clause-comes : goal.guarded_turn-returns-in_err-decide-clause-comes
 guarded_turn-returns-in_err-decide-clause-comes g t c = λ again. passed_on _ _ _ _ c.from_residual.ensures.1 (c.in_err-decide.ensures.comes _)
@@ -680,7 +680,7 @@ guarded_turn-returns-in_err-decide-clause-counted g t c =
     rw p.1 tt
 
 pub guarded_turn-returns-in_err-decide-clause-later : goal.guarded_turn-returns-in_err-decide-clause-later
-guarded_turn-returns-in_err-decide-clause-later g t c = record { rises = omega arith }
+guarded_turn-returns-in_err-decide-clause-later g t c = c.in_err-decide.ensures.later
 
 pub guarded_turn-returns-then-branch-clause-comes : goal.guarded_turn-returns-then-branch-clause-comes
 guarded_turn-returns-then-branch-clause-comes g t c = λ again.
@@ -692,7 +692,7 @@ pub guarded_turn-returns-then-branch-clause-counted : goal.guarded_turn-returns-
 guarded_turn-returns-then-branch-clause-counted g t c = counted_on c.args.limits.commands c.turn.new.self.used c.args.self.now.used c.decide.new.self.used c.turn.result c.in_ok-decide.ensures.later.rises c.turn.ensures.counted
 
 pub guarded_turn-returns-then-branch-clause-later : goal.guarded_turn-returns-then-branch-clause-later
-guarded_turn-returns-then-branch-clause-later g t c = record { rises = omega arith }
+guarded_turn-returns-then-branch-clause-later g t c = later_on c.in_ok-decide.ensures.later c.turn.ensures.later
 
 pub guarded_turn-turn-requires : goal.guarded_turn-turn-requires
 guarded_turn-turn-requires g t c κs within = search rules
@@ -707,13 +707,13 @@ pub other_command-returns-in-None-clause-comes : goal.other_command-returns-in-N
 other_command-returns-in-None-clause-comes g t c = λ k. rw (← c.in-None.ensures) (c.unknown.ensures c.args.limits.commands c.args.self.now.used (bounds c.args.limits.value_bytes c.args.left) (rule c.args.limits.value_bytes) k)
 
 pub other_command-returns-in-None-clause-later : goal.other_command-returns-in-None-clause-later
-other_command-returns-in-None-clause-later g t c = record { rises = omega arith }
+other_command-returns-in-None-clause-later g t c = later_refl
 
 pub other_command-returns-in_err-procedure-in-Some-clause-comes : goal.other_command-returns-in_err-procedure-in-Some-clause-comes
 other_command-returns-in_err-procedure-in-Some-clause-comes g t c = λ k. starved_end _ _ _ c.from_residual.ensures.1
 
 pub other_command-returns-in_err-procedure-in-Some-clause-later : goal.other_command-returns-in_err-procedure-in-Some-clause-later
-other_command-returns-in_err-procedure-in-Some-clause-later g t c = record { rises = omega arith }
+other_command-returns-in_err-procedure-in-Some-clause-later g t c = later_refl
 
 pub other_command-returns-in_ok-procedure-in-Some-clause-comes : goal.other_command-returns-in_ok-procedure-in-Some-clause-comes
 other_command-returns-in_ok-procedure-in-Some-clause-comes g t c = λ k.
@@ -723,7 +723,7 @@ other_command-returns-in_ok-procedure-in-Some-clause-comes g t c = λ k.
     rw (← c.in-Some.ensures) h
 
 pub other_command-returns-in_ok-procedure-in-Some-clause-later : goal.other_command-returns-in_ok-procedure-in-Some-clause-later
-other_command-returns-in_ok-procedure-in-Some-clause-later g t c = record { rises = omega arith }
+other_command-returns-in_ok-procedure-in-Some-clause-later g t c = c.call.ensures.later
 
 pub other_command-unknown-requires : goal.other_command-unknown-requires
 other_command-unknown-requires g t c = search rules
@@ -732,13 +732,13 @@ pub otherwise-returns-in-None-clause-comes : goal.otherwise-returns-in-None-clau
 otherwise-returns-in-None-clause-comes g t c = λ k. rw (c.in-None.is, c.new.ensures.bytes) stay
 
 pub otherwise-returns-in-None-clause-later : goal.otherwise-returns-in-None-clause-later
-otherwise-returns-in-None-clause-later g t c = record { rises = omega arith }
+otherwise-returns-in-None-clause-later g t c = later_refl
 
 pub otherwise-returns-in-Some-clause-comes : goal.otherwise-returns-in-Some-clause-comes
 otherwise-returns-in-Some-clause-comes g t c = λ k. rw c.in-Some.is (run_normal _ _ _ c.script.ensures.comes)
 
 pub otherwise-returns-in-Some-clause-later : goal.otherwise-returns-in-Some-clause-later
-otherwise-returns-in-Some-clause-later g t c = record { rises = omega arith }
+otherwise-returns-in-Some-clause-later g t c = c.script.ensures.later
 
 pub otherwise-script-requires : goal.otherwise-script-requires
 otherwise-script-requires g t c κs within = search rules
@@ -750,27 +750,27 @@ pub script-overflow_sub-left : goal.script-overflow_sub-left
 script-overflow_sub-left g t c = omega arith
 
 pub script-returns-in-Err-clause-comes : goal.script-returns-in-Err-clause-comes
-script-returns-in-Err-clause-comes g t c = rw c.of_text.ensures (go_on (begin_on _ _ c.if-left-eq0.false) (text_stops _ _ _ _ c.in-Err.ensures))
+script-returns-in-Err-clause-comes g t c = rw c.of_text.ensures (go_on (begin_on _ _ c.if-left-eq0.false) (text_stops _ _ _ _ c.in-Err.ensures.tree))
 
 pub script-returns-in-Err-clause-later : goal.script-returns-in-Err-clause-later
-script-returns-in-Err-clause-later g t c = record { rises = omega arith }
+script-returns-in-Err-clause-later g t c = later_begun refl c.script_tree.ensures.begins
 
 pub script-returns-in-Ok-clause-comes : goal.script-returns-in-Ok-clause-comes
 script-returns-in-Ok-clause-comes g t c =
     let h = rw (c.as_str.ensures.value, c.deref.ensures, c.deref-in-Ok.ensures) at c.commands.ensures.comes in
-    rw c.in-Ok.ensures (go_on (begin_on _ _ c.if-left-eq0.false) h)
+    rw c.in-Ok.ensures.tree (go_on (begin_on _ _ c.if-left-eq0.false) h)
 
 pub script-returns-in-Ok-clause-later : goal.script-returns-in-Ok-clause-later
-script-returns-in-Ok-clause-later g t c = record { rises = omega arith }
+script-returns-in-Ok-clause-later g t c = later_parsed refl c.script_tree.ensures.begins c.commands.ensures.later
 
 pub script-returns-then-left-eq0-clause-comes : goal.script-returns-then-left-eq0-clause-comes
 script-returns-then-left-eq0-clause-comes g t c = begin_stops _ _ c.if-left-eq0.true
 
 pub script-returns-then-left-eq0-clause-later : goal.script-returns-then-left-eq0-clause-later
-script-returns-then-left-eq0-clause-later g t c = record { rises = omega arith }
+script-returns-then-left-eq0-clause-later g t c = later_refl
 
-pub script-tree_of-requires-text-text : goal.script-tree_of-requires-text-text
-script-tree_of-requires-text-text g t c κs = search rules
+pub script-script_tree-requires-text-text : goal.script-script_tree-requires-text-text
+script-script_tree-requires-text-text g t c κs = search rules
 
 pub turn-returns-clause-comes : goal.turn-returns-clause-comes
 turn-returns-clause-comes g t c = λ again.
@@ -785,7 +785,7 @@ turn-returns-clause-counted g t c =
     ok_any c.after_turn.result _ p
 
 pub turn-returns-clause-later : goal.turn-returns-clause-later
-turn-returns-clause-later g t c = record { rises = omega (arith, c.in_ok-count.ensures.counted.1) }
+turn-returns-clause-later g t c = later_on (later_counted c.in_ok-count.ensures.counted.1 c.in_ok-count.ensures.kept) c.script.ensures.later
 
 pub turn-returns-in_err-count-clause-comes : goal.turn-returns-in_err-count-clause-comes
 turn-returns-in_err-count-clause-comes g t c = λ again.
@@ -798,7 +798,7 @@ turn-returns-in_err-count-clause-counted g t c =
     rw p.1 tt
 
 pub turn-returns-in_err-count-clause-later : goal.turn-returns-in_err-count-clause-later
-turn-returns-in_err-count-clause-later g t c = record { rises = omega (arith, c.in_err-count.ensures.counted.1) }
+turn-returns-in_err-count-clause-later g t c = later_still c.in_err-count.ensures.counted.1 c.in_err-count.ensures.kept
 
 pub turn-script-requires : goal.turn-script-requires
 turn-script-requires g t c κs within = search rules
@@ -841,13 +841,13 @@ value-returns-in-Done-clause-comes g t c = λ k.
     go_on (c.loop-stack.invariant.comes k) (h.0 _ c.loop-stack.self.used c.args.left _ k)
 
 pub value-returns-in-Done-clause-later : goal.value-returns-in-Done-clause-later
-value-returns-in-Done-clause-later g t c = record { rises = omega arith }
+value-returns-in-Done-clause-later g t c = c.loop-stack.invariant.later
 
 pub value-returns-in_err-next-clause-comes : goal.value-returns-in_err-next-clause-comes
 value-returns-in_err-next-clause-comes g t c = λ k. passed_on _ _ _ _ c.from_residual.ensures.1 (go_on (c.loop-stack.invariant.comes k) (c.in_err-next.ensures.0 _ c.loop-stack.self.used c.args.left _ k))
 
 pub value-returns-in_err-next-clause-later : goal.value-returns-in_err-next-clause-later
-value-returns-in_err-next-clause-later g t c = record { rises = omega arith }
+value-returns-in_err-next-clause-later g t c = c.loop-stack.invariant.later
 
 pub value-returns-in_err-value-in-Bracket-clause-comes : goal.value-returns-in_err-value-in-Bracket-clause-comes
 value-returns-in_err-value-in-Bracket-clause-comes g t c = λ k.
@@ -855,7 +855,7 @@ value-returns-in_err-value-in-Bracket-clause-comes g t c = λ k.
     passed_on _ _ _ _ c.from_residual-in_err-value-in-Bracket.ensures.1 (go_on (go_on (c.loop-stack.invariant.comes k) (h.0 _ c.loop-stack.self.used c.args.left _ k)) (c.in_err-value-in-Bracket.ensures.comes _))
 
 pub value-returns-in_err-value-in-Bracket-clause-later : goal.value-returns-in_err-value-in-Bracket-clause-later
-value-returns-in_err-value-in-Bracket-clause-later g t c = record { rises = omega arith }
+value-returns-in_err-value-in-Bracket-clause-later g t c = later_on c.loop-stack.invariant.later c.in_err-value-in-Bracket.ensures.later
 
 pub while_turns-guarded_turn-requires : goal.while_turns-guarded_turn-requires
 while_turns-guarded_turn-requires g t c κs within = search rules
@@ -883,7 +883,7 @@ while_turns-returns-in_err-guarded_turn-clause-comes g t c = λ k.
     passed_on _ _ _ _ c.from_residual.ensures.1 (go_on (c.loop.invariant.comes k) (run_stops _ _ (c.in_err-guarded_turn.ensures.comes again)))
 
 pub while_turns-returns-in_err-guarded_turn-clause-later : goal.while_turns-returns-in_err-guarded_turn-clause-later
-while_turns-returns-in_err-guarded_turn-clause-later g t c = record { rises = omega arith }
+while_turns-returns-in_err-guarded_turn-clause-later g t c = later_on c.loop.invariant.later c.in_err-guarded_turn.ensures.later
 
 pub while_turns-returns-then-not-branch-clause-comes : goal.while_turns-returns-then-not-branch-clause-comes
 while_turns-returns-then-not-branch-clause-comes g t c = λ k.
@@ -892,7 +892,7 @@ while_turns-returns-then-not-branch-clause-comes g t c = λ k.
     rw c.new.ensures.bytes (go_on (c.loop.invariant.comes k) (run_on h))
 
 pub while_turns-returns-then-not-branch-clause-later : goal.while_turns-returns-then-not-branch-clause-later
-while_turns-returns-then-not-branch-clause-later g t c = record { rises = omega arith }
+while_turns-returns-then-not-branch-clause-later g t c = later_on c.loop.invariant.later c.in_ok-guarded_turn.ensures.later
 
 pub words-loop-word-init : goal.words-loop-word-init
 words-loop-word-init g t c = record { comes = λ k. rw c.new-texts.ensures.items stay; later = later_refl }
@@ -924,7 +924,7 @@ words-returns-clause-comes g t c = λ k.
     rw d at (c.loop-word.invariant.comes k)
 
 pub words-returns-clause-later : goal.words-returns-clause-later
-words-returns-clause-later g t c = record { rises = omega arith }
+words-returns-clause-later g t c = c.loop-word.invariant.later
 
 pub words-returns-in_err-push_words-clause-comes : goal.words-returns-in_err-push_words-clause-comes
 words-returns-in_err-push_words-clause-comes g t c = λ k.
@@ -938,7 +938,7 @@ words-returns-in_err-push_words-clause-comes g t c = λ k.
     go_on (go_on l w) (value_stops _ _ _ _ _ _ c.from_residual-in_err-push_words.ensures.1 c.in_err-push_words.ensures)
 
 pub words-returns-in_err-push_words-clause-later : goal.words-returns-in_err-push_words-clause-later
-words-returns-in_err-push_words-clause-later g t c = record { rises = omega arith }
+words-returns-in_err-push_words-clause-later g t c = later_on c.loop-word.invariant.later c.in_ok-text.ensures.later
 
 pub words-returns-in_err-text-clause-comes : goal.words-returns-in_err-text-clause-comes
 words-returns-in_err-text-clause-comes g t c = λ k.
@@ -952,7 +952,7 @@ words-returns-in_err-text-clause-comes g t c = λ k.
     passed_on _ _ _ _ c.from_residual.ensures.1 (go_on l w)
 
 pub words-returns-in_err-text-clause-later : goal.words-returns-in_err-text-clause-later
-words-returns-in_err-text-clause-later g t c = record { rises = omega arith }
+words-returns-in_err-text-clause-later g t c = later_on c.loop-word.invariant.later c.in_err-text.ensures.later
 
 pub words-value-requires : goal.words-value-requires
 words-value-requires g t c κs within = search rules

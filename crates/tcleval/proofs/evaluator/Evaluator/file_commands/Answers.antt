@@ -29,11 +29,11 @@ use Rattle.tclrules.specs.Expressions.{normal}
 use Rattle.tclrules.proofs.Leading.{stay, go_on, starve, count_on, count_over, run_on, run_halts, run_tail}
 use Rattle.tclsteps.proofs.Leading.{passed_on, starved_end, starved_after, given_on, value_stops, sized_on, run_stops}
 use Rattle.tclsteps.proofs.Trees.{empty_of, first_and_rest}
-use Rattle.tcleval.proofs.Running.{run_after, run_normal, begin_on, begin_stops, drop_here, same_as, script_commands, command_words, command_place, word_parts, later_refl, later_on, text_stops, limited_stops, limited_on, ok_any, counted_on, core_stops, turned_some, turned_none, foreach_done, foreach_more, on_branch, branch_on}
+use Rattle.tcleval.proofs.Running.{run_after, run_normal, begin_on, begin_stops, drop_here, same_as, script_commands, command_words, command_place, word_parts, later_refl, later_on, later_still, later_counted, later_beside, later_begun, later_parsed, text_stops, limited_stops, limited_on, ok_any, counted_on, core_stops, turned_some, turned_none, foreach_done, foreach_more, on_branch, branch_on}
 use Rattle.tcleval.proofs.evaluator.Evaluator.file_commands.Goals as goal
 
 pub loop-command-init : goal.loop-command-init
-loop-command-init g c = rw (c.new-last.ensures.bytes, script_commands (shown c.args.source.now) c.args.script.now) stay
+loop-command-init g c = record { comes = rw (c.new-last.ensures.bytes, script_commands (shown c.args.source.now) c.args.script.now) stay; later = later_refl }
 
 pub offset_bounds-command-items-command-index : goal.offset_bounds-command-items-command-index
 offset_bounds-command-items-command-index g c = omega arith
@@ -41,13 +41,13 @@ offset_bounds-command-items-command-index g c = omega arith
 pub command-requires-text-source : goal.command-requires-text-source
 command-requires-text-source g c κs = search rules
 
-pub returns-in_err-last : goal.returns-in_err-last
-returns-in_err-last g c =
+pub returns-in_err-last-clause-comes : goal.returns-in_err-last-clause-comes
+returns-in_err-last-clause-comes g c =
     let b = bounds c.args.limits.value_bytes c.args.left in
     let view = command_view (shown c.args.source.now) in
     let s = c.deref-command-items.ensures.value in
     let d = drop_here _ _ _ (rw s at c.loop-command-test.true) (rw s at c.command-item.is) in
-    let l = rw (d, command_place (shown c.args.source.now) c.command-item.result) at c.loop-command.invariant in
+    let l = rw (d, command_place (shown c.args.source.now) c.command-item.result) at c.loop-command.invariant.comes in
     let rest = commands_of (map view (drop (c.loop-command.command-index + 1) (out-Script ByteRange c.args.script.now).commands.items)) in
     let w = rw c.at_place.ensures at (c.in_err-last.ensures.comes (λ (u : Text) (s2 : State). table.file_commands b rest u s2)) in
     passed_on _ _ _ _ c.from_residual.ensures.1 (go_on l w)
@@ -58,13 +58,19 @@ loop-command-preserved g c =
     let view = command_view (shown c.args.source.now) in
     let s = c.deref-command-items.ensures.value in
     let d = drop_here _ _ _ (rw s at c.loop-command-test.true) (rw s at c.command-item.is) in
-    let l = rw (d, command_place (shown c.args.source.now) c.command-item.result) at c.loop-command.invariant in
+    let l = rw (d, command_place (shown c.args.source.now) c.command-item.result) at c.loop-command.invariant.comes in
     let rest = commands_of (map view (drop (c.loop-command.command-index + 1) (out-Script ByteRange c.args.script.now).commands.items)) in
     let w = rw c.at_place.ensures at (c.in_ok-last.ensures.comes (λ (u : Text) (s2 : State). table.file_commands b rest u s2)) in
-    go_on l w
+    record { comes = go_on l w; later = later_on c.loop-command.invariant.later (later_beside refl refl refl refl c.in_ok-last.ensures.later) }
 
-pub returns : goal.returns
-returns g c =
+pub returns-clause-comes : goal.returns-clause-comes
+returns-clause-comes g c =
     let s = c.deref-command-items.ensures.value in
     let d = drop_all _ _ (rw s at c.loop-command-test.false) in
-    rw d at c.loop-command.invariant
+    rw d at c.loop-command.invariant.comes
+
+pub returns-clause-later : goal.returns-clause-later
+returns-clause-later g c = c.loop-command.invariant.later
+
+pub returns-in_err-last-clause-later : goal.returns-in_err-last-clause-later
+returns-in_err-last-clause-later g c = later_on c.loop-command.invariant.later (later_beside refl refl refl refl c.in_err-last.ensures.later)

@@ -23,4 +23,7 @@ invariant-loop-command g l =
     let t = g.H.Host.told in
     let b = bounds l.limits.value_bytes l.left in
     let view = map (command_view (shown l.source)) in
-    Leads l.limits.commands (rule l.limits.value_bytes) (rules.file_commands b (script_view (shown l.source) l.script) [] l.fn.self.variables) (point (o l.fn.host) (t l.fn.host) l.fn.self.used) (rules.file_commands b (commands_of (view (drop l.command-index (out-Script ByteRange l.script).commands.items))) (string_bytes l.last) l.self.variables) (point (o l.host) (t l.host) l.self.used)
+    record {
+      comes : Leads l.limits.commands (rule l.limits.value_bytes) (rules.file_commands b (script_view (shown l.source) l.script) [] l.fn.self.variables) (point (o l.fn.host) (t l.fn.host) l.fn.self.used) (rules.file_commands b (commands_of (view (drop l.command-index (out-Script ByteRange l.script).commands.items))) (string_bytes l.last) l.self.variables) (point (o l.host) (t l.host) l.self.used);
+      later : Later l.fn.self l.self;
+    }
