@@ -9,8 +9,6 @@ mod operand;
 mod operators;
 mod owned;
 mod reading;
-#[cfg(test)]
-mod tests;
 mod text;
 mod tree;
 

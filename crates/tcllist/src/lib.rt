@@ -3,8 +3,6 @@
 
 mod laws;
 mod read;
-#[cfg(test)]
-mod tests;
 mod write;
 
 pub use laws::{

@@ -7,8 +7,6 @@ mod owned;
 mod piece;
 mod reading;
 mod runs;
-#[cfg(test)]
-mod tests;
 mod text;
 mod tree;
 

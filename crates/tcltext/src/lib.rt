@@ -6,8 +6,6 @@
 
 mod laws;
 mod number;
-#[cfg(test)]
-mod tests;
 
 pub use laws::{number_in_expression, numeral_of_fraction, numeral_of_whole};
 pub use number::{Numeral, read_number};

@@ -1,5 +1,10 @@
 //! Answers calls of tcltext: one a line on standard input, a verb and texts in hexadecimal digits, with `-` for the
-//! empty text. `list TEXT`, `write TEXT...`, `script TEXT`, `expr TEXT`, `glob PATTERN TEXT`, `number TEXT`.
+//! empty text. `list TEXT`, `write TEXT...`, `script TEXT`, `expr TEXT`, `glob PATTERN TEXT`, `number TEXT`. A text may be
+//! of parts with `+` between them, and of a part with `*TIMES` behind it.
+//!
+//! `tree KIND TEXT` and `owned KIND TEXT` show a script or an expr as Rust prints it, with slices or with ranges of the
+//! text; `owned sources TEXT` the sources of its commands; `fault KIND TEXT` the fault, of a list too, and what it says;
+//! `range START END TEXT` the range of the text; `count TEXT` how many elements a list has; `memory` what want of it says.
 //!
 //! Each answer is a line: `ok` and what was read or written, `fault NUMBER` with the place where there is one, 1 or 0,
 //! or the class of a number. Of a script the words of each command are shown behind its place, parted by `;`, and a
@@ -7,19 +12,33 @@
 //! and `?` for a substitution.
 #![tactic(auto)]
 
+mod trees;
+
+use crate::trees::{fault, owned, tree};
 use std::alloc::{AllocError, Global};
 use std::io;
 use tcltext::{
-    Command, Expr, Numeral, Operand, Part, Script, TextFault, Word, glob_match, parse_expr,
-    parse_list, parse_script, push_braced_text, read_number, write_list,
+    ByteRange, Command, Expr, Numeral, Operand, Part, Script, TextFault, Word, glob_match,
+    parse_expr, parse_list, parse_script, push_braced_text, read_number, write_list,
 };
+
+/// A part of a text, as often as it says.
+fn push_part(alloc: Global, text: &mut String, part: &str) -> Option<()> {
+    let (digits, times) = part.split_once('*').unwrap_or((part, "1"));
+    let once = String::from_utf8(hex::decode(alloc, digits).ok()?).ok()?;
+    let times: usize = times.parse().ok()?;
+    text.push_str(&once.repeat(alloc, times).ok()?).ok()
+}
 
 /// The text of a word of a call; None where it isn't one.
 fn text_of(alloc: Global, digits: &str) -> Option<String> {
-    if digits == "-" {
-        return Some(String::new(alloc));
+    let mut text = String::new(alloc);
+    if digits != "-" {
+        for part in digits.split('+') {
+            push_part(alloc, &mut text, part)?;
+        }
     }
-    String::from_utf8(hex::decode(alloc, digits).ok()?).ok()
+    Some(text)
 }
 
 fn push_shown(alloc: Global, line: &mut String, text: &str) -> Option<()> {
@@ -171,7 +190,7 @@ fn shown_text(alloc: Global, text: &str) -> Option<String> {
 /// The list of the texts of a call.
 fn written(alloc: Global, words: &str) -> Option<String> {
     let mut texts = Vec::new(alloc);
-    for word in words.split(' ') {
+    for word in words.split(' ').filter(|word| !word.is_empty()) {
         texts.push(text_of(alloc, word)?).ok()?;
     }
     let mut elements = Vec::new(alloc);
@@ -190,9 +209,33 @@ fn shown_number(alloc: Global, number: Numeral) -> Option<String> {
     }
 }
 
+/// The range of a text, with the words of a call `START END TEXT`.
+fn shown_range(alloc: Global, words: &str) -> Option<String> {
+    let (start, rest) = words.split_once(' ')?;
+    let (end, digits) = rest.split_once(' ')?;
+    let text = text_of(alloc, digits)?;
+    let range = ByteRange {
+        start: start.parse().ok()?,
+        end: end.parse().ok()?,
+    };
+    shown_text(alloc, range.of(text.as_str()))
+}
+
+/// The answer to a call about trees.
+fn tree_answer(alloc: Global, verb: &str, rest: &str) -> Option<String> {
+    let (kind, digits) = rest.split_once(' ')?;
+    let text = text_of(alloc, digits)?;
+    match verb {
+        "tree" => tree(alloc, kind, text.as_str()),
+        "owned" => owned(alloc, kind, text),
+        "fault" => fault(alloc, kind, text.as_str()),
+        _ => None,
+    }
+}
+
 /// The answer to a call; None where the line is none, or memory ran out.
 fn answer(alloc: Global, line: &str) -> Option<String> {
-    let (verb, rest) = line.split_once(' ')?;
+    let (verb, rest) = line.split_once(' ').unwrap_or((line, ""));
     match verb {
         "list" => match parse_list(alloc, &text_of(alloc, rest)?) {
             Ok(elements) => shown_list(alloc, &elements),
@@ -219,7 +262,13 @@ fn answer(alloc: Global, line: &str) -> Option<String> {
             String::from_str(alloc, if matches { "1" } else { "0" }).ok()
         }
         "number" => shown_number(alloc, read_number(&text_of(alloc, rest)?)),
-        _ => None,
+        "count" => {
+            let elements = parse_list(alloc, &text_of(alloc, rest)?).ok()?;
+            format!(in alloc; "{}", elements.len()).ok()
+        }
+        "range" => shown_range(alloc, rest),
+        "memory" => format!(in alloc; "{}", TextFault::OutOfMemory).ok(),
+        _ => tree_answer(alloc, verb, rest),
     }
 }
 

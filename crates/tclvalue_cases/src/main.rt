@@ -9,9 +9,6 @@ use std::io;
 use tcltext::{BinaryOperator, UnaryOperator};
 use tclvalue::{ValueFault, binary, truth, unary, value_command};
 
-#[cfg(test)]
-mod tests;
-
 const UNARY: [UnaryOperator; 4] = [
     UnaryOperator::Minus,
     UnaryOperator::Plus,

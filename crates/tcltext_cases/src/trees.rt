@@ -1,0 +1,82 @@
+//! Trees as Rust prints them, and where their pieces stand.
+use std::alloc::Global;
+use std::fmt::Debug;
+use tcltext::{Script, TextFault, own_expr, own_script, parse_expr, parse_list, parse_script};
+
+/// The words of each command, with `*` before one whose list is expanded, behind the command's place.
+fn shown_words<P: Debug>(alloc: Global, script: &Script<P>) -> Option<String> {
+    let mut line = String::from_str(alloc, "ok").ok()?;
+    for command in &script.commands {
+        let place = command.place;
+        line.push_str(&format!(in alloc; " {place}:").ok()?).ok()?;
+        for word in &command.words {
+            let mark = if word.expands { "*" } else { "" };
+            let parts = &word.parts;
+            line.push_str(&format!(in alloc; " {mark}{parts:?}").ok()?)
+                .ok()?;
+        }
+    }
+    Some(line)
+}
+
+/// The fault as Rust prints it, and what it says.
+fn shown_fault(alloc: Global, fault: TextFault) -> Option<String> {
+    format!(in alloc; "{fault:?}: {fault}").ok()
+}
+
+/// The tree of a script or an expression.
+pub(crate) fn tree(alloc: Global, kind: &str, text: &str) -> Option<String> {
+    match kind {
+        "script" => match parse_script(alloc, text) {
+            Ok(script) => shown_words(alloc, &script),
+            Err(fault) => shown_fault(alloc, fault),
+        },
+        "expr" => match parse_expr(alloc, text) {
+            Ok(expression) => format!(in alloc; "ok {expression:?}").ok(),
+            Err(fault) => shown_fault(alloc, fault),
+        },
+        _ => None,
+    }
+}
+
+/// The source of each command in the text that is kept with a script.
+fn sources(alloc: Global, text: String) -> Option<String> {
+    let owned = own_script(alloc, text).ok()?;
+    let mut line = String::from_str(alloc, "ok").ok()?;
+    for command in &owned.script.commands {
+        let source = command.source.of(owned.text.as_str());
+        line.push_str(&format!(in alloc; " {source:?}").ok()?).ok()?;
+    }
+    Some(line)
+}
+
+/// The tree of a script or an expression that keeps its text, whose pieces are ranges of it; or the sources of the
+/// commands.
+pub(crate) fn owned(alloc: Global, kind: &str, text: String) -> Option<String> {
+    match kind {
+        "script" => match own_script(alloc, text) {
+            Ok(owned) => shown_words(alloc, &owned.script),
+            Err(fault) => shown_fault(alloc, fault),
+        },
+        "expr" => match own_expr(alloc, text) {
+            Ok(owned) => format!(in alloc; "ok {:?}", owned.expression).ok(),
+            Err(fault) => shown_fault(alloc, fault),
+        },
+        "sources" => sources(alloc, text),
+        _ => None,
+    }
+}
+
+/// The fault of a script, an expression or a list, or `none`.
+pub(crate) fn fault(alloc: Global, kind: &str, text: &str) -> Option<String> {
+    let found = match kind {
+        "script" => parse_script(alloc, text).err(),
+        "expr" => parse_expr(alloc, text).err(),
+        "list" => parse_list(alloc, text).err(),
+        _ => return None,
+    };
+    match found {
+        Some(fault) => shown_fault(alloc, fault),
+        None => String::from_str(alloc, "none").ok(),
+    }
+}
