@@ -1,0 +1,42 @@
+-- Verdicts, by the laws of modulefiles.
+use Rattle.std.proofs.Common.{◌≡◌, Bool, true, false, Ok, refl, sym, subst}
+use Rattle.std.specs.Prelude.{if◌then◌else◌}
+use Rattle.std.specs.List.{list_all}
+use Rattle.environment.specs.Texts.{Text}
+use Rattle.relations.specs.Relations.{Is}
+use Rattle.relations.proofs.One.{one_is, one_then}
+use Rattle.modulefile.specs.Answers.{Context}
+use Rattle.modulefile.specs.Files.{Ran, Runs}
+use Rattle.modulefile.specs.Laws as files
+use Rattle.reversal.specs.Ways.{is_reversible}
+use Rattle.requests.specs.Refusals.{RefusedAs}
+use Rattle.requests.specs.Reasons.{stopped}
+use Rattle.requests.specs.Steps.{Site, entries_of, Finds}
+use Rattle.requests.specs.Verdicts.{plain, asking, one_way, verdict_of, judged_in, OneVerdict, PlainHolds}
+use Rattle.requests.proofs.Bound.{went_on, kept_ok}
+use Rattle.requests.proofs.OneStep.{OneLeft, one_run, one_finds}
+
+pub one_verdict : files.OneOutcome → OneLeft → OneVerdict
+one_verdict file left s e name =
+    one_then (one_is (entries_of e)) (λ xs.
+    one_then (one_finds left s e name) (λ m.
+    one_then (one_run file s.limits (judged_in s name m xs e) m.text) (λ ran.
+    one_is (Ok (verdict_of ran)))))
+
+plain_parts : (a r : Bool) → plain ≡ (if a then asking else if r then plain else one_way) → (a ≡ false) × (r ≡ true)
+plain_parts true r e = absurd (cc)
+plain_parts false true e = (refl, refl)
+plain_parts false false e = absurd (cc)
+
+as_ok : (c : Context) (s : Site) (text : Text) (ran : Ran) → RefusedAs stopped (Runs s.limits c text) (Ok ran) → Runs s.limits c text (Ok ran)
+as_ok c s text ran h = subst (Runs s.limits c text) (kept_ok stopped h.0 ran (sym h.2)) h.1
+
+pub plain_holds : files.PlainFilesAgree → PlainHolds
+plain_holds agree s e name h =
+    let (xs, read, h1) = went_on (Is (entries_of e)) _ plain h in
+    let (m, found, h2) = went_on (Finds s e name) _ plain h1 in
+    let (ran, runs, h3) = went_on _ _ plain h2 in
+    let c = judged_in s name m xs e in
+    let same : plain ≡ verdict_of ran = (let q : Ok plain ≡ Ok (verdict_of ran) = h3 in cc) in
+    let p = plain_parts ran.asked (list_all is_reversible ran.records) same in
+    (m, ran, found, p.1, (λ d o n q r. agree s.limits c d m.text ran o (as_ok c s m.text ran runs) p.0 n q r))

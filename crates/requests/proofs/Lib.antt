@@ -1,0 +1,10 @@
+mod Bound
+mod OneStep
+mod SomeFound
+mod SomeStep
+mod MadeByMoves
+mod Reporting
+mod SessionMoves
+mod Undone
+mod Returned
+mod Judging

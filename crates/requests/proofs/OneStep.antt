@@ -1,0 +1,118 @@
+-- A request has one outcome at most, since a search has one and an evaluation has one.
+use Rattle.std.proofs.Common.{◌≡◌, Bool, true, false, List, [], ◌∷◌, Option, Some, None, Result, Ok, Err, ap, sym, ◌∙◌, reverse}
+use Rattle.modulename.specs.ModuleName.{is_module_name}
+use Rattle.environment.specs.Texts.{Text, has}
+use Rattle.environment.specs.Environment.{Environment}
+use Rattle.loadedlist.specs.Loaded.{Entry, names_of}
+use Rattle.lookup.specs.Search.{modulefile}
+use Rattle.tclrules.specs.declared.limits.Limits.{Limits}
+use Rattle.relations.specs.Relations.{Is, Then, IsOne}
+use Rattle.relations.proofs.One.{one_is, one_then, one_if}
+use Rattle.modulerecords.specs.Records.{Record}
+use Rattle.modulerecords.specs.Effects as modes
+use Rattle.modulerecords.specs.Effects.{Mode}
+use Rattle.modulerecords.specs.Moves.{Unloads}
+use Rattle.modulefile.specs.Answers.{Context}
+use Rattle.modulefile.specs.Files.{Runs}
+use Rattle.modulefile.specs.Laws as files
+use Rattle.defaultfiles.specs.Leaves.{Leaves}
+use Rattle.modulesearch.specs.DefaultFiles.{Left}
+use Rattle.modulesearch.specs.Reasons.{bad_name}
+use Rattle.modulesearch.specs.Found as search
+use Rattle.modulesearch.specs.Found.{Found}
+use Rattle.modulesearch.proofs.OneFound.{one_module}
+use Rattle.modulesearch.proofs.OneListing.{one_listed}
+use Rattle.requests.specs.Refusals.{unless, RefusedAs}
+use Rattle.requests.specs.Reasons.{RequestReason, bad_arguments, missed, stopped}
+use Rattle.requests.specs.Requests.{Asked, load, unload, switch, purge, list, avail, show, whatis}
+use Rattle.requests.specs.Conditions.{end_objection}
+use Rattle.requests.specs.Reports.{loaded_text, avail_text}
+use Rattle.requests.specs.Steps.{Site, Done, begun, went, module_of, joins, reported, entries_of, modulepath, context_of, script_at, Finds, LoadsFound, LoadsName, UnloadsEntry, UnloadsMeant, last_meant, UnloadsName, ShowsName, shown_text, described_text, Each, Named, Ends, Changes, Switches, Shows, ListsAll, Step, old_name}
+use Rattle.requests.proofs.Bound.{one_refused_as}
+
+-- a default file leaves one thing
+abbrev pub OneLeft : Type 0
+OneLeft = (limits : Limits) (path text : Text) (o p : Option Left) → Leaves limits path text o → Leaves limits path text p → o ≡ p
+
+pub one_run : files.OneOutcome → (limits : Limits) (c : Context) (text : Text) → IsOne (RefusedAs stopped (Runs limits c text))
+one_run file limits c text = one_refused_as {f = stopped} {First = Runs limits c text} (file limits c text)
+
+pub one_finds : OneLeft → (s : Site) (e : Environment) (name : Text) → IsOne (Finds s e name)
+one_finds left s e name = one_refused_as {f = missed} {First = Found (Leaves s.limits) s.files s.listings (modulepath e) name} (one_module (Leaves s.limits) (left s.limits) s.files s.listings (modulepath e) name)
+
+one_loads_found : files.OneOutcome → (s : Site) (w : Bool) (typed : Text) (d : Done) (xs : List Entry) (m : search.Module) → IsOne (LoadsFound s w typed d xs m)
+one_loads_found file s w typed d xs m =
+    one_if (has m.name (names_of xs)) (one_is (Ok d)) (
+    one_then (one_run file s.limits (context_of s modes.load w typed m.name m.path xs d.env) m.text) (λ ran.
+    one_is (joins d xs (module_of m.name m.path ran) ran.messages)))
+
+one_load : files.OneOutcome → OneLeft → (s : Site) (w : Bool) (typed : Text) (d : Done) → IsOne (LoadsName s w typed d)
+one_load file left s w typed d =
+    one_then (one_is (entries_of d.env)) (λ xs.
+    one_if (has typed (names_of xs)) (one_is (Ok d)) (
+    one_then (one_finds left s d.env typed) (one_loads_found file s w typed d xs)))
+
+one_entry : files.OneOutcome → (s : Site) (w : Bool) (typed : Text) (d : Done) (xs : List Entry) (x : Entry) → IsOne (UnloadsEntry s w typed d xs x)
+one_entry file s w typed d xs x =
+    one_then (one_is (script_at x.path (modulefile (s.files x.path)))) (λ text.
+    one_then (one_run file s.limits (context_of s modes.unload w typed x.name x.path xs d.env) text) (λ ran.
+    one_is (went d (Unloads (module_of x.name x.path ran)) ran.messages)))
+
+one_meant : files.OneOutcome → (s : Site) (w : Bool) (typed : Text) (d : Done) (xs : List Entry) (x : Option Entry) → IsOne (UnloadsMeant s w typed d xs x)
+one_meant file s w typed d xs None = one_is (Ok d)
+one_meant file s w typed d xs (Some x) = one_entry file s w typed d xs x
+
+one_unload : files.OneOutcome → (s : Site) (w : Bool) (typed : Text) (d : Done) → IsOne (UnloadsName s w typed d)
+one_unload file s w typed d =
+    one_then (one_is (entries_of d.env)) (λ xs.
+    one_if (is_module_name typed) (one_meant file s w typed d xs (last_meant typed xs)) (one_is (Err (missed (bad_name typed)))))
+
+one_show : files.OneOutcome → OneLeft → (s : Site) (mode : Mode) (text_of : search.Module → List Record → Text) (typed : Text) (d : Done) → IsOne (ShowsName s mode text_of typed d)
+one_show file left s mode text_of typed d =
+    one_then (one_is (entries_of d.env)) (λ xs.
+    one_then (one_finds left s d.env typed) (λ m.
+    one_then (one_run file s.limits (context_of s mode false typed m.name m.path xs d.env) m.text) (λ ran.
+    one_is (Ok (reported d ran.messages (text_of m ran.records))))))
+
+one_each : (Does : Text → Done → Result Done RequestReason → Type 0) → ((name : Text) (d : Done) → IsOne (Does name d)) → (names : List Text) (d : Done) → IsOne (Each Does names d)
+one_each Does u [] d = one_is (Ok d)
+one_each Does u (name ∷ names) d = one_then {First = Does name d} {Rest = Each Does names} (u name d) (one_each Does u names)
+
+one_named : (names : List Text) (Does : Result Done RequestReason → Type 0) → IsOne Does → IsOne (Named names Does)
+one_named [] Does u = one_is (Err bad_arguments)
+one_named (name ∷ names) Does u = u
+
+one_end : (before : List Entry) (d : Done) → IsOne (Ends before d)
+one_end before d = one_then (one_is (entries_of d.env)) (λ after. one_is (unless (end_objection before after) (Ok d)))
+
+one_changes : (e : Environment) (Does : List Entry → Done → Result Done RequestReason → Type 0) → ((before : List Entry) (d : Done) → IsOne (Does before d)) → IsOne (Changes e Does)
+one_changes e Does u =
+    one_then {First = Is (entries_of e)} {Rest = λ before. Then (Does before (begun e)) (Ends before)} (one_is (entries_of e)) (λ before.
+    one_then {First = Does before (begun e)} {Rest = Ends before} (u before (begun e)) (one_end before))
+
+one_switch : files.OneOutcome → OneLeft → (s : Site) (old : Option Text) (new : Text) (d : Done) → IsOne (Switches s old new d)
+one_switch file left s old new d =
+    one_then {First = UnloadsName s true (old_name old new) d} {Rest = LoadsName s true new} (one_unload file s true (old_name old new) d) (one_load file left s true new)
+
+one_shown : files.OneOutcome → OneLeft → (s : Site) (mode : Mode) (text_of : search.Module → List Record → Text) (e : Environment) (names : List Text) → IsOne (Shows s mode text_of e names)
+one_shown file left s mode text_of e names =
+    one_then {First = Is (entries_of e)} {Rest = λ xs. Each (ShowsName s mode text_of) names (begun e)} (one_is (entries_of e)) (λ xs.
+    one_each (ShowsName s mode text_of) (one_show file left s mode text_of) names (begun e))
+
+one_lists : (s : Site) (e : Environment) (texts : List Text) → IsOne (ListsAll s e texts)
+one_lists s e texts o p (ls, h, g) (ks, k, f) =
+    g ∙ (ap (λ x. Ok (reported (begun e) [] (avail_text texts x))) (one_listed (Leaves s.limits) s.files s.listings (modulepath e) ls ks h k) ∙ sym f)
+
+pub one_step : files.OneOutcome → OneLeft → (s : Site) (e : Environment) (asked : Asked) → IsOne (Step s e asked)
+one_step file left s e (load names) =
+    one_named names (Changes e (λ before. Each (LoadsName s false) names)) (one_changes e (λ before. Each (LoadsName s false) names) (λ before. one_each (LoadsName s false) (one_load file left s false) names))
+one_step file left s e (unload names) =
+    one_named names (Changes e (λ before. Each (UnloadsName s false) names)) (one_changes e (λ before. Each (UnloadsName s false) names) (λ before. one_each (UnloadsName s false) (one_unload file s false) names))
+one_step file left s e (switch old new) =
+    one_changes e (λ before. Switches s old new) (λ before. one_switch file left s old new)
+one_step file left s e purge =
+    one_changes e (λ before. Each (UnloadsName s false) (reverse (names_of before))) (λ before. one_each (UnloadsName s false) (one_unload file s false) (reverse (names_of before)))
+one_step file left s e list = one_then (one_is (entries_of e)) (λ xs. one_is (Ok (reported (begun e) [] (loaded_text (names_of xs)))))
+one_step file left s e (avail texts) = one_lists s e texts
+one_step file left s e (show names) = one_named names (Shows s modes.display shown_text e names) (one_shown file left s modes.display shown_text e names)
+one_step file left s e (whatis names) = one_named names (Shows s modes.whatis described_text e names) (one_shown file left s modes.whatis described_text e names)

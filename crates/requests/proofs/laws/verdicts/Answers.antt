@@ -1,0 +1,8 @@
+use Rattle.requests.proofs.Judging.{one_verdict, plain_holds}
+use Rattle.requests.proofs.laws.verdicts.Goals as goal
+
+pub returns-clause-one : goal.returns-clause-one
+returns-clause-one c = one_verdict c.files.ensures.one c.one_left.ensures
+
+pub returns-clause-plain : goal.returns-clause-plain
+returns-clause-plain c = plain_holds c.plain.ensures

@@ -1,0 +1,102 @@
+-- The laws of requests and sessions.
+use Rattle.std.specs.Prelude.{◌≡◌, true, List, [], ◌++◌, map, Result, Ok}
+use Rattle.std.specs.List.{list_all}
+use Rattle.environment.specs.Texts.{Text}
+use Rattle.environment.specs.Environment.{Environment}
+use Rattle.modulerecords.specs.Moves.{Module, made, Lead}
+use Rattle.reversal.specs.Ways.{Way}
+use Rattle.reversal.specs.Standing.{IsInOrder, IsStart, Stands}
+use Rattle.reversal.specs.Runs.{live_after, AreFit}
+use Rattle.reversal.specs.Requests as moves
+use Rattle.reversal.specs.Laws.{Holds}
+use Rattle.requests.specs.Reasons.{RequestReason}
+use Rattle.requests.specs.Requests.{Asked, Request, load, unload, switch, purge, list, avail, show, whatis}
+use Rattle.requests.specs.Steps.{Site, Done, Step}
+use Rattle.requests.specs.Sessions.{Response, Session, left_by, outcome_of, session_moves, is_told}
+use Rattle.requests.specs.Returning.{AreNew, AreFitting}
+
+-- A request has one outcome at most.
+abbrev pub OneOutcome : Type 0
+OneOutcome =
+    (s : Site) (e : Environment) (asked : Asked) (o p : Result Done RequestReason)
+    → Step s e asked o → Step s e asked p → o ≡ p
+
+-- a request other than `avail`
+abbrev pub IsNotAvail : Asked → Type 0
+IsNotAvail (load names) = Unit {0}
+IsNotAvail (unload names) = Unit {0}
+IsNotAvail (switch old new) = Unit {0}
+IsNotAvail purge = Unit {0}
+IsNotAvail list = Unit {0}
+IsNotAvail (avail texts) = ⊥
+IsNotAvail (show names) = Unit {0}
+IsNotAvail (whatis names) = Unit {0}
+
+-- Each of these has an outcome.
+abbrev pub SomeOutcome : Type 0
+SomeOutcome =
+    (s : Site) (e : Environment) (asked : Asked) → IsNotAvail asked
+    → (o : Result Done RequestReason) × Step s e asked o
+
+-- The moves of an accepted step lead from the environment to what it leaves, and each fits where it is made.
+abbrev pub StepsLead : Type 0
+StepsLead =
+    (s : Site) (e : Environment) (asked : Asked) (d : Done) → Step s e asked (Ok d) → Lead d.moves e d.env
+
+-- So what it leaves is what they make.
+abbrev pub StepsAreMade : Type 0
+StepsAreMade =
+    (s : Site) (e : Environment) (asked : Asked) (d : Done) → Step s e asked (Ok d) → made d.moves e ≡ Ok d.env
+
+-- a request that only reports
+abbrev pub Reports : Asked → Type 0
+Reports (load names) = ⊥
+Reports (unload names) = ⊥
+Reports (switch old new) = ⊥
+Reports purge = ⊥
+Reports list = Unit {0}
+Reports (avail texts) = Unit {0}
+Reports (show names) = Unit {0}
+Reports (whatis names) = Unit {0}
+
+-- It leaves the environment, and moves nothing.
+abbrev pub ReportsLeave : Type 0
+ReportsLeave =
+    (s : Site) (e : Environment) (asked : Asked) (d : Done) → Reports asked → Step s e asked (Ok d)
+    → (d.env ≡ e) × (d.moves ≡ [])
+
+-- A session is a run of what its requests moved.
+abbrev pub SessionsRun : Type 0
+SessionsRun =
+    (s : Site) (e : Environment) (rs : List Request) (os : List Response) → Session s e rs os
+    → moves.Run (map outcome_of os) e (left_by e os)
+
+-- Its moves lead from the first environment to the last.
+abbrev pub SessionsLead : Type 0
+SessionsLead =
+    (s : Site) (e : Environment) (rs : List Request) (os : List Response) → Session s e rs os
+    → Lead (session_moves os) e (left_by e os)
+
+-- Where nothing was given up it has one list of responses.
+abbrev pub OneSession : Type 0
+OneSession =
+    (s : Site) (e : Environment) (rs : List Request) (os ps : List Response)
+    → list_all is_told os ≡ true → list_all is_told ps ≡ true → Session s e rs os → Session s e rs ps → os ≡ ps
+
+-- A session of new modules that are reversible and apart, from a start in order: each environment on the way is in
+-- order and stands over the start with the modules that are live there. With none it is the start.
+abbrev pub SessionsReturn : Type 0
+SessionsReturn =
+    (ways : Text → Way) (s : Site) (start : Environment) (rs : List Request) (before after : List Response)
+    → IsStart ways start → Session s start rs (before ++ after)
+    → AreNew start (session_moves (before ++ after)) → AreFitting ways [] (session_moves (before ++ after))
+    → Holds ways start (live_after [] (session_moves before)) (left_by start before)
+
+-- One command, which knows no history: from an environment that is in order and stands over a start in order. What it
+-- leaves is in order and stands over that start with the modules that are live then. With none it is the start.
+abbrev pub CommandsReturn : Type 0
+CommandsReturn =
+    (ways : Text → Way) (s : Site) (start e : Environment) (live : List Module) (asked : Asked) (d : Done)
+    → IsStart ways start → IsInOrder ways e → Stands ways start live e → AreFit ways live
+    → Step s e asked (Ok d) → AreNew start d.moves → AreFitting ways live d.moves
+    → Holds ways start (live_after live d.moves) d.env × AreFit ways (live_after live d.moves)

@@ -1,0 +1,12 @@
+pub mod Requests
+pub mod RequestViews
+pub mod Reasons
+pub mod Refusals
+pub mod Conditions
+pub mod Reports
+pub mod Steps
+pub mod Sessions
+pub mod Verdicts
+pub mod Returning
+pub mod Laws
+pub mod Rows

@@ -1,0 +1,52 @@
+-- The requests of the program, as the definitions see them, and why words make none.
+use Rattle.std.specs.Prelude.{◌≡◌, ℕ, List, codes, map, string_bytes, String, Option, Some, None, IfSome, Result, Ok, Err}
+use Rattle.std.specs.Option.{option_map}
+use Rattle.std.specs.declared.alloc.Global.{Global}
+use Rattle.std.specs.declared.vec.Vec.{Vec}
+use Rattle.environment.specs.Texts.{Text}
+use Rattle.message.specs.Messages.{quoting}
+use Rattle.requests.specs.declared.request_fault.RequestFault.{RequestFault}
+use Rattle.requests.specs.declared.request_fault.RequestFault.TheVariants as faults
+use Rattle.requests.specs.declared.asked.Action.{Action}
+use Rattle.requests.specs.declared.asked.Action.TheVariants as actions
+use Rattle.requests.specs.declared.asked.Request as code
+use Rattle.requests.specs.Reasons.{RequestReason, bad_arguments, unknown_subcommand}
+use Rattle.requests.specs.Requests.{Asked, Request, load, unload, switch, purge, list, avail, show, whatis}
+
+abbrev pub texts_of : Vec (String Global) Global → List Text
+texts_of words = map string_bytes words.items
+
+abbrev pub asked_view : Action → Asked
+asked_view (actions.Load names) = load (texts_of names)
+asked_view (actions.Unload names) = unload (texts_of names)
+asked_view (actions.Switch old new) = switch (option_map string_bytes old) (string_bytes new)
+asked_view actions.Purge = purge
+asked_view actions.List = list
+asked_view (actions.Avail texts) = avail (texts_of texts)
+asked_view (actions.Show names) = show (texts_of names)
+asked_view (actions.Whatis names) = whatis (texts_of names)
+
+abbrev pub request_view : code.Request → Request
+request_view request = (request.shell, asked_view request.action)
+
+-- the reason that a fault names; want of memory is none
+abbrev pub reason_of : RequestFault → Option RequestReason
+reason_of faults.OutOfMemory = None
+reason_of faults.BadArguments = Some bad_arguments
+reason_of (faults.UnknownSubcommand word) = Some (unknown_subcommand (string_bytes word))
+
+-- The answer is that of the outcome, or want of memory.
+abbrev pub Gives : {X Y : Type 0} → (X → Y) → Result X RequestFault → Result Y RequestReason → Type 0
+Gives view (Ok x) outcome = outcome ≡ Ok (view x)
+Gives view (Err fault) outcome = IfSome (reason_of fault) (λ r. outcome ≡ Err r)
+
+-- the numbers of the faults, and what each says
+abbrev pub fault_number : RequestFault → ℕ
+fault_number faults.OutOfMemory = 31
+fault_number faults.BadArguments = 56
+fault_number (faults.UnknownSubcommand word) = 57
+
+abbrev pub fault_message : RequestFault → Text
+fault_message faults.OutOfMemory = codes "Out of memory"
+fault_message faults.BadArguments = codes "Bad arguments"
+fault_message (faults.UnknownSubcommand word) = quoting (codes "Unknown subcommand '") (string_bytes word)

@@ -1,0 +1,54 @@
+-- What a command line asks for (module(1)).
+use Rattle.std.specs.Prelude.{Bool, ◌||◌, List, [], ◌∷◌, codes, if◌then◌else◌, bytes_eq, Option, Some, None, Result, Ok, Err}
+use Rattle.environment.specs.Texts.{Text}
+use Rattle.shells.specs.declared.shell.Shell.{Shell}
+use Rattle.requests.specs.Reasons.{RequestReason, bad_arguments, unknown_subcommand}
+
+-- each with names, or texts, as they were typed
+pub data Asked : Type 0 where
+  load : (names : List Text) → Asked
+  unload : (names : List Text) → Asked
+  switch : (old : Option Text) (new : Text) → Asked
+  purge : Asked
+  list : Asked
+  avail : (texts : List Text) → Asked
+  show : (names : List Text) → Asked
+  whatis : (names : List Text) → Asked
+
+-- the shell that reads what is printed, and what is asked for
+abbrev pub Request : Type 0
+Request = Shell × Asked
+
+-- at least one name
+abbrev pub some_names : (List Text → Asked) → List Text → Result Asked RequestReason
+some_names make [] = Err bad_arguments
+some_names make (name ∷ names) = Ok (make (name ∷ names))
+
+-- `switch [OLD] NEW`
+abbrev pub switch_of : List Text → Result Asked RequestReason
+switch_of (new ∷ []) = Ok (switch None new)
+switch_of (old ∷ new ∷ []) = Ok (switch (Some old) new)
+switch_of names = Err bad_arguments
+
+-- no name
+abbrev pub no_names : Asked → List Text → Result Asked RequestReason
+no_names asked [] = Ok asked
+no_names asked (name ∷ names) = Err bad_arguments
+
+-- the word, or its other spelling
+abbrev pub is_word : Text → Text → Text → Bool
+is_word one other word = bytes_eq word one || bytes_eq word other
+
+-- The request that these words make, from the subcommand on.
+abbrev pub request_of : List Text → Result Asked RequestReason
+request_of [] = Err bad_arguments
+request_of (word ∷ names) =
+    if is_word (codes "load") (codes "add") word then some_names load names
+    else if is_word (codes "unload") (codes "rm") word then some_names unload names
+    else if is_word (codes "switch") (codes "swap") word then switch_of names
+    else if bytes_eq word (codes "purge") then no_names purge names
+    else if bytes_eq word (codes "list") then no_names list names
+    else if bytes_eq word (codes "avail") then Ok (avail names)
+    else if is_word (codes "show") (codes "display") word then some_names show names
+    else if bytes_eq word (codes "whatis") then some_names whatis names
+    else Err (unknown_subcommand word)

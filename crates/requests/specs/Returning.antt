@@ -1,0 +1,28 @@
+-- What is asked of a run for it to lead back to its start: the modules are new, reversible and apart.
+use Rattle.std.specs.Prelude.{◌≡◌, false, List, [], ◌∷◌, Some}
+use Rattle.environment.specs.Texts.{Text, has}
+use Rattle.environment.specs.Environment.{Environment}
+use Rattle.loadedlist.specs.Loaded.{Entry, names_of, loaded_in}
+use Rattle.modulerecords.specs.Moves.{Module, Move, Loads, Unloads}
+use Rattle.reversal.specs.Ways.{Way}
+use Rattle.reversal.specs.Runs.{live_named, without_live, IsFit}
+
+-- no module that is loaded at the start is unloaded
+abbrev pub IsNew : Environment → Move → Type 0
+IsNew start (Loads m) = Unit {0}
+IsNew start (Unloads m) = (xs : List Entry) → loaded_in start ≡ Some xs → has m.name (names_of xs) ≡ false
+
+abbrev pub AreNew : Environment → List Move → Type 0
+AreNew start [] = Unit {0}
+AreNew start (m ∷ ms) = IsNew start m × AreNew start ms
+
+-- the unloaded module has the records of the load that this undoes
+abbrev pub HasLoadRecords : List Module → Module → Type 0
+HasLoadRecords live m = (loaded : Module) → live_named m.name live ≡ Some loaded → m.records ≡ loaded.records
+
+-- Each load is of a module that is reversible and apart from the live ones, and each unload has the records of the load
+-- that it undoes.
+abbrev pub AreFitting : (Text → Way) → List Module → List Move → Type 0
+AreFitting ways live [] = Unit {0}
+AreFitting ways live (Loads m ∷ ms) = IsFit ways live m × AreFitting ways (m ∷ live) ms
+AreFitting ways live (Unloads m ∷ ms) = HasLoadRecords live m × AreFitting ways (without_live m.name live) ms

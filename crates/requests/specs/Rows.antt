@@ -1,0 +1,25 @@
+-- Loaded modules and listings of the worked rows.
+use Rattle.std.specs.Prelude.{true, false, List, [], ◌∷◌, codes}
+use Rattle.loadedlist.specs.Loaded.{Entry}
+use Rattle.modulesearch.specs.Listed.{Row}
+
+abbrev pub k1 : Entry
+k1 = record { name = codes "k/1"; path = codes "/m/k/1"; conflicts = []; prereqs = [] }
+
+-- in conflict with k
+abbrev pub n1 : Entry
+n1 = record { name = codes "n/1"; path = codes "/m/n/1"; conflicts = codes "k" ∷ []; prereqs = [] }
+
+abbrev pub gcc9 : Entry
+gcc9 = record { name = codes "gcc/9"; path = codes "/m/gcc/9"; conflicts = []; prereqs = [] }
+
+abbrev pub gcc10 : Entry
+gcc10 = record { name = codes "gcc/10"; path = codes "/o/gcc/10"; conflicts = []; prereqs = [] }
+
+-- needs gcc
+abbrev pub mpi1 : Entry
+mpi1 = record { name = codes "mpi/1"; path = codes "/m/mpi/1"; conflicts = []; prereqs = (codes "gcc" ∷ []) ∷ [] }
+
+-- the first is named by a default file
+abbrev pub versions : List Row
+versions = (codes "ver/1.9", true) ∷ (codes "ver/1.10", false) ∷ (codes "ver/1.10-rc", false) ∷ []

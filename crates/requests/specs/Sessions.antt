@@ -1,0 +1,66 @@
+-- Sessions: requests one after another, each with one response.
+use Rattle.std.specs.Prelude.{ℕ, ◌≡◌, ◌==◌, Bool, true, false, List, [], ◌∷◌, map, Ok, Err}
+use Rattle.std.specs.List.{list_any}
+use Rattle.environment.specs.Environment.{Environment}
+use Rattle.shells.specs.declared.shell.Shell.{Shell}
+use Rattle.modulerecords.specs.Moves.{Move}
+use Rattle.reversal.specs.Requests as moves
+use Rattle.reversal.specs.Requests.{all_moves}
+use Rattle.requests.specs.Reasons.{RequestReason}
+use Rattle.requests.specs.Requests.{Asked, Request}
+use Rattle.requests.specs.Steps.{Site, Done, Step}
+
+-- A request is accepted, or refused for its reason, or given up: for want of memory, or since a device failed, or since
+-- the shell can't say a text. The number is that of the cause.
+pub data Response : Type 0 where
+  accepted : Done → Response
+  refused : RequestReason → Response
+  given_up : (number : ℕ) → Response
+
+-- memory (of evaluation, edits, search, printing), a device, a text
+abbrev pub is_cause : ℕ → Bool
+is_cause number = list_any (λ n. n == number) (11 ∷ 31 ∷ 41 ∷ 61 ∷ 43 ∷ 62 ∷ [])
+
+-- an accepted or refused request came to its step; one that was given up had a cause
+abbrev pub IsResponse : Site → Environment → Asked → Response → Type 0
+IsResponse s e asked (accepted d) = Step s e asked (Ok d)
+IsResponse s e asked (refused reason) = Step s e asked (Err reason)
+IsResponse s e asked (given_up number) = is_cause number ≡ true
+
+-- only an accepted request changes the environment
+abbrev pub env_after : Environment → Response → Environment
+env_after e (accepted d) = d.env
+env_after e (refused reason) = e
+env_after e (given_up number) = e
+
+-- what is left after all of them
+abbrev pub left_by : Environment → List Response → Environment
+left_by e [] = e
+left_by e (o ∷ os) = left_by (env_after e o) os
+
+-- for another shell
+abbrev pub in_shell : Site → Shell → Site
+in_shell s shell = record { files = s.files; listings = s.listings; limits = s.limits; shell = shell }
+
+-- From an environment, the requests have these responses: each in the environment that those before it left.
+abbrev pub Session : Site → Environment → List Request → List Response → Type 0
+Session s e [] [] = Unit {0}
+Session s e [] (o ∷ os) = ⊥
+Session s e (r ∷ rs) [] = ⊥
+Session s e (r ∷ rs) (o ∷ os) = IsResponse (in_shell s r.0) e r.1 o × Session s (env_after e o) rs os
+
+-- what a response moved
+abbrev pub outcome_of : Response → moves.Outcome
+outcome_of (accepted d) = moves.accepted d.moves
+outcome_of (refused reason) = moves.refused
+outcome_of (given_up number) = moves.refused
+
+-- the moves of the accepted requests, in order
+abbrev pub session_moves : List Response → List Move
+session_moves os = all_moves (map outcome_of os)
+
+-- not given up
+abbrev pub is_told : Response → Bool
+is_told (accepted d) = true
+is_told (refused reason) = true
+is_told (given_up number) = false

@@ -1,0 +1,226 @@
+-- What a request makes of an environment, over the files and folders of a tree (module(1)). It names its moves.
+use Rattle.std.specs.Prelude.{◌≡◌, Bool, true, false, List, [], ◌∷◌, ◌++◌, codes, reverse, find, unwrap_or, Option, Some, None, Result, Ok, Err}
+use Rattle.modulename.specs.ModuleName.{is_module_name, means, parts}
+use Rattle.environment.specs.Texts.{Text, has}
+use Rattle.environment.specs.Environment.{Environment, lookup}
+use Rattle.environment.specs.Reasons as edits
+use Rattle.loadedlist.specs.Loaded.{Entry, names_of, loaded_in}
+use Rattle.tclrules.specs.declared.limits.Limits.{Limits}
+use Rattle.shells.specs.declared.shell.Shell.{Shell}
+use Rattle.lookup.specs.Agreement.{Files, Listings}
+use Rattle.lookup.specs.Search.{Held, absent, no_cookie, not_utf8, script, modulefile}
+use Rattle.relations.specs.Relations.{Is, If, ◌>>◌}
+use Rattle.modulerecords.specs.Records.{Record}
+use Rattle.modulerecords.specs.Judgments.{bad_edit}
+use Rattle.modulerecords.specs.Effects as modes
+use Rattle.modulerecords.specs.Effects.{Mode}
+use Rattle.modulerecords.specs.Moves.{Module, Move, Loads, Unloads, moved}
+use Rattle.modulefile.specs.Results.{◌>>=◌}
+use Rattle.modulefile.specs.Answers.{Context}
+use Rattle.modulefile.specs.Files.{Ran, Runs}
+use Rattle.modulefile.specs.Reports.{show_text, whatis_text}
+use Rattle.defaultfiles.specs.Leaves.{Leaves}
+use Rattle.modulesearch.specs.Reasons.{bad_name, not_utf8_at}
+use Rattle.modulesearch.specs.Found as search
+use Rattle.modulesearch.specs.Found.{Found}
+use Rattle.modulesearch.specs.Listed.{Listing, Listed}
+use Rattle.requests.specs.Refusals.{refused_as, unless, RefusedAs}
+use Rattle.requests.specs.Reasons.{RequestReason, bad_arguments, missed, file_gone, not_a_modulefile, stopped, refused_edit}
+use Rattle.requests.specs.Requests.{Asked, load, unload, switch, purge, list, avail, show, whatis}
+use Rattle.requests.specs.Conditions.{load_objection, end_objection}
+use Rattle.requests.specs.Reports.{loaded_text, avail_text}
+
+-- What a request is run over: the files and folders of a tree, the limits on the evaluation of each file, and the shell
+-- that reads what is printed.
+pub record Site : Type 0 where
+  pub files : Files
+  pub listings : Listings
+  pub limits : Limits
+  pub shell : Shell
+
+-- What a request has done so far: its moves and what they made of the environment, the messages of its files, and its
+-- report.
+pub record Done : Type 0 where
+  pub env : Environment
+  pub moves : List Move
+  pub messages : List Text
+  pub report : Text
+
+abbrev pub begun : Environment → Done
+begun e = record { env = e; moves = []; messages = []; report = [] }
+
+-- one move more, which makes this environment
+abbrev pub moved_on : Done → Move → List Text → Environment → Done
+moved_on d move messages e =
+    record { env = e; moves = d.moves ++ move ∷ []; messages = d.messages ++ messages; report = d.report }
+
+abbrev pub went : Done → Move → List Text → Result Done RequestReason
+went d move messages = refused_as refused_edit (moved move d.env) >>= (λ e. Ok (moved_on d move messages e))
+
+-- the report goes on
+abbrev pub reported : Done → List Text → Text → Done
+reported d messages text =
+    record { env = d.env; moves = d.moves; messages = d.messages ++ messages; report = d.report ++ text }
+
+abbrev pub consistent : Option (List Entry) → Result (List Entry) RequestReason
+consistent None = Err (refused_edit (bad_edit edits.inconsistent))
+consistent (Some xs) = Ok xs
+
+-- the loaded modules
+abbrev pub entries_of : Environment → Result (List Entry) RequestReason
+entries_of e = consistent (loaded_in e)
+
+-- the search path of the moment
+abbrev pub modulepath : Environment → Text
+modulepath e = unwrap_or (lookup e (codes "MODULEPATH")) []
+
+-- what the file of this name and path is evaluated in
+abbrev pub context_of : Site → Mode → Bool → Text → Text → Text → List Entry → Environment → Context
+context_of s mode in_switch typed name path xs e =
+    record {
+      mode = mode;
+      in_switch = in_switch;
+      name = name;
+      path = path;
+      shell = s.shell;
+      typed = typed;
+      loaded = names_of xs;
+      start = e;
+    }
+
+-- the module with the records that its file left
+abbrev pub module_of : Text → Text → Ran → Module
+module_of name path ran = record { name = name; path = path; records = ran.records }
+
+-- what a name means now
+abbrev pub Finds : Site → Environment → Text → Result search.Module RequestReason → Type 0
+Finds s e name = RefusedAs missed (Found (Leaves s.limits) s.files s.listings (modulepath e) name)
+
+-- ---- load
+
+-- The module goes last in the loaded list, unless something forbids it beside those that are loaded.
+abbrev pub joins : Done → List Entry → Module → List Text → Result Done RequestReason
+joins d xs m messages = unless (load_objection m.name m.records xs) (went d (Loads m) messages)
+
+-- The module that was found is loaded, unless it is already.
+abbrev pub LoadsFound : Site → Bool → Text → Done → List Entry → search.Module → Result Done RequestReason → Type 0
+LoadsFound s in_switch typed d xs m =
+    If (has m.name (names_of xs)) (Is (Ok d)) (
+    RefusedAs stopped (Runs s.limits (context_of s modes.load in_switch typed m.name m.path xs d.env) m.text) >> (λ ran.
+    Is (joins d xs (module_of m.name m.path ran) ran.messages)))
+
+-- A name that is exactly a loaded module's changes nothing. Another is searched for.
+abbrev pub LoadsName : Site → Bool → Text → Done → Result Done RequestReason → Type 0
+LoadsName s in_switch typed d =
+    Is (entries_of d.env) >> (λ xs.
+    If (has typed (names_of xs)) (Is (Ok d)) (
+    Finds s d.env typed >> LoadsFound s in_switch typed d xs))
+
+-- ---- unload
+
+-- the script in a loaded module's file
+abbrev pub script_at : Text → Held → Result Text RequestReason
+script_at path absent = Err (file_gone path)
+script_at path no_cookie = Err (not_a_modulefile path)
+script_at path not_utf8 = Err (missed (not_utf8_at path))
+script_at path (script text) = Ok text
+
+-- The module is unloaded by the file at its recorded path. Nothing is searched.
+abbrev pub UnloadsEntry : Site → Bool → Text → Done → List Entry → Entry → Result Done RequestReason → Type 0
+UnloadsEntry s in_switch typed d xs x =
+    Is (script_at x.path (modulefile (s.files x.path))) >> (λ text.
+    RefusedAs stopped (Runs s.limits (context_of s modes.unload in_switch typed x.name x.path xs d.env) text) >> (λ ran.
+    Is (went d (Unloads (module_of x.name x.path ran)) ran.messages)))
+
+-- where there is no such module nothing changes
+abbrev pub UnloadsMeant : Site → Bool → Text → Done → List Entry → Option Entry → Result Done RequestReason → Type 0
+UnloadsMeant s in_switch typed d xs None = Is (Ok d)
+UnloadsMeant s in_switch typed d xs (Some x) = UnloadsEntry s in_switch typed d xs x
+
+-- the last loaded module that the name means
+abbrev pub last_meant : Text → List Entry → Option Entry
+last_meant name xs = find (λ x. means name x.name) (reverse xs)
+
+abbrev pub UnloadsName : Site → Bool → Text → Done → Result Done RequestReason → Type 0
+UnloadsName s in_switch typed d =
+    Is (entries_of d.env) >> (λ xs.
+    If (is_module_name typed)
+    (UnloadsMeant s in_switch typed d xs (last_meant typed xs))
+    (Is (Err (missed (bad_name typed)))))
+
+-- ---- show and whatis
+
+-- The file is evaluated in the environment at hand, which stays.
+abbrev pub ShowsName : Site → Mode → (search.Module → List Record → Text) → Text → Done → Result Done RequestReason
+    → Type 0
+ShowsName s mode text_of typed d =
+    Is (entries_of d.env) >> (λ xs.
+    Finds s d.env typed >> (λ m.
+    RefusedAs stopped (Runs s.limits (context_of s mode false typed m.name m.path xs d.env) m.text) >> (λ ran.
+    Is (Ok (reported d ran.messages (text_of m ran.records))))))
+
+abbrev pub shown_text : search.Module → List Record → Text
+shown_text m rs = show_text m.path rs
+
+abbrev pub described_text : search.Module → List Record → Text
+described_text m rs = whatis_text m.name rs
+
+-- ---- whole requests
+
+-- each name in turn
+abbrev pub Each : (Text → Done → Result Done RequestReason → Type 0) → List Text → Done → Result Done RequestReason
+    → Type 0
+Each Does [] d = Is (Ok d)
+Each Does (name ∷ names) d = Does name d >> Each Does names
+
+-- at least one name
+abbrev pub Named : List Text → (Result Done RequestReason → Type 0) → Result Done RequestReason → Type 0
+Named [] Does = Is (Err bad_arguments)
+Named (name ∷ names) Does = Does
+
+-- At the end no module that stayed has lost what it needs.
+abbrev pub Ends : List Entry → Done → Result Done RequestReason → Type 0
+Ends before d = Is (entries_of d.env) >> (λ after. Is (unless (end_objection before after) (Ok d)))
+
+-- The loaded modules are read first, and judged last.
+abbrev pub Changes : Environment → (List Entry → Done → Result Done RequestReason → Type 0)
+    → Result Done RequestReason → Type 0
+Changes e Does = Is (entries_of e) >> (λ before. Does before (begun e) >> Ends before)
+
+-- the first part of a name
+abbrev pub first_part : List Text → Text
+first_part [] = []
+first_part (part ∷ more) = part
+
+-- Without an old name it is the first part of the new one.
+abbrev pub old_name : Option Text → Text → Text
+old_name (Some old) new = old
+old_name None new = first_part (parts new)
+
+-- the old one is unloaded, and then the new one loaded
+abbrev pub Switches : Site → Option Text → Text → Done → Result Done RequestReason → Type 0
+Switches s old new d = UnloadsName s true (old_name old new) d >> LoadsName s true new
+
+abbrev pub Shows : Site → Mode → (search.Module → List Record → Text) → Environment → List Text
+    → Result Done RequestReason → Type 0
+Shows s mode text_of e names = Is (entries_of e) >> (λ xs. Each (ShowsName s mode text_of) names (begun e))
+
+abbrev pub Lists : Environment → Result Done RequestReason → Type 0
+Lists e = Is (entries_of e) >> (λ xs. Is (Ok (reported (begun e) [] (loaded_text (names_of xs)))))
+
+-- no loaded module is asked for
+abbrev pub ListsAll : Site → Environment → List Text → Result Done RequestReason → Type 0
+ListsAll s e texts o =
+    (listings : List Listing) × Listed (Leaves s.limits) s.files s.listings (modulepath e) listings
+    × (o ≡ Ok (reported (begun e) [] (avail_text texts listings)))
+
+-- The step of a request.
+abbrev pub Step : Site → Environment → Asked → Result Done RequestReason → Type 0
+Step s e (load names) = Named names (Changes e (λ before. Each (LoadsName s false) names))
+Step s e (unload names) = Named names (Changes e (λ before. Each (UnloadsName s false) names))
+Step s e (switch old new) = Changes e (λ before. Switches s old new)
+Step s e purge = Changes e (λ before. Each (UnloadsName s false) (reverse (names_of before)))
+Step s e list = Lists e
+Step s e (avail texts) = ListsAll s e texts
+Step s e (show names) = Named names (Shows s modes.display shown_text e names)
+Step s e (whatis names) = Named names (Shows s modes.whatis described_text e names)

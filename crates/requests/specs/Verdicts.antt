@@ -1,0 +1,61 @@
+-- Whether a modulefile means the same wherever it is evaluated, and can be undone (own).
+use Rattle.std.specs.Prelude.{◌≡◌, List, true, false, if◌then◌else◌, Result, Ok}
+use Rattle.std.specs.List.{list_all}
+use Rattle.environment.specs.Texts.{Text}
+use Rattle.environment.specs.Environment.{Environment}
+use Rattle.loadedlist.specs.Loaded.{Entry}
+use Rattle.shells.specs.declared.shell.Shell.TheVariants.{Sh}
+use Rattle.relations.specs.Relations.{Is, ◌>>◌}
+use Rattle.modulerecords.specs.Effects as modes
+use Rattle.modulefile.specs.Answers.{Context}
+use Rattle.modulefile.specs.Files.{Ran, Stop, Runs, IsSameOrRefused}
+use Rattle.modulesearch.specs.Found as search
+use Rattle.reversal.specs.Ways.{is_reversible}
+use Rattle.requests.specs.Refusals.{RefusedAs}
+use Rattle.requests.specs.Reasons.{RequestReason, stopped}
+use Rattle.requests.specs.Steps.{Site, entries_of, Finds, context_of}
+use Rattle.requests.specs.Sessions.{in_shell}
+
+pub data Verdict : Type 0 where
+  -- it asked nothing, and unloading undoes its records
+  plain : Verdict
+  -- it asked about the environment, the mode, the shell, the typed name or the loaded modules
+  asking : Verdict
+  -- it asked nothing, and has a record that unloading doesn't undo
+  one_way : Verdict
+
+abbrev pub verdict_of : Ran → Verdict
+verdict_of ran = if ran.asked then asking else if list_all is_reversible ran.records then plain else one_way
+
+-- for loading, in sh
+abbrev pub judged_in : Site → Text → search.Module → List Entry → Environment → Context
+judged_in s name m xs e = context_of (in_shell s Sh) modes.load false name m.name m.path xs e
+
+-- The verdict on the module that a name means. Its file is evaluated for loading in sh, and the typed name is this
+-- name. Conflicts and prereqs aren't judged.
+abbrev pub Judged : Site → Environment → Text → Result Verdict RequestReason → Type 0
+Judged s e name =
+    Is (entries_of e) >> (λ xs.
+    Finds s e name >> (λ m.
+    RefusedAs stopped (Runs s.limits (judged_in s name m xs e) m.text) >> (λ ran.
+    Is (Ok (verdict_of ran)))))
+
+-- In every context of this module, whatever the mode, the environment, the shell, the typed name and the loaded
+-- modules, its file leaves these records or is refused.
+abbrev pub LeavesAlways : Site → search.Module → Ran → Type 0
+LeavesAlways s m ran =
+    (c : Context) (o : Result Ran Stop) → c.name ≡ m.name → c.path ≡ m.path → Runs s.limits c m.text o
+    → IsSameOrRefused ran o
+
+-- A module has one verdict at most.
+abbrev pub OneVerdict : Type 0
+OneVerdict =
+    (s : Site) (e : Environment) (name : Text) (o p : Result Verdict RequestReason)
+    → Judged s e name o → Judged s e name p → o ≡ p
+
+-- A module that is judged plain leaves the same records always, and unloading undoes each of them.
+abbrev pub PlainHolds : Type 0
+PlainHolds =
+    (s : Site) (e : Environment) (name : Text) → Judged s e name (Ok plain)
+    → (m : search.Module) × (ran : Ran) × Finds s e name (Ok m)
+    × (list_all is_reversible ran.records ≡ true) × LeavesAlways s m ran

@@ -1,0 +1,72 @@
+//! Laws about the definitions alone. Each is a function that does nothing: its contract is the law.
+ghost use Rattle.requests.specs.Laws.{OneOutcome, SomeOutcome, StepsLead, StepsAreMade, ReportsLeave};
+ghost use Rattle.requests.specs.Laws.{SessionsRun, SessionsLead, OneSession, SessionsReturn, CommandsReturn};
+ghost use Rattle.requests.specs.Verdicts.{OneVerdict, PlainHolds};
+
+/// A request has one outcome at most. The moves of an accepted one lead from the environment to what it leaves, and
+/// each fits where it is made: a module that is loaded isn't loaded already, and one that is unloaded is, by its path.
+/// So what the step leaves is what its moves make.
+pub fn outcomes()
+    ensures one { OneOutcome }
+    ensures lead { StepsLead }
+    ensures made { StepsAreMade }
+{
+    modulefile::files();
+    defaultfiles::one_left();
+    modulerecords::laws::moves();
+}
+
+/// Each request other than `avail` has an outcome: what a search asks of a tree can be decided, and an evaluation has
+/// one.
+pub fn some_outcome()
+    ensures { SomeOutcome }
+{
+    modulefile::files();
+    defaultfiles::some_left();
+}
+
+/// `list`, `avail`, `show` and `whatis` leave the environment as it is.
+pub fn reports()
+    ensures { ReportsLeave }
+{}
+
+/// A session is a run of what its requests moved: its moves lead from its first environment to its last. Where nothing
+/// was given up it has one list of responses.
+pub fn sessions()
+    ensures run { SessionsRun }
+    ensures lead { SessionsLead }
+    ensures one { OneSession }
+{
+    outcomes();
+    modulerecords::laws::moves();
+}
+
+/// From a start in order, in a session of new modules that are reversible and apart, each environment is in order and
+/// stands over the start with the modules that are live there. Where none is live it is the start: the maps are equal.
+pub fn session_returns()
+    ensures { SessionsReturn }
+{
+    sessions();
+    reversal::laws::runs();
+    reversal::laws::steps();
+}
+
+/// The same of one command, which knows no history: from an environment that is in order and stands over a start in
+/// order.
+pub fn command_returns()
+    ensures { CommandsReturn }
+{
+    outcomes();
+    reversal::laws::steps();
+}
+
+/// A module has one verdict at most. One that is judged plain leaves the same records in every context of its name and
+/// path, or is refused there, and unloading undoes each of them: the records of each unload are those of the load.
+pub fn verdicts()
+    ensures one { OneVerdict }
+    ensures plain { PlainHolds }
+{
+    modulefile::files();
+    modulefile::plain();
+    defaultfiles::one_left();
+}

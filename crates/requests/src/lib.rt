@@ -1,0 +1,17 @@
+//! What a request is, and what it makes of an environment (module(1)): the definitions, their laws, and the requests
+//! that words make.
+#![tactic(auto)]
+
+mod asked;
+mod laws;
+mod request_fault;
+mod rows;
+mod words;
+
+pub use asked::{Action, Request};
+pub use laws::{
+    command_returns, outcomes, reports, session_returns, sessions, some_outcome, verdicts,
+};
+pub use request_fault::RequestFault;
+pub use rows::{condition_rows, report_rows, request_rows};
+pub use words::request;

@@ -1,0 +1,84 @@
+//! Makes a request of the words of a command line.
+ghost use Rattle.std.specs.Prelude.{◌≡◌, List, map, IfOk, string_bytes, vec_items, Ok};
+ghost use Rattle.environment.specs.Texts.{Text};
+ghost use Rattle.requests.specs.Requests.{Asked, some_names, switch_of, no_names, request_of};
+ghost use Rattle.requests.specs.RequestViews.{Gives, asked_view, texts_of};
+
+use crate::asked::{Action, Request};
+use crate::request_fault::RequestFault;
+use shells::Shell;
+use std::alloc::{AllocError, Global};
+
+fn copied(alloc: Global, words: &[String]) -> Result<Vec<String>, AllocError>
+    ensures { IfOk result (λ names. map string_bytes (vec_items names) ≡ map string_bytes words.now) }
+{
+    let mut names = Vec::new(alloc);
+    for word in words {
+        names.push(word.clone()?)?;
+    }
+    Ok(names)
+}
+
+/// At least one name.
+fn some_names(alloc: Global, words: &[String]) -> Result<Vec<String>, RequestFault>
+    ensures { (make : List Text → Asked)
+        → Gives (λ names. make (texts_of names)) result (some_names make (map string_bytes words.now)) }
+{
+    if words.is_empty() {
+        return Err(RequestFault::BadArguments);
+    }
+    Ok(copied(alloc, words)?)
+}
+
+/// The action, where no name follows.
+fn no_names(action: Action, words: &[String]) -> Result<Action, RequestFault>
+    ensures { Gives asked_view result (no_names (asked_view action) (map string_bytes words.now)) }
+{
+    match words {
+        [] => Ok(action),
+        _ => Err(RequestFault::BadArguments),
+    }
+}
+
+fn switch_of(words: &[String]) -> Result<Action, RequestFault>
+    ensures { Gives asked_view result (switch_of (map string_bytes words.now)) }
+{
+    match words {
+        [new] => Ok(Action::Switch(None, new.clone()?)),
+        [old, new] => Ok(Action::Switch(Some(old.clone()?), new.clone()?)),
+        _ => Err(RequestFault::BadArguments),
+    }
+}
+
+/// The action that the words ask for, from the subcommand on.
+fn action_of(alloc: Global, words: &[String]) -> Result<Action, RequestFault>
+    ensures { Gives asked_view result (request_of (map string_bytes words.now)) }
+{
+    let [word, names @ ..] = words else {
+        return Err(RequestFault::BadArguments);
+    };
+    match word.as_str() {
+        "load" | "add" => Ok(Action::Load(some_names(alloc, names)?)),
+        "unload" | "rm" => Ok(Action::Unload(some_names(alloc, names)?)),
+        "switch" | "swap" => switch_of(names),
+        "purge" => no_names(Action::Purge, names),
+        "list" => no_names(Action::List, names),
+        "avail" => Ok(Action::Avail(copied(alloc, names)?)),
+        "show" | "display" => Ok(Action::Show(some_names(alloc, names)?)),
+        "whatis" => Ok(Action::Whatis(some_names(alloc, names)?)),
+        other => Err(RequestFault::UnknownSubcommand(String::from_str(alloc, other)?)),
+    }
+}
+
+/// The request that the words make, from the subcommand on. `add`, `rm`, `swap` and `display` are short for `load`,
+/// `unload`, `switch` and `show`.
+///
+/// Errors: there is no such subcommand (57); there is none at all, or its names don't fit it: `load`, `unload`, `show`
+/// and `whatis` take at least one, `switch` one or two, `purge` and `list` none (56); or want of memory.
+pub fn request(alloc: Global, shell: Shell, words: &[String]) -> Result<Request, RequestFault>
+    ensures asked { Gives (λ request. asked_view request.action) result (request_of (map string_bytes words.now)) }
+    ensures shell { IfOk result (λ request. request.shell ≡ shell) }
+{
+    let action = action_of(alloc, words)?;
+    Ok(Request { shell, action })
+}
