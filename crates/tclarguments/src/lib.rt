@@ -9,8 +9,6 @@ mod messages;
 mod names;
 mod procedures;
 mod switch;
-#[cfg(test)]
-mod tests;
 
 pub use calls::allotted;
 pub use foreach::Loops;

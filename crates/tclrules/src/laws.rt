@@ -9,7 +9,8 @@ ghost use Rattle.tclrules.specs.Meaning.{Setting, ComesTo, limited_to, with_orac
 
 /// A script has one outcome.
 pub fn one_outcome()
-    ensures { (s : Setting) (o o2 : Outcome Ending) (w w2 : World) → ComesTo s o w → ComesTo s o2 w2 → (o ≡ o2) × (w ≡ w2) }
+    ensures { (s : Setting) (o o2 : Outcome Ending) (w w2 : World)
+        → ComesTo s o w → ComesTo s o2 w2 → (o ≡ o2) × (w ≡ w2) }
 {}
 
 /// Each script has an outcome, under each limit.
@@ -17,7 +18,8 @@ pub fn some_outcome()
     ensures { (s : Setting) → (o : Outcome Ending) × (w : World) × ComesTo s o w }
 {}
 
-/// Under another limit on commands an outcome that isn't this limit's is the same from its count on, and below it the limit is met.
+/// Under another limit on commands an outcome that isn't this limit's is the same from its count on, and below it the limit
+/// is met.
 pub fn other_limit()
     ensures same { (s : Setting) (o : Outcome Ending) (w : World) (n : ℕ)
         → ComesTo s o w → ¬ (o ≡ Halted TooManyCommands) → w.used ≤ n → ComesTo (limited_to n s) o w }
@@ -25,17 +27,20 @@ pub fn other_limit()
         → ComesTo s o w → n < w.used → (w2 : World) × ComesTo (limited_to n s) (Halted TooManyCommands) w2 }
 {}
 
-/// A script that has no end meets each limit on commands. One that is ended by the limits on depth or on values has an end.
+/// A script that has no end meets each limit on commands. One that is ended by the limits on depth or on values has an
+/// end.
 pub fn endless()
-    ensures { (s : Setting) (n : ℕ) → HasNoEnd s → (w : World) × ComesTo (limited_to n s) (Halted TooManyCommands) w }
+    ensures { (s : Setting) (n : ℕ)
+        → HasNoEnd s → (w : World) × ComesTo (limited_to n s) (Halted TooManyCommands) w }
 {}
 
-/// Where a second oracle answers each consultation of an evaluation as the first does, or refuses it, the outcome is the same, or a
-/// refusal. Where nothing was asked and the host refused nothing, it is enough that it does so where the first is asked no question
-/// and doesn't refuse.
+/// Where a second oracle answers each consultation of an evaluation as the first does, or refuses it, the outcome is the
+/// same, or a refusal. Where nothing was asked and the host refused nothing, it is enough that it does so where the first is
+/// asked no question and doesn't refuse.
 pub fn two_oracles()
     ensures each { (s : Setting) (second : Oracle) (o o2 : Outcome Ending) (w w2 : World) (d : ComesTo s o w)
-        → Throughout (AnswersOrRefuses s.oracle second) d → ComesTo (with_oracle second s) o2 w2 → IsSameOrRefused o w o2 w2 }
+        → Throughout (AnswersOrRefuses s.oracle second) d → ComesTo (with_oracle second s) o2 w2
+        → IsSameOrRefused o w o2 w2 }
     ensures unasked { (s : Setting) (second : Oracle) (o o2 : Outcome Ending) (w w2 : World)
         → ComesTo s o w → w.told.asked ≡ false → ((n : ℕ) → ¬ (o ≡ Halted (ByHost n)))
         → AgreesUnasked s.oracle second → ComesTo (with_oracle second s) o2 w2 → IsSameOrRefused o w o2 w2 }
@@ -53,16 +58,19 @@ pub fn unrefused()
         → ((n : ℕ) → ¬ (o ≡ Halted (ByHost n))) → Throughout (IsUnrefused s.oracle) d }
 {}
 
-/// The records grow by the oracle's answers alone. So what holds of those at first, and is kept by each answer's addition, holds of
-/// the last.
+/// The records grow by the oracle's answers alone. So what holds of those at first, and is kept by each answer's addition,
+/// holds of the last.
 pub fn grown()
-    ensures grows { (s : Setting) (o : Outcome Ending) (w : World) → ComesTo s o w → Grows s.oracle s.told.records w.told.records }
+    ensures grows { (s : Setting) (o : Outcome Ending) (w : World)
+        → ComesTo s o w → Grows s.oracle s.told.records w.told.records }
     ensures kept { (s : Setting) (o : Outcome Ending) (w : World) (holds : List Record → Bool)
         → ComesTo s o w → holds s.told.records ≡ true → Keeps s.oracle holds → holds w.told.records ≡ true }
 {}
 
 /// What playing a script gives is its outcome, and in enough steps it gives it.
 pub fn played()
-    ensures derived { (s : Setting) (steps : ℕ) (o : Outcome Ending) (w : World) → play_file s steps ≡ Some (o, w) → ComesTo s o w }
-    ensures enough { (s : Setting) (o : Outcome Ending) (w : World) → ComesTo s o w → (steps : ℕ) × (play_file s steps ≡ Some (o, w)) }
+    ensures derived { (s : Setting) (steps : ℕ) (o : Outcome Ending) (w : World)
+        → play_file s steps ≡ Some (o, w) → ComesTo s o w }
+    ensures enough { (s : Setting) (o : Outcome Ending) (w : World)
+        → ComesTo s o w → (steps : ℕ) × (play_file s steps ≡ Some (o, w)) }
 {}

@@ -31,7 +31,8 @@ fn copy_words(alloc: Global, words: &[String]) -> Result<Vec<String>, AllocError
 }
 
 fn keep(records: &mut Vec<Vec<String>>, alloc: Global, words: &[String]) -> Result<(), AllocError>
-    ensures ok { OnOk result (map record_texts records.new.items ≡ map record_texts records.old.items ++ map string_bytes words.now ∷ []) }
+    ensures ok { OnOk result (map record_texts records.new.items
+        ≡ map record_texts records.old.items ++ map string_bytes words.now ∷ []) }
     ensures err { OnErr result (records.new.items ≡ records.old.items) }
 {
     let copy = copy_words(alloc, words)?;
@@ -76,9 +77,16 @@ impl Host for Recorder {
     ghost use Rattle.std.specs.Prelude.{string_bytes, map};
     ghost use Rattle.tclrules.specs.Recording.{answer_of, record_texts, pair_texts, value_in};
 
-    ghost told = { λ r. record { records = map record_texts r.records.items; messages = map string_bytes r.messages.items; asked = r.asked } };
+    ghost told = { λ r. record {
+      records = map record_texts r.records.items;
+      messages = map string_bytes r.messages.items;
+      asked = r.asked;
+    } };
 
-    ghost oracle = { λ r. record { command = answer_of (string_bytes r.mode); variable = value_in (pair_texts r.environment.items) } };
+    ghost oracle = { λ r. record {
+      command = answer_of (string_bytes r.mode);
+      variable = value_in (pair_texts r.environment.items);
+    } };
 
     fn command(&mut self, words: &[String]) -> HostAnswer {
         let [name, ..] = words else {
