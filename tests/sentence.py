@@ -1,14 +1,16 @@
 """The sentence that the project is about, tried by the built program in a real shell.
 
 Random trees of modulefiles that unloading undoes, random environments in order, and random lists of loads, unloads,
-switches and purges, each list in one process of sh, whose last commands unload what is loaded. After each command the
+switches and purges, each list in one process of a shell, whose last commands unload what is loaded. After each command the
 exported variables of the shell are those that a model makes (`runs.py` has its edits; search, requests and their
 refusals stand here, from the rules in docs/DEFINITIONS.md), standard error and the status too; and after the last one
 `env -0` writes what it wrote at the start, but for the order of its entries.
 
-    python3 -B tests/sentence.py PROGRAM [RUNS [SEED]]
+    python3 -B tests/sentence.py PROGRAM [RUNS [SEED [SHELL]]]
 
-Runs are numbered from SEED on (0); a run that fails is named by its number, so `PROGRAM 1 NUMBER` makes it again.
+Runs are numbered from SEED on (0); a run that fails is named by its number, so `PROGRAM 1 NUMBER` makes it again. SHELL is
+sh, tcsh or fish. In the latter two PATH and LANG stay, since these shells change what they hold, and in tcsh a change
+whose value has a newline is refused.
 """
 
 import os
@@ -22,7 +24,7 @@ import tempfile
 import runs as model
 
 RUNS = 300
-SH = shutil.which("dash") or "/bin/sh"
+SHELLS = {"sh": [shutil.which("dash") or "/bin/sh"], "tcsh": ["tcsh", "-f"], "fish": ["fish", "--no-config"]}
 ENV = shutil.which("env")
 SECONDS = 120
 
@@ -312,17 +314,17 @@ def some_record(rng, name, way, dirs):
     return rng.choice(["prepend-path", "append-path"]), way[1], name, elements(rng, way[1], 1)
 
 
-def some_ways(rng):
+def some_ways(rng, names, words):
     ways = {}
-    for name in ("A", "B", "C", "D", "E_1", "PATH", "LANG"):
-        ways[name] = rng.choice([("fixed", None), ("fixed", rng.choice(WORDS)), ("path", rng.choice(["b", ";", " ", ":"])), ("stack",), ("path", ":")])
+    for name in names:
+        ways[name] = rng.choice([("fixed", None), ("fixed", rng.choice(words)), ("path", rng.choice(["b", ";", " ", ":"])), ("stack",), ("path", ":")])
     ways["MODULEPATH"] = ("path", ":")
     return ways
 
 
-def some_start(rng, ways, dirs):
+def some_start(rng, ways, dirs, words):
     """An environment in order, with modules that were loaded before or without."""
-    env = {"HOME": "/home/x y", "OTHER": rng.choice(WORDS), "__MODULES_ELSE": "x"}
+    env = {"HOME": "/home/x y", "OTHER": rng.choice(words), "__MODULES_ELSE": "x"}
     groups = rng.choice([[], [["g"]], [["a", "q"], ["old"]]])
     olds = [name for name in model.OLD if rng.random() < 0.3]
     entries = [(name, "/o/" + name, rng.choice([[], ["c"], ["m/10", "d"]]), groups) for name in olds]
@@ -334,11 +336,11 @@ def some_start(rng, ways, dirs):
             model.write_path(env, name, way[1], held, {x: rng.choice([1, 1, 2, 3, model.MOST - 1]) for x in held})
         elif way[0] == "stack" and olds and rng.random() < 0.5:
             owners = rng.sample(olds, rng.randint(1, len(olds)))
-            items = [(owner, rng.choice(WORDS)) for owner in owners] + [(None, rng.choice(WORDS))] * rng.randint(0, 1)
+            items = [(owner, rng.choice(words)) for owner in owners] + [(None, rng.choice(words))] * rng.randint(0, 1)
             model.write_stack(env, name, items)
             model.put(env, name, items[0][1])
         elif way[0] == "stack" and rng.random() < 0.5:
-            model.put(env, name, rng.choice(WORDS))
+            model.put(env, name, rng.choice(words))
         elif way[0] == "fixed":
             model.put(env, name, way[1])
     return env
@@ -370,11 +372,17 @@ def is_apart(tree, modules):
 class Run:
     """A tree, a start, and commands with what each has to do."""
 
-    def __init__(self, number, top):
+    def __init__(self, number, top, shell):
         rng = random.Random(number)
-        self.ways = some_ways(rng)
+        self.shell = shell
+        names = ["A", "B", "C", "D", "E_1", *(["PATH", "LANG"] if shell == "sh" else [])]
+        # What a start holds has a text, so that it can be given back.
+        words = [word for word in WORDS if shell != "tcsh" or "\n" not in word]
+        self.ways = some_ways(rng, names, words)
         self.tree = Tree(rng, self.ways, os.path.join(top, "tree"))
-        self.env = self.start = dict(some_start(rng, self.ways, self.tree.dirs), PWD=top)
+        self.env = self.start = dict(some_start(rng, self.ways, self.tree.dirs, words), PWD=top)
+        if shell != "sh":
+            self.start.update(PATH=os.environ["PATH"], LANG="C.UTF-8")
         self.old = {entry[0] for entry in model.loaded_in(self.start)}
         if not model.is_start(self.ways, self.start):
             raise AssertionError(f"run {number} doesn't begin in order")
@@ -415,22 +423,44 @@ class Run:
             return
         if not model.in_order(self.ways, self.env) or not model.stands(self.ways, self.start, live, self.env):
             raise AssertionError(f"the model loses its order at {words}")
+        unsaid = self.unsaid(before)
+        if unsaid:
+            self.env = before
+            self.commands.append((words, before, f"ERROR: Value of '{unsaid}' can't be said in this shell\n", 1))
+            return
         self.commands.append((words, self.env, step.said, 0))
+
+    def unsaid(self, before):
+        """The first variable whose new value the shell has no text for, or none."""
+        changed = [name for name, value in self.env.items() if before.get(name) != value]
+        return min([name for name in changed if "\n" in self.env[name]], default=None) if self.shell == "tcsh" else None
 
 
 # The shell.
 
 
-def quoted(text):
-    return "'" + text.replace("'", "'\\''") + "'"
+def quoted(shell, text):
+    if shell == "fish":
+        return "'" + text.replace("\\", "\\\\").replace("'", "\\'") + "'"
+    text = text.replace("'", "'\\''")
+    return "'" + (text.replace("!", "'\\!'") if shell == "tcsh" else text) + "'"
 
 
-def script(program, commands, top):
+# How a shell runs a command, keeps what it says and its status, and evaluates its text.
+LINES = {
+    "sh": 'text=$({call} 2> {top}/err.{at}); echo $? > {top}/status.{at}; eval "$text"',
+    "tcsh": '( {call} > {top}/text ) >& {top}/err.{at}\necho $status > {top}/status.{at}\neval "`cat {top}/text`"',
+    "fish": "set -l text ({call} 2> {top}/err.{at} | string collect --allow-empty)\necho $pipestatus[1] > {top}/status.{at}\neval $text",
+}
+
+
+def script(shell, program, commands, top):
     """A session: each command's text is evaluated, and behind each stand the exported variables."""
     lines = [f"{ENV} -0 > {top}/env.0"]
     for at, (words, _, _, _) in enumerate(commands, 1):
-        call = " ".join(quoted(one) for one in [program, "sh", *words])
-        lines.append(f"text=$({call} 2> {top}/err.{at}); echo $? > {top}/status.{at}; eval \"$text\"; {ENV} -0 > {top}/env.{at}")
+        call = " ".join(quoted(shell, one) for one in [program, shell, *words])
+        lines.append(LINES[shell].format(call=call, top=top, at=at))
+        lines.append(f"{ENV} -0 > {top}/env.{at}")
     return "\n".join(lines) + "\n"
 
 
@@ -443,8 +473,16 @@ def entries(text):
     return sorted(text.split(b"\0"))
 
 
-def wanted_entries(env):
-    return sorted([b"", *[f"{name}={value}".encode() for name, value in env.items()]])
+def wanted_entries(env, own):
+    return sorted([b"", *own, *[f"{name}={value}".encode() for name, value in env.items()]])
+
+
+def own_entries(run, found):
+    """What a shell of another family sets of its own at its start."""
+    if run.shell == "sh":
+        return []
+    names = {name.encode() for name in run.start}
+    return [entry for entry in found if entry and entry.split(b"=", 1)[0] not in names]
 
 
 def difference(found, wanted):
@@ -455,32 +493,33 @@ def lost(run, program, top):
     """What the program does otherwise than the model, or none."""
     path = os.path.join(top, "session")
     with open(path, "w") as file:
-        file.write(script(program, run.commands, top))
+        file.write(script(run.shell, program, run.commands, top))
     done = subprocess.run(
-        [SH, path], env=run.start, cwd=top, stdin=subprocess.DEVNULL, capture_output=True, timeout=SECONDS, check=False
+        [*SHELLS[run.shell], path], env=run.start, cwd=top, stdin=subprocess.DEVNULL, capture_output=True, timeout=SECONDS, check=False
     )
     if done.stderr or done.returncode != 0:
         return f"the shell ended with status {done.returncode} and said {done.stderr}"
-    if entries(read(top, "env.0")) != wanted_entries(run.start):
-        return f"the shell's start: {difference(entries(read(top, 'env.0')), wanted_entries(run.start))}"
+    own = own_entries(run, entries(read(top, "env.0")))
+    if entries(read(top, "env.0")) != wanted_entries(run.start, own):
+        return f"the shell's start: {difference(entries(read(top, 'env.0')), wanted_entries(run.start, own))}"
     for at, (words, env, said, status) in enumerate(run.commands, 1):
         what = f"command {at}, {words}"
         if read(top, f"status.{at}") != b"%d\n" % status or read(top, f"err.{at}") != said.encode():
             return f"{what}: status {read(top, f'status.{at}')}, said {read(top, f'err.{at}')}, wanted {status}, {said!r}"
-        if entries(read(top, f"env.{at}")) != wanted_entries(env):
-            return f"{what}: {difference(entries(read(top, f'env.{at}')), wanted_entries(env))}"
+        if entries(read(top, f"env.{at}")) != wanted_entries(env, own):
+            return f"{what}: {difference(entries(read(top, f'env.{at}')), wanted_entries(env, own))}"
     if entries(read(top, f"env.{len(run.commands)}")) != entries(read(top, "env.0")):
         return "the last unload doesn't leave the start"
     return None
 
 
-def main(program, count=RUNS, seed=0):
+def main(program, count=RUNS, seed=0, shell="sh"):
     program = os.path.abspath(program)
     failed = refused = accepted = 0
     for number in range(int(seed), int(seed) + int(count)):
         with tempfile.TemporaryDirectory(prefix="sentence-") as top:
             top = os.path.realpath(top)
-            run = Run(number, top)
+            run = Run(number, top, shell)
             run.tree.write()
             found = lost(run, program, top)
             accepted += sum(1 for one in run.commands if one[3] == 0)

@@ -3,8 +3,7 @@
     run.py PROGRAM [WORDS]
 
 lays the product out below two prefixes, once with the program and once with one that stands in for it and prints texts
-typed by hand, and runs every installed shell over both. A shell that the program prints nothing for yet runs over the
-second alone. With WORDS only the cases run whose names hold them.
+typed by hand, and runs every installed shell over both. With WORDS only the cases run whose names hold them.
 """
 
 import os
@@ -45,18 +44,6 @@ def install(prefix):
         sys.exit(f"make install ended with status {done.returncode}:\n{done.stderr.decode(errors='replace')}")
 
 
-def prints_for(prefixes, init):
-    """Whether the program knows the shell."""
-    done = subprocess.run(
-        [os.path.join(prefixes.program, "bin", "modulecmd"), init, "unload", "nothing"],
-        env={},
-        stdin=subprocess.DEVNULL,
-        capture_output=True,
-        check=False,
-    )
-    return done.returncode == 0
-
-
 def version(shell):
     done = subprocess.run(shell.version, stdin=subprocess.DEVNULL, capture_output=True, check=False)
     return done.stdout.decode(errors="replace").split("\n")[0].strip()
@@ -74,10 +61,7 @@ def main():
                 continue
             if shell.is_there():
                 print(f"{shell.title}: {version(shell)}")
-            if prints_for(prefixes, shell.init):
-                sessions.add(shell, prefixes, True)
-            else:
-                print(f"{shell.title}: only by hand-typed texts, since the program prints none for {shell.init}")
+            sessions.add(shell, prefixes, True)
             sessions.add(shell, prefixes, False)
             ways.add(shell, prefixes)
             terminal.add(shell, prefixes)
