@@ -558,6 +558,86 @@ def an_unset_with_another_value(folder):
     s.makes("unload lg", LANG="C")
 
 
+# Search.
+
+
+@case
+def a_folder_without_candidates_is_passed_over(folder):
+    s = Session(folder, modulepath="/m:/n")
+    os.makedirs(real(folder, "/m/ver"))
+    s.makes("load ver", V="1.10-rc", LOADEDMODULES="ver/1.10-rc", _LMFILES_="/n/ver/1.10-rc")
+
+
+def loads_version(version):
+    return (
+        f"LOADEDMODULES='ver/{version}'; export LOADEDMODULES;\nV='{version}'; export V;\n"
+        f"_LMFILES_='/n/ver/{version}'; export _LMFILES_;\n"
+    )
+
+
+@case
+def the_two_default_files(folder):
+    s = Session(folder, modulepath="/n")
+    write(folder, "/n/ver/.version", "set ModulesVersion 1.9\n")
+    write(folder, "/n/ver/.modulerc", "module-version ver/1.10 default\n")
+    s.prints("load ver", loads_version("1.10"))
+    write(folder, "/n/ver/.modulerc", "module-version ver/7 default\n")
+    s.prints("load ver", loads_version("1.9"))
+    os.remove(real(folder, "/n/ver/.modulerc"))
+    write(folder, "/n/ver/.version", "error x\n")
+    s.refuses("load ver", "Bad default file '/n/ver/.version'")
+    for text in ("module-alias v ver/1.9\n", "catch {module-alias v ver/1.9}\n"):
+        write(folder, "/n/ver/.modulerc", text)
+        s.refuses("load ver", "Bad default file '/n/ver/.modulerc'")
+
+
+# Hostile files and variables.
+
+
+@case
+def files_that_nest_or_grow_without_end(folder):
+    for text, fault in (
+        ("[" * 100, "Missing close-bracket at byte 108"),
+        ("[" * 201 + "]" * 201, "Text is nested too deeply"),
+        ("setenv A [expr {" + "-" * 201 + "1}]\n", "Text is nested too deeply"),
+        ("set s xx\nwhile 1 {append s $s}\n", "A value is too long"),
+        ("catch {while 1 {}}\n", "Too many commands"),
+        (" " * (1_048_577 - len("#%Module\n")), "Text is too long"),
+    ):
+        Session(folder, files={"/m/e/1": text}).refuses("load e", fault)
+    s = Session(folder, files={"/m/e/1": "setenv A [expr {" + "-" * 200 + "1}]\n"})
+    s.makes("load e", A="1")
+
+
+@case
+def counters_that_count_nothing(folder):
+    s = Session(folder, P="/a", __MODULES_SHARE_P="::::")
+    s.makes("load c", P="/c:/a", __MODULES_SHARE_P=None)
+    s = Session(
+        folder,
+        files={"/m/e/1": "append-path P /a\n"},
+        P="/a",
+        __MODULES_SHARE_P="/a:4294967296",
+        LOADEDMODULES="e/1",
+        _LMFILES_="/m/e/1",
+    )
+    s.makes("unload e", P=None, __MODULES_SHARE_P=None)
+
+
+@case
+def texts_that_are_no_stack(folder):
+    for text in ("", "x", "&cc:a/1&x", "b/1&x:b/1&y"):
+        Session(folder, CC="cc", __MODULES_PUSHENV_CC=text).refuses("load a", "Bad stack of 'CC'")
+    s = Session(folder, CC="x", __MODULES_PUSHENV_CC="b/1&\\q:&x\\")
+    s.makes("load a", CC="gcc", __MODULES_PUSHENV_CC="a/1&gcc:b/1&\\\\q:&x\\\\")
+
+
+@case
+def lists_that_are_inconsistent(folder):
+    for names, paths in (("a/1::b/1", "/1:/2:/3"), ("a/1:a/1", "/1:/2")):
+        Session(folder, LOADEDMODULES=names, _LMFILES_=paths).refuses("list", "Loaded modules are inconsistent")
+
+
 def main():
     if len(sys.argv) != 2:
         sys.exit(f"{sys.argv[0]} PROGRAM")
