@@ -23,37 +23,85 @@ use Rattle.tclvalue.specs.Faults.{Answer, Reason, HasReason, reason_of, value_to
 use Rattle.tclvalue.specs.Limits.{limited}
 use Rattle.tcloperators.specs.declared.fault.ValueFault.{ValueFault}
 use Rattle.tcloperators.specs.declared.fault.ValueFault.TheVariants as faults
-use Rattle.tclrules.specs.Rules.{parsed, core_command, body, branches, are_done, foreach_turns, assign, turn_pairs, turn, shortened}
+use Rattle.tclrules.specs.Rules.{parsed, core_command, body, branches, are_done, foreach_turns, assign, turn_pairs, turn, shortened, after_turn, after_next}
 use Rattle.tclrules.specs.Expressions.{decide}
 use Rattle.tclrules.specs.Forms.{Form}
 use Rattle.tclforms.specs.Views.{turned, pair_texts}
-use Rattle.tclsteps.proofs.Leading.{sized_stops}
+use Rattle.tclsteps.proofs.Leading.{sized_on, sized_stops}
 use Rattle.tclsteps.specs.Stops.{after, stopped, stop_of, text_stop}
 use Rattle.tclsteps.specs.declared.stop.Stop.{Stop}
 use Rattle.tclsteps.specs.declared.stop.Stop.TheVariants as stops
-use Rattle.tcleval.specs.Runs.{finish, ran}
+use Rattle.tcleval.specs.Runs.{Comes, finish, sized_next, ran}
 use Rattle.tclkept.specs.Trees.{Begins}
 use Rattle.tclkept.specs.Kept.{Kept, BeginWith}
 use Rattle.tcleval.specs.Later.{Later}
 use Rattle.tcleval.specs.declared.evaluator.Evaluator.{Evaluator}
 
--- a script that was evaluated, in what goes on with how it ended
-pub run_after : {most : ℕ} {r : Job → Step} {j : Job} {x y : Point} (k : Ending → Step) (s : State) (res : Result (String Global) Stop) → Leads most r (r j) x (after res finish s) y → Leads most r (Runs j k) x (ran res k s) y
-run_after k s (Ok t) l = run_on l
-run_after k s (Err (stops.Raised m)) l = run_on l
-run_after k s (Err (stops.Returned t)) l = run_on l
-run_after k s (Err stops.Broken) l = run_on l
-run_after k s (Err stops.Continued) l = run_on l
-run_after k s (Err (stops.Halted h)) l = run_halts l
+-- a file that was evaluated, in what goes on with how it ended
+pub run_after : {most : ℕ} {r : Job → Step} {j : Job} {x y : Point} (k : Ending → Step) (s : State) (res : Result (String Global) Stop) → Leads most r (r j) x (after res (λ v s'. finish (string_bytes v) s') s) y → Leads most r (Runs j k) x (ran res k s) y
+run_after k s (Ok v) h = run_on h
+run_after k s (Err (stops.Raised m)) h = run_on h
+run_after k s (Err (stops.Returned u)) h = run_on h
+run_after k s (Err stops.Broken) h = run_on h
+run_after k s (Err stops.Continued) h = run_on h
+run_after k s (Err (stops.Halted f)) h = run_halts h
 
--- and in what goes on with its result alone
-pub run_normal : {most : ℕ} {r : Job → Step} {j : Job} {x y : Point} (k : Next) (s : State) (res : Result (String Global) Stop) → Leads most r (r j) x (after res finish s) y → Leads most r (Runs j (on_normal k)) x (after res (λ t s'. k (string_bytes t) s') s) y
-run_normal k s (Ok t) l = run_on l
-run_normal k s (Err (stops.Raised m)) l = run_on l
-run_normal k s (Err (stops.Returned t)) l = run_on l
-run_normal k s (Err stops.Broken) l = run_on l
-run_normal k s (Err stops.Continued) l = run_on l
-run_normal k s (Err (stops.Halted h)) l = run_halts l
+-- a script whose result is wanted, in what goes on with how it ended, and with its result alone
+pub run_known : {most : ℕ} {r : Job → Step} {j : Job} {x y : Point} (k : Ending → Step) (s : State) (limit : ℕ) (res : Result (String Global) Stop) → Comes true limit res (λ u. Leads most r (r j) x (after res (λ v s'. finish u s') s) y) → Leads most r (Runs j k) x (ran res k s) y
+run_known k s limit (Ok v) h = rw (h.1.1 refl) (run_on h.2)
+run_known k s limit (Err (stops.Raised m)) h = run_on h.2
+run_known k s limit (Err (stops.Returned u)) h = run_on h.2
+run_known k s limit (Err stops.Broken) h = run_on h.2
+run_known k s limit (Err stops.Continued) h = run_on h.2
+run_known k s limit (Err (stops.Halted f)) h = run_halts h.2
+
+pub run_normal : {most : ℕ} {r : Job → Step} {j : Job} {x y : Point} (k : Next) (s : State) (limit : ℕ) (res : Result (String Global) Stop) → Comes true limit res (λ u. Leads most r (r j) x (after res (λ v s'. finish u s') s) y) → Leads most r (Runs j (on_normal k)) x (after res (λ v s'. k (string_bytes v) s') s) y
+run_normal k s limit (Ok v) h = rw (h.1.1 refl) (run_on h.2)
+run_normal k s limit (Err (stops.Raised m)) h = run_on h.2
+run_normal k s limit (Err (stops.Returned u)) h = run_on h.2
+run_normal k s limit (Err stops.Broken) h = run_on h.2
+run_normal k s limit (Err stops.Continued) h = run_on h.2
+run_normal k s limit (Err (stops.Halted f)) h = run_halts h.2
+
+-- a script whose result is that of a command
+pub run_comes : {most : ℕ} {r : Job → Step} {j : Job} {x y : Point} (wanted : Bool) (limit : ℕ) (s : State) (res : Result (String Global) Stop) → Comes wanted limit res (λ u. Leads most r (r j) x (after res (λ v s'. finish u s') s) y) → Comes wanted limit res (λ u. (k : Next) → Leads most r (Runs j (on_normal (sized_next limit k))) x (after res (λ v s'. k u s') s) y)
+run_comes wanted limit s (Ok v) h = (h.0, h.1, λ k. go_on (run_on h.2) (sized_on limit h.0 _ h.1.0))
+run_comes wanted limit s (Err (stops.Raised m)) h = (h.0, h.1, λ k. run_on h.2)
+run_comes wanted limit s (Err (stops.Returned u)) h = (h.0, h.1, λ k. run_on h.2)
+run_comes wanted limit s (Err stops.Broken) h = (h.0, h.1, λ k. run_on h.2)
+run_comes wanted limit s (Err stops.Continued) h = (h.0, h.1, λ k. run_on h.2)
+run_comes wanted limit s (Err (stops.Halted f)) h = (h.0, h.1, λ k. run_halts h.2)
+
+-- a script whose result nobody looks at: a turn of a loop, and what stands between turns
+pub run_turn : {most : ℕ} {r : Job → Step} {j : Job} {x y : Point} (again : State → Step) (s : State) (limit : ℕ) (res : Result (String Global) Stop) → Comes false limit res (λ u. Leads most r (r j) x (after res (λ v s'. finish u s') s) y) → Leads most r (Runs j (after_turn again)) x (ran res (after_turn again) s) y
+run_turn again s limit (Ok v) h = run_on h.2
+run_turn again s limit (Err (stops.Raised m)) h = run_on h.2
+run_turn again s limit (Err (stops.Returned u)) h = run_on h.2
+run_turn again s limit (Err stops.Broken) h = run_on h.2
+run_turn again s limit (Err stops.Continued) h = run_on h.2
+run_turn again s limit (Err (stops.Halted f)) h = run_halts h.2
+
+pub run_next : {most : ℕ} {r : Job → Step} {j : Job} {x y : Point} (again : State → Step) (s : State) (limit : ℕ) (res : Result (String Global) Stop) → Comes false limit res (λ u. Leads most r (r j) x (after res (λ v s'. finish u s') s) y) → Leads most r (Runs j (after_next again)) x (ran res (after_next again) s) y
+run_next again s limit (Ok v) h = run_on h.2
+run_next again s limit (Err (stops.Raised m)) h = run_on h.2
+run_next again s limit (Err (stops.Returned u)) h = run_on h.2
+run_next again s limit (Err stops.Broken) h = run_on h.2
+run_next again s limit (Err stops.Continued) h = run_on h.2
+run_next again s limit (Err (stops.Halted f)) h = run_halts h.2
+
+-- a command that stops, and a script
+pub comes_stopped : {most : ℕ} {r : Job → Step} {p : Next → Step} {x y : Point} (wanted : Bool) (limit : ℕ) (s : State) (e : Stop) (res : Result (String Global) Stop) → IsErrAnd res (λ f. f ≡ e) → ((k : Next) → Leads most r (p k) x (stopped e s) y) → Comes wanted limit res (λ u. (k : Next) → Leads most r (p k) x (after res (λ v s'. k u s') s) y)
+comes_stopped wanted limit s e (Ok v) h l = absurd h
+comes_stopped wanted limit s e (Err f) h l = ([], tt, λ k. rw h (l k))
+
+pub comes_cut : {most : ℕ} {r : Job → Step} {p : Step} {x y : Point} (wanted : Bool) (limit : ℕ) (s : State) (e : Stop) (res : Result (String Global) Stop) → IsErrAnd res (λ f. f ≡ e) → Leads most r p x (stopped e s) y → Comes wanted limit res (λ u. Leads most r p x (after res (λ v s'. finish u s') s) y)
+comes_cut wanted limit s e (Ok v) h l = absurd h
+comes_cut wanted limit s e (Err f) h l = ([], tt, rw h l)
+
+-- a result within the limit
+pub sized_comes : (wanted : Bool) (limit : ℕ) (s : State) (p : Next → Step) (res : Result (String Global) Stop) → IfOk res (λ v. length (string_bytes v) ≤ limit) → ((most : ℕ) (r : Job → Step) (k : Next) (x : Point) → Leads most r (p k) x (after res (λ v s'. k (string_bytes v) s') s) x) → Comes wanted limit res (λ u. (most : ℕ) (r : Job → Step) (k : Next) (x : Point) → Leads most r (p k) x (after res (λ v s'. k u s') s) x)
+sized_comes wanted limit s p (Ok v) h l = (string_bytes v, (h, λ e. refl), l)
+sized_comes wanted limit s p (Err f) h l = ([], tt, l)
 
 -- a script that may begin, and one that is too deep
 pub begin_on : {most : ℕ} {r : Job → Step} {x : Point} (left : ℕ) (p : Step) → (left ≡ 0 → ⊥) → Leads most r (begin left p) x p x

@@ -1,5 +1,5 @@
 -- What is left of a plan after a script.
-use Rattle.std.specs.Prelude.{◌≡◌, [], Bool, true, false, Result, Ok, Err, string_bytes, String}
+use Rattle.std.specs.Prelude.{◌≡◌, ℕ, ◌≤◌, length, [], Bool, true, false, Result, Ok, Err, string_bytes, String}
 use Rattle.std.specs.declared.alloc.Global.{Global}
 use Rattle.tclchars.specs.Runs.{Text}
 use Rattle.tclchars.specs.declared.fault.TextFault.{TextFault}
@@ -9,15 +9,28 @@ use Rattle.tcloperators.specs.declared.fault.ValueFault.TheVariants as faults
 use Rattle.tclvalue.specs.Faults.{HasReason}
 use Rattle.tclrules.specs.Expressions.{fault_of}
 use Rattle.tclrules.specs.Variables.{State}
-use Rattle.tclrules.specs.Plans.{Ending, Normal, Raised, Returned, Broken, Continued, Bounds, Step, ended, halt}
+use Rattle.tclrules.specs.Plans.{Ending, Normal, Raised, Returned, Broken, Continued, Bounds, Next, Step, ended, halt, sized}
 use Rattle.tclrules.specs.Rules.{turn}
 use Rattle.tclsteps.specs.Stops.{halt_of}
 use Rattle.tclsteps.specs.declared.stop.Stop.{Stop}
 use Rattle.tclsteps.specs.declared.stop.Stop.TheVariants as stops
 
 -- a script that ended with its result
-abbrev pub finish : String Global → State → Step
-finish t s = ended (Normal (string_bytes t) s)
+abbrev pub finish : Text → State → Step
+finish t s = ended (Normal t s)
+
+-- what goes on with a result goes on with one within the limit
+abbrev pub sized_next : ℕ → Next → Next
+sized_next limit k t s = sized limit t (k t s)
+
+-- the text of a result is within the limit, and is there where it is wanted
+abbrev pub IsText : Bool → ℕ → Text → Result (String Global) Stop → Type 0
+IsText wanted limit t (Ok v) = (length t ≤ limit) × (wanted ≡ true → string_bytes v ≡ t)
+IsText wanted limit t (Err f) = Unit {0}
+
+-- it comes to a result with a text of which this holds
+abbrev pub Comes : Bool → ℕ → Result (String Global) Stop → (Text → Type 0) → Type 0
+Comes wanted limit result p = (t : Text) × IsText wanted limit t result × p t
 
 -- what is left of a plan that goes on with how a script ended
 abbrev pub ran : Result (String Global) Stop → (Ending → Step) → State → Step

@@ -2,7 +2,7 @@
 ghost use Rattle.std.specs.Prelude.{◌≡◌, ◌<◌, ◌∷◌, [], Bool, true, List, map, option_map, IfOk, string_bytes};
 ghost use Rattle.tclchars.specs.Runs.{Text};
 ghost use Rattle.tclscript.specs.Tree.{commands_of, words_of};
-ghost use Rattle.tclscript.specs.View.{script_view, command_view, word_view};
+ghost use Rattle.tclscript.specs.View.{script_view, command_view, word_view, parts_view};
 ghost use Rattle.tclrules.specs.Derivation.{Counts, Runs};
 ghost use Rattle.tclrules.specs.Leads.{Leads, point};
 ghost use Rattle.tclrules.specs.Variables.{State, lookup};
@@ -17,20 +17,20 @@ ghost use Rattle.tclrules.specs.Forms as forms;
 ghost use Rattle.tclforms.specs.Views.{form_view, pair_texts};
 ghost use Rattle.tclsteps.specs.Machine.{shown, bounds, control_plan};
 ghost use Rattle.tclsteps.specs.Stops.{after};
-ghost use Rattle.tcleval.specs.Runs.{finish, turned, guarded};
+ghost use Rattle.tcleval.specs.Runs.{Comes, finish, sized_next, turned, guarded};
 ghost use Rattle.tcleval.specs.Later.{Later};
 
 use crate::endings::{after_call, after_catch, after_next, after_turn};
-use crate::evaluator::{Evaluator, sized};
+use crate::evaluator::{Evaluator, sized, within};
 use crate::plain::{plain, unknown};
 use crate::trees::{express_tree, normal};
 use crate::turns::begin_turn;
-use crate::words::push_words;
+use crate::words::{literal, push_words};
 use tclarguments::{Loops, allotted, chosen};
 use tclcommands::assign;
 use tclforms::{Form, core_form};
 use tclrules::{Host, Limits};
-use tclscript::{ByteRange, Command, Script, Word};
+use tclscript::{ByteRange, Command, Part, Script, Word};
 use tclsteps::{Context, Control, Halt, Step, Stop, advance};
 use tclvalue::{concatenated, truth, value_command};
 use tclvariables::Procedure;
@@ -45,19 +45,27 @@ impl Evaluator {
         limits: Limits,
         left: u32,
         text: &str,
+        wanted: bool,
     ) -> Result<String, Stop>
-        ensures comes { Leads limits.commands (rule limits.value_bytes)
+        ensures comes { Comes wanted limits.value_bytes result (λ t. Leads limits.commands (rule limits.value_bytes)
             (rule limits.value_bytes (plans.Script left text.now self.old.variables))
             (point (H.oracle host.old) (H.told host.old) self.old.used)
-            (after result finish self.new.variables)
-            (point (H.oracle host.new) (H.told host.new) self.new.used) }
+            (after result (λ _ s. finish t s) self.new.variables)
+            (point (H.oracle host.new) (H.told host.new) self.new.used)) }
         ensures later { Later self.old self.new }
     {
         if left == 0 {
             return Err(Stop::Halted(Halt::TooDeep));
         }
         match self.kept.script_tree(text) {
-            Ok(tree) => self.commands(host, limits, left - 1, tree.text.as_str(), &tree.script),
+            Ok(tree) => self.commands(
+                host,
+                limits,
+                left - 1,
+                tree.text.as_str(),
+                &tree.script,
+                wanted,
+            ),
             Err(fault) => Err(Stop::of_text(fault)),
         }
     }
@@ -83,7 +91,7 @@ impl Evaluator {
         if left == 0 {
             return Err(Stop::Halted(Halt::TooDeep));
         }
-        self.commands(host, limits, left - 1, source, script)
+        self.commands(host, limits, left - 1, source, script, true)
     }
 
     /// The commands of a script, one after the other.
@@ -96,17 +104,19 @@ impl Evaluator {
         left: u32,
         source: &str,
         script: &Script<ByteRange>,
+        wanted: bool,
     ) -> Result<String, Stop>
-        ensures comes { Leads limits.commands (rule limits.value_bytes)
-            (rules.commands (bounds limits.value_bytes left) (script_view (shown source.now) script.now) [] self.old.variables)
+        ensures comes { Comes wanted limits.value_bytes result (λ t. Leads limits.commands (rule limits.value_bytes)
+            (rules.commands (bounds limits.value_bytes left) (script_view (shown source.now) script.now) []
+            self.old.variables)
             (point (H.oracle host.old) (H.told host.old) self.old.used)
-            (after result finish self.new.variables)
-            (point (H.oracle host.new) (H.told host.new) self.new.used) }
+            (after result (λ _ s. finish t s) self.new.variables)
+            (point (H.oracle host.new) (H.told host.new) self.new.used)) }
         ensures later { Later self.old self.new }
     {
         let mut last = String::new(self.alloc);
         for command in &script.commands {
-            last = self.command(host, limits, left, source, command)?;
+            last = self.command(host, limits, left, source, command, wanted)?;
         }
         Ok(last)
     }
@@ -121,20 +131,22 @@ impl Evaluator {
         left: u32,
         source: &str,
         command: &Command<ByteRange>,
+        wanted: bool,
     ) -> Result<String, Stop>
-        ensures comes { (k : Next) → Leads limits.commands (rule limits.value_bytes)
-            (Counts (pieces.words (bounds limits.value_bytes left) (command_view (shown source.now) command.now).words []
+        ensures comes { Comes wanted limits.value_bytes result (λ t. (k : Next)
+            → Leads limits.commands (rule limits.value_bytes)
+            (Counts (pieces.words (bounds limits.value_bytes left) (command_view (shown source.now)
+            command.now).words []
             self.old.variables (λ texts s1. called (bounds limits.value_bytes left) texts s1
             (λ u s2. sized limits.value_bytes u (k u s2)))))
             (point (H.oracle host.old) (H.told host.old) self.old.used)
-            (after result (λ t s. k (string_bytes t) s) self.new.variables)
-            (point (H.oracle host.new) (H.told host.new) self.new.used) }
+            (after result (λ _ s. k t s) self.new.variables)
+            (point (H.oracle host.new) (H.told host.new) self.new.used)) }
         ensures later { Later self.old self.new }
     {
         self.count(limits)?;
         let texts = self.words(host, limits, left, source, &command.words)?;
-        let value = self.called(host, limits, left, &texts)?;
-        sized(limits, value)
+        self.called(host, limits, left, &texts, wanted)
     }
 
     /// The words of a command, with their values.
@@ -158,11 +170,37 @@ impl Evaluator {
     {
         let mut texts = Vec::new(self.alloc);
         for word in words {
-            let start = Control::Parts(String::new(self.alloc), word.parts.as_slice());
-            let text = self.value(host, limits, left, source, start)?;
+            let text = self.word(host, limits, left, source, word.parts.as_slice())?;
             push_words(self.alloc, &mut texts, word.expands, text)?;
         }
         Ok(texts)
+    }
+
+    /// The value of a word, which is copied at once where it is one literal part.
+    #[cycle(evaluate)]
+    #[tactic(none)]
+    fn word<H: Host>(
+        &mut self,
+        host: &mut H,
+        limits: Limits,
+        left: u32,
+        source: &str,
+        parts: &[Part<ByteRange>],
+    ) -> Result<String, Stop>
+        ensures comes { (k : Next) → Leads limits.commands (rule limits.value_bytes)
+            (pieces.parts (bounds limits.value_bytes left) (parts_view (shown source.now) parts.now) []
+            self.old.variables k)
+            (point (H.oracle host.old) (H.told host.old) self.old.used)
+            (after result (λ t s. k (string_bytes t) s) self.new.variables)
+            (point (H.oracle host.new) (H.told host.new) self.new.used) }
+        ensures later { Later self.old self.new }
+    {
+        if let Some(range) = literal(parts) {
+            let text = String::from_str(self.alloc, range.of(source))?;
+            return sized(limits, text);
+        }
+        let start = Control::Parts(String::new(self.alloc), parts);
+        self.value(host, limits, left, source, start)
     }
 
     /// The value of a word or of an expression.
@@ -267,7 +305,7 @@ impl Evaluator {
         ensures counted { IfOk result (λ more. (self.old.used < limits.commands) × (self.old.used < self.new.used)) }
     {
         self.count(limits)?;
-        after_turn(self.script(host, limits, left, body))
+        after_turn(self.script(host, limits, left, body, false))
     }
 
     /// A condition and, where it holds, a turn of a loop: whether the loop goes on.
@@ -336,13 +374,14 @@ impl Evaluator {
         body: &str,
     ) -> Result<String, Stop>
         ensures comes { (k : Next) → Leads limits.commands (rule limits.value_bytes)
-            (rules.form (bounds limits.value_bytes left) (forms.For start.now condition.now next.now body.now) self.old.variables k)
+            (rules.form (bounds limits.value_bytes left) (forms.For start.now condition.now next.now body.now)
+            self.old.variables k)
             (point (H.oracle host.old) (H.told host.old) self.old.used)
             (after result (λ t s. k (string_bytes t) s) self.new.variables)
             (point (H.oracle host.new) (H.told host.new) self.new.used) }
         ensures later { Later self.old self.new }
     {
-        let _ = self.script(host, limits, left, start)?;
+        let _ = self.script(host, limits, left, start, false)?;
         self.for_turns(host, limits, left, condition, next, body)
     }
 
@@ -369,7 +408,7 @@ impl Evaluator {
             if !self.guarded_turn(host, limits, left, condition, body)? {
                 return Ok(String::new(self.alloc));
             }
-            if !after_next(self.script(host, limits, left, next))? {
+            if !after_next(self.script(host, limits, left, next, false))? {
                 return Ok(String::new(self.alloc));
             }
         }
@@ -384,17 +423,20 @@ impl Evaluator {
         limits: Limits,
         left: u32,
         body: Option<&str>,
+        wanted: bool,
     ) -> Result<String, Stop>
-        ensures comes { (k : Next) → Leads limits.commands (rule limits.value_bytes)
-            (rules.otherwise (bounds limits.value_bytes left) (option_map (λ t. t.now) body.entry) self.old.variables k)
+        ensures comes { Comes wanted limits.value_bytes result (λ t. (k : Next)
+            → Leads limits.commands (rule limits.value_bytes)
+            (rules.otherwise (bounds limits.value_bytes left) (option_map (λ t. t.now) body.entry) self.old.variables
+            (sized_next limits.value_bytes k))
             (point (H.oracle host.old) (H.told host.old) self.old.used)
-            (after result (λ t s. k (string_bytes t) s) self.new.variables)
-            (point (H.oracle host.new) (H.told host.new) self.new.used) }
+            (after result (λ _ s. k t s) self.new.variables)
+            (point (H.oracle host.new) (H.told host.new) self.new.used)) }
         ensures later { Later self.old self.new }
     {
         match body {
             None => Ok(String::new(self.alloc)),
-            Some(body) => self.script(host, limits, left, body),
+            Some(body) => self.script(host, limits, left, body, wanted),
         }
     }
 
@@ -408,21 +450,24 @@ impl Evaluator {
         left: u32,
         branches: &[(&str, &str)],
         other: Option<&str>,
+        wanted: bool,
     ) -> Result<String, Stop>
-        ensures comes { (k : Next) → Leads limits.commands (rule limits.value_bytes)
-            (rules.branches (bounds limits.value_bytes left) (pair_texts branches.now) (option_map (λ t. t.now) other.entry)
-            self.old.variables k)
+        ensures comes { Comes wanted limits.value_bytes result (λ t. (k : Next)
+            → Leads limits.commands (rule limits.value_bytes)
+            (rules.branches (bounds limits.value_bytes left) (pair_texts branches.now) (option_map (λ t. t.now)
+            other.entry)
+            self.old.variables (sized_next limits.value_bytes k))
             (point (H.oracle host.old) (H.told host.old) self.old.used)
-            (after result (λ t s. k (string_bytes t) s) self.new.variables)
-            (point (H.oracle host.new) (H.told host.new) self.new.used) }
+            (after result (λ _ s. k t s) self.new.variables)
+            (point (H.oracle host.new) (H.told host.new) self.new.used)) }
         ensures later { Later self.old self.new }
     {
         for (condition, body) in branches {
             if self.decide(host, limits, left, condition)? {
-                return self.script(host, limits, left, body);
+                return self.script(host, limits, left, body, wanted);
             }
         }
-        self.otherwise(host, limits, left, other)
+        self.otherwise(host, limits, left, other, wanted)
     }
 
     /// catch(n)
@@ -444,7 +489,7 @@ impl Evaluator {
             (point (H.oracle host.new) (H.told host.new) self.new.used) }
         ensures later { Later self.old self.new }
     {
-        let outcome = self.script(host, limits, left, body);
+        let outcome = self.script(host, limits, left, body, true);
         after_catch(self.alloc, &mut self.variables, limits, name, outcome)
     }
 
@@ -457,33 +502,49 @@ impl Evaluator {
         limits: Limits,
         left: u32,
         form: Form<'_>,
+        wanted: bool,
     ) -> Result<String, Stop>
-        ensures comes { (k : Next) → Leads limits.commands (rule limits.value_bytes)
-            (rules.form (bounds limits.value_bytes left) (form_view form.entry) self.old.variables k)
+        ensures comes { Comes wanted limits.value_bytes result (λ t. (k : Next)
+            → Leads limits.commands (rule limits.value_bytes)
+            (rules.form (bounds limits.value_bytes left) (form_view form.entry) self.old.variables (sized_next
+            limits.value_bytes k))
             (point (H.oracle host.old) (H.told host.old) self.old.used)
-            (after result (λ t s. k (string_bytes t) s) self.new.variables)
-            (point (H.oracle host.new) (H.told host.new) self.new.used) }
+            (after result (λ _ s. k t s) self.new.variables)
+            (point (H.oracle host.new) (H.told host.new) self.new.used)) }
         ensures later { Later self.old self.new }
     {
         match form {
             Form::Express(texts) => {
                 let text = concatenated(self.alloc, texts, limits.value_bytes)?;
-                self.express(host, limits, left, text.as_str())
+                within(limits, self.express(host, limits, left, text.as_str()))
             }
             Form::If(branches, other) => {
-                self.branches(host, limits, left, branches.as_slice(), other)
+                self.branches(host, limits, left, branches.as_slice(), other, wanted)
             }
-            Form::While(condition, body) => self.while_turns(host, limits, left, condition, body),
+            Form::While(condition, body) => {
+                within(
+                    limits,
+                    self.while_turns(host, limits, left, condition, body),
+                )
+            }
             Form::For(start, condition, next, body) => {
-                self.for_loop(host, limits, left, start, condition, next, body)
+                let outcome = self.for_loop(host, limits, left, start, condition, next, body);
+                within(limits, outcome)
             }
-            Form::Foreach(lists, body) => self.foreach(host, limits, left, lists.as_slice(), body),
+            Form::Foreach(lists, body) => {
+                within(
+                    limits,
+                    self.foreach(host, limits, left, lists.as_slice(), body),
+                )
+            }
             Form::Switch(by_glob, text, patterns) => {
                 let body = chosen(by_glob, text, patterns.as_slice());
-                self.otherwise(host, limits, left, body)
+                self.otherwise(host, limits, left, body, wanted)
             }
-            Form::Catch(body, name) => self.catch(host, limits, left, body, name),
-            form => plain(self.alloc, &mut self.variables, host, limits, form),
+            Form::Catch(body, name) => {
+                within(limits, self.catch(host, limits, left, body, name))
+            }
+            form => plain(self.alloc, &mut self.variables, host, limits, wanted, form),
         }
     }
 
@@ -496,20 +557,23 @@ impl Evaluator {
         limits: Limits,
         left: u32,
         words: &[String],
+        wanted: bool,
     ) -> Result<String, Stop>
-        ensures comes { (k : Next) → Leads limits.commands (rule limits.value_bytes)
-            (called (bounds limits.value_bytes left) (map string_bytes words.now) self.old.variables k)
+        ensures comes { Comes wanted limits.value_bytes result (λ t. (k : Next)
+            → Leads limits.commands (rule limits.value_bytes)
+            (called (bounds limits.value_bytes left) (map string_bytes words.now) self.old.variables (sized_next
+            limits.value_bytes k))
             (point (H.oracle host.old) (H.told host.old) self.old.used)
-            (after result (λ t s. k (string_bytes t) s) self.new.variables)
-            (point (H.oracle host.new) (H.told host.new) self.new.used) }
+            (after result (λ _ s. k t s) self.new.variables)
+            (point (H.oracle host.new) (H.told host.new) self.new.used)) }
         ensures later { Later self.old self.new }
     {
         let Some((name, operands)) = words.split_first() else {
             return Ok(String::new(self.alloc));
         };
         match value_command(self.alloc, words, limits.value_bytes)? {
-            Some(value) => Ok(value),
-            None => self.core_command(host, limits, left, name.as_str(), operands, words),
+            Some(value) => within(limits, Ok(value)),
+            None => self.core_command(host, limits, left, name.as_str(), operands, words, wanted),
         }
     }
 
@@ -524,19 +588,22 @@ impl Evaluator {
         name: &str,
         operands: &[String],
         words: &[String],
+        wanted: bool,
     ) -> Result<String, Stop>
         requires { map string_bytes words.now ≡ name.now ∷ map string_bytes operands.now }
-        ensures comes { (k : Next) → Leads limits.commands (rule limits.value_bytes)
-            (rules.core_command (bounds limits.value_bytes left) name.now (map string_bytes operands.now) self.old.variables k
+        ensures comes { Comes wanted limits.value_bytes result (λ t. (k : Next)
+            → Leads limits.commands (rule limits.value_bytes)
+            (rules.core_command (bounds limits.value_bytes left) name.now (map string_bytes operands.now)
+            self.old.variables (sized_next limits.value_bytes k)
             (forms.core_form name.now (map string_bytes operands.now)))
             (point (H.oracle host.old) (H.told host.old) self.old.used)
-            (after result (λ t s. k (string_bytes t) s) self.new.variables)
-            (point (H.oracle host.new) (H.told host.new) self.new.used) }
+            (after result (λ _ s. k t s) self.new.variables)
+            (point (H.oracle host.new) (H.told host.new) self.new.used)) }
         ensures later { Later self.old self.new }
     {
         match core_form(self.alloc, name, operands)? {
-            Some(form) => self.form(host, limits, left, form),
-            None => self.other_command(host, limits, left, name, operands, words),
+            Some(form) => self.form(host, limits, left, form, wanted),
+            None => self.other_command(host, limits, left, name, operands, words, wanted),
         }
     }
 
@@ -551,22 +618,37 @@ impl Evaluator {
         name: &str,
         operands: &[String],
         words: &[String],
+        wanted: bool,
     ) -> Result<String, Stop>
         requires { map string_bytes words.now ≡ name.now ∷ map string_bytes operands.now }
-        ensures comes { (k : Next) → Leads limits.commands (rule limits.value_bytes)
-            (rules.other_command (bounds limits.value_bytes left) name.now (map string_bytes operands.now) self.old.variables k
+        ensures comes { Comes wanted limits.value_bytes result (λ t. (k : Next)
+            → Leads limits.commands (rule limits.value_bytes)
+            (rules.other_command (bounds limits.value_bytes left) name.now (map string_bytes operands.now)
+            self.old.variables (sized_next limits.value_bytes k)
             (lookup self.old.variables.procedures name.now))
             (point (H.oracle host.old) (H.told host.old) self.old.used)
-            (after result (λ t s. k (string_bytes t) s) self.new.variables)
-            (point (H.oracle host.new) (H.told host.new) self.new.used) }
+            (after result (λ _ s. k t s) self.new.variables)
+            (point (H.oracle host.new) (H.told host.new) self.new.used)) }
         ensures later { Later self.old self.new }
     {
         match self.variables.procedure(name) {
             Some(procedure) => {
                 let procedure = procedure.clone()?;
-                self.call(host, limits, left, name, &procedure, operands)
+                within(
+                    limits,
+                    self.call(host, limits, left, name, &procedure, operands),
+                )
             }
-            None => unknown(self.alloc, &self.variables, host, name, operands, words),
+            None => unknown(
+                self.alloc,
+                &self.variables,
+                host,
+                limits,
+                wanted,
+                name,
+                operands,
+                words,
+            ),
         }
     }
 
@@ -583,7 +665,8 @@ impl Evaluator {
         words: &[String],
     ) -> Result<String, Stop>
         ensures comes { (k : Next) → Leads limits.commands (rule limits.value_bytes)
-            (rules.call (bounds limits.value_bytes left) name.now (procedure_view procedure.now) (map string_bytes words.now)
+            (rules.call (bounds limits.value_bytes left) name.now (procedure_view procedure.now) (map string_bytes
+            words.now)
             self.old.variables k)
             (point (H.oracle host.old) (H.told host.old) self.old.used)
             (after result (λ t s. k (string_bytes t) s) self.new.variables)
@@ -593,7 +676,7 @@ impl Evaluator {
         let values = allotted(self.alloc, name, &procedure.parameters, words)?;
         let caller = self.variables.enter(self.alloc);
         assign(self.alloc, &mut self.variables, limits.value_bytes, values)?;
-        let outcome = self.script(host, limits, left, procedure.body.as_str());
+        let outcome = self.script(host, limits, left, procedure.body.as_str(), true);
         self.variables.leave(caller);
         after_call(self.alloc, outcome)
     }
@@ -610,7 +693,8 @@ impl Evaluator {
         body: &str,
     ) -> Result<String, Stop>
         ensures comes { (k : Next) → Leads limits.commands (rule limits.value_bytes)
-            (rules.form (bounds limits.value_bytes left) (forms.Foreach (pair_texts lists.now) body.now) self.old.variables k)
+            (rules.form (bounds limits.value_bytes left) (forms.Foreach (pair_texts lists.now) body.now)
+            self.old.variables k)
             (point (H.oracle host.old) (H.told host.old) self.old.used)
             (after result (λ t s. k (string_bytes t) s) self.new.variables)
             (point (H.oracle host.new) (H.told host.new) self.new.used) }

@@ -1,5 +1,5 @@
 //! Whole files.
-ghost use Rattle.std.specs.Prelude.{◌≡◌, ◌≤◌, ◌==◌, length, [], take, count_by, min, IfOk};
+ghost use Rattle.std.specs.Prelude.{◌≡◌, ◌≤◌, ◌==◌, length, [], take, count_by, min, IfOk, string_bytes};
 ghost use Rattle.tclchars.specs.Runs.{Text};
 ghost use Rattle.tclrules.specs.Derivation.{Halted};
 ghost use Rattle.tclscript.specs.View.{script_view};
@@ -39,16 +39,17 @@ impl Evaluator {
         script: &Script<ByteRange>,
     ) -> Result<String, Stop>
         ensures comes { Leads limits.commands (rule limits.value_bytes)
-            (rules.file_commands (bounds limits.value_bytes left) (script_view (shown source.now) script.now) [] self.old.variables)
+            (rules.file_commands (bounds limits.value_bytes left) (script_view (shown source.now) script.now) []
+            self.old.variables)
             (point (H.oracle host.old) (H.told host.old) self.old.used)
-            (after result finish self.new.variables)
+            (after result (λ t s. finish (string_bytes t) s) self.new.variables)
             (point (H.oracle host.new) (H.told host.new) self.new.used) }
         ensures later { Later self.old self.new }
     {
         let mut last = String::new(self.alloc);
         for command in &script.commands {
             self.variables.at_place(command.place);
-            last = self.command(host, limits, left, source, command)?;
+            last = self.command(host, limits, left, source, command, true)?;
         }
         Ok(last)
     }
@@ -65,7 +66,7 @@ impl Evaluator {
         ensures comes { Leads limits.commands (rule limits.value_bytes)
             (rule limits.value_bytes (plans.File left text.now self.old.variables))
             (point (H.oracle host.old) (H.told host.old) self.old.used)
-            (after result finish self.new.variables)
+            (after result (λ t s. finish (string_bytes t) s) self.new.variables)
             (point (H.oracle host.new) (H.told host.new) self.new.used) }
         ensures later { Later self.old self.new }
     {

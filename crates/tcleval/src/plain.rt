@@ -3,12 +3,13 @@ ghost use Rattle.std.specs.Prelude.{◌≡◌, ◌∷◌, ℕ, None, map, string
 ghost use Rattle.tclrules.specs.Leads.{Leads, Point, point};
 ghost use Rattle.tclrules.specs.Variables.{State};
 ghost use Rattle.tclrules.specs.Plans as plans;
-ghost use Rattle.tclrules.specs.Plans.{Bounds, Job, Next, ended, raise};
+ghost use Rattle.tclrules.specs.Plans.{Bounds, Job, Next, ended, raise, sized};
 ghost use Rattle.tclrules.specs.Rules as rules;
 ghost use Rattle.tclforms.specs.Views.{form_view};
 ghost use Rattle.tclsteps.specs.Machine.{bounds};
 ghost use Rattle.tclsteps.specs.Stops.{after, stopped};
 ghost use Rattle.tclcommands.specs.Does.{value_text};
+ghost use Rattle.tcleval.specs.Runs.{Comes};
 
 use crate::trees::left_out;
 use std::alloc::Global;
@@ -93,22 +94,45 @@ fn plain_value<'a, H: Host>(
     }
 }
 
+/// The text of a command's result within the limit, of which no copy is made where nobody wants it.
+fn answer(
+    alloc: Global,
+    variables: &Variables,
+    limits: Limits,
+    wanted: bool,
+    value: Value<'_>,
+) -> Result<String, Stop>
+    ensures { Comes wanted limits.value_bytes result (λ t. (most : ℕ) (r : Job → plans.Step) (k : Next) (x : Point)
+        → Leads most r (sized limits.value_bytes (value_text value.entry variables.now) (k (value_text value.entry
+        variables.now) variables.now)) x (after result (λ _ s. k t s) variables.now) x) }
+{
+    if value.len(variables) > limits.value_bytes {
+        return Err(Stop::Halted(Halt::ValueTooLong));
+    }
+    if wanted {
+        return Ok(value.into_text(alloc, variables)?);
+    }
+    Ok(String::new(alloc))
+}
+
 /// What the form of a command does that evaluates no script, with the text of its result.
 pub(crate) fn plain<H: Host>(
     alloc: Global,
     variables: &mut Variables,
     host: &mut H,
     limits: Limits,
+    wanted: bool,
     form: Form<'_>,
 ) -> Result<String, Stop>
-    ensures { (most left used : ℕ) (r : Job → plans.Step) (k : Next) → Leads most r
-        (rules.form (bounds limits.value_bytes left) (form_view form.entry) variables.old k)
+    ensures { Comes wanted limits.value_bytes result (λ t. (most left used : ℕ) (r : Job → plans.Step) (k : Next)
+        → Leads most r (rules.form (bounds limits.value_bytes left) (form_view form.entry) variables.old
+        (λ u s. sized limits.value_bytes u (k u s)))
         (point (H.oracle host.old) (H.told host.old) used)
-        (after result (λ t s. k (string_bytes t) s) variables.new)
-        (point (H.oracle host.new) (H.told host.new) used) }
+        (after result (λ _ s. k t s) variables.new)
+        (point (H.oracle host.new) (H.told host.new) used)) }
 {
     let value = plain_value(alloc, variables, host, limits, form)?;
-    Ok(value.into_text(alloc, variables)?)
+    answer(alloc, variables, limits, wanted, value)
 }
 
 /// A command of a name that is no procedure's: one that is left out, or one for the host.
@@ -116,21 +140,25 @@ pub(crate) fn unknown<H: Host>(
     alloc: Global,
     variables: &Variables,
     host: &mut H,
+    limits: Limits,
+    wanted: bool,
     name: &str,
     operands: &[String],
     words: &[String],
 ) -> Result<String, Stop>
     requires { map string_bytes words.now ≡ name.now ∷ map string_bytes operands.now }
-    ensures { (most used : ℕ) (b : Bounds) (r : Job → plans.Step) (k : Next) → Leads most r
-        (rules.other_command b name.now (map string_bytes operands.now) variables.now k None)
+    ensures { Comes wanted limits.value_bytes result (λ t. (most used : ℕ) (b : Bounds) (r : Job → plans.Step) (k :
+        Next)
+        → Leads most r (rules.other_command b name.now (map string_bytes operands.now) variables.now
+        (λ u s. sized limits.value_bytes u (k u s)) None)
         (point (H.oracle host.old) (H.told host.old) used)
-        (after result (λ t s. k (string_bytes t) s) variables.now)
-        (point (H.oracle host.new) (H.told host.new) used) }
+        (after result (λ _ s. k t s) variables.now)
+        (point (H.oracle host.new) (H.told host.new) used)) }
 {
     let _operands = operands;
     if is_left_out(name) {
         return Err(Stop::from(left_out(alloc, name)));
     }
     let value = consult(alloc, variables, host, words)?;
-    Ok(value.into_text(alloc, variables)?)
+    answer(alloc, variables, limits, wanted, value)
 }

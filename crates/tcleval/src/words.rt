@@ -2,9 +2,13 @@
 ghost use Rattle.std.specs.Prelude.{◌≡◌, ◌++◌, List, Ok, Err, map, MatchResult, IfSome, string_bytes};
 ghost use Rattle.tclchars.specs.Runs.{Text};
 ghost use Rattle.tclvalue.specs.Faults.{reason_of};
+ghost use Rattle.tclscript.specs.Tree.{part, literal, no_parts};
+ghost use Rattle.tclscript.specs.View.{parts_view};
 ghost use Rattle.tclrules.specs.Words.{expanded};
+ghost use Rattle.tclsteps.specs.Machine.{shown};
 
 use std::alloc::Global;
+use tclscript::{ByteRange, Part};
 use tclvalue::{ValueFault, elements};
 
 /// Puts the words that a word with this value makes behind others: behind `{*}` the elements of its list.
@@ -26,4 +30,16 @@ pub(crate) fn push_words(
     }
     texts.push(text)?;
     Ok(())
+}
+
+/// The piece of a word that is one literal part.
+pub(crate) fn literal(parts: &[Part<ByteRange>]) -> Option<ByteRange>
+    ensures { IfSome result (λ range. (source : Text) → parts_view (shown source) parts.now
+        ≡ part (literal (shown source range)) no_parts) }
+{
+    let (first, rest) = parts.split_first()?;
+    match first {
+        Part::Literal(range) if rest.is_empty() => Some(*range),
+        _ => None,
+    }
 }

@@ -7,13 +7,17 @@ use Rattle.tclrules.specs.Leads.{point}
 use Rattle.tclsteps.specs.Machine.{bounds}
 use Rattle.tclsteps.proofs.Leading.{starved_end, starved_after, passed_on}
 use Rattle.tcleval.proofs.Running.{same_as, fault_stops}
+use Rattle.std.proofs.Common.{[]}
+use Rattle.tcleval.specs.Runs.{sized_next}
+use Rattle.std.proofs.lemmas.Result.{err_from_is_err_and}
 use Rattle.tcleval.proofs.plain.plain.Goals as goal
 
 pub returns-in_err-value : goal.returns-in_err-value
-returns-in_err-value g c = λ most left used r k. passed_on _ _ _ _ c.from_residual.ensures.1 (c.in_err-value.ensures most left used r k)
-
-pub returns-in_err-into_text : goal.returns-in_err-into_text
-returns-in_err-into_text g c = λ most left used r k. starved_after _ _ _ (c.in_ok-value.ensures most left used r k) c.from_residual-in_err-into_text.ensures.1
+returns-in_err-value g c =
+    let p = err_from_is_err_and c.from_residual.result c.from_residual.ensures.1 in
+    ([], rw p.1 tt, λ most left used r k. passed_on _ _ _ _ c.from_residual.ensures.1 (c.in_err-value.ensures most left used r (sized_next c.args.limits.value_bytes k)))
 
 pub returns : goal.returns
-returns g c = λ most left used r k. rw c.in_ok-into_text.ensures (c.in_ok-value.ensures most left used r k)
+returns g c =
+    let a = c.answer.ensures in
+    (a.0, a.1, λ most left used r k. go_on (c.in_ok-value.ensures most left used r (sized_next c.args.limits.value_bytes k)) (a.2 most r k _))

@@ -13,7 +13,7 @@ use Rattle.tclrules.specs.Rules.{rule, called, turn}
 use Rattle.tclforms.specs.Views.{form_view, pair_texts}
 use Rattle.tclsteps.specs.Machine.{shown, bounds, control_plan}
 use Rattle.tclsteps.specs.Stops.{after}
-use Rattle.tcleval.specs.Runs.{finish, turned, guarded}
+use Rattle.tcleval.specs.Runs.{finish, sized_next, turned, guarded}
 use Rattle.tcleval.specs.Later.{Later}
 use Rattle.tclrules.specs.Rules as table
 use Rattle.std.proofs.lemmas.Bool.{false≢true}
@@ -26,9 +26,9 @@ use Rattle.tclrules.specs.Plans.{given}
 use Rattle.tclrules.specs.Words.{expanded}
 use Rattle.tclrules.specs.Expressions.{normal}
 use Rattle.tclrules.proofs.Leading.{stay, go_on, starve, count_on, count_over, run_on, run_halts, run_tail}
-use Rattle.tclsteps.proofs.Leading.{passed_on, starved_end, starved_after, given_on, value_stops, sized_on, run_stops}
+use Rattle.tclsteps.proofs.Leading.{passed_on, starved_end, starved_after, given_on, given_stops, value_stops, sized_on, run_stops}
 use Rattle.tclsteps.proofs.Trees.{empty_of, first_and_rest}
-use Rattle.tcleval.proofs.Running.{run_after, run_normal, begin_on, begin_stops, drop_here, same_as, script_commands, command_words, word_parts, later_refl, later_on, later_still, later_counted, later_beside, later_begun, later_parsed, text_stops, limited_stops, limited_on, ok_any, counted_on, core_stops, turned_some, turned_none, foreach_done, foreach_more, on_branch, branch_on}
+use Rattle.tcleval.proofs.Running.{run_after, run_known, run_normal, run_comes, run_turn, run_next, comes_stopped, comes_cut, begin_on, begin_stops, drop_here, same_as, script_commands, command_words, word_parts, later_refl, later_on, later_still, later_counted, later_beside, later_begun, later_parsed, text_stops, limited_stops, limited_on, ok_any, counted_on, core_stops, turned_some, turned_none, foreach_done, foreach_more, on_branch, branch_on}
 use Rattle.tcleval.proofs.evaluator.Evaluator.+evaluate.Goals as goal
 
 pub bracket-commands-requires : goal.bracket-commands-requires
@@ -38,7 +38,9 @@ pub bracket-overflow_sub-left : goal.bracket-overflow_sub-left
 bracket-overflow_sub-left g t c = omega arith
 
 pub bracket-returns-clause-comes : goal.bracket-returns-clause-comes
-bracket-returns-clause-comes g t c = λ k. run_normal _ _ _ (go_on (begin_on _ _ c.if-left-eq0.false) c.commands.ensures.comes)
+bracket-returns-clause-comes g t c = λ k.
+    let h = c.commands.ensures.comes in
+    run_normal k _ _ _ (h.0, h.1, go_on (begin_on _ _ c.if-left-eq0.false) h.2)
 
 pub bracket-returns-clause-later : goal.bracket-returns-clause-later
 bracket-returns-clause-later g t c = c.commands.ensures.later
@@ -79,36 +81,37 @@ pub branches-otherwise-requires : goal.branches-otherwise-requires
 branches-otherwise-requires g t c κs within = search rules
 
 pub branches-returns-clause-comes : goal.branches-returns-clause-comes
-branches-returns-clause-comes g t c = λ k.
+branches-returns-clause-comes g t c =
+    let h = c.otherwise.ensures.comes in
     let d = drop_all _ _ c.loop-condition-test.false in
-    go_on (rw d at (c.loop-condition.invariant.comes k)) (c.otherwise.ensures.comes k)
+    (h.0, h.1, λ k. go_on (rw d at (c.loop-condition.invariant.comes (sized_next c.args.limits.value_bytes k))) (h.2 k))
 
 pub branches-returns-clause-later : goal.branches-returns-clause-later
 branches-returns-clause-later g t c = later_on c.loop-condition.invariant.later c.otherwise.ensures.later
 
 pub branches-returns-in_err-decide-clause-comes : goal.branches-returns-in_err-decide-clause-comes
-branches-returns-in_err-decide-clause-comes g t c = λ k.
+branches-returns-in_err-decide-clause-comes g t c =
     let b = bounds c.args.limits.value_bytes c.args.left in
     let i = c.loop-condition.condition-index in
     let d : Bor (List ℕ) × Bor (List ℕ) = (record { ref_ptr = (0, 0); now = [] }, record { ref_ptr = (0, 0); now = [] }) in
     let other = option_map (λ (t : Bor (List ℕ)). t.now) c.args.other in
-    let next = on_branch b (get_or c.args.branches.now i d).1.now (pair_texts (drop (i + 1) c.args.branches.now)) other k in
-    let l = branch_on b c.args.branches.now i d other c.loop-condition.self.variables k c.loop-condition-test.true (c.loop-condition.invariant.comes k) in
-    passed_on _ _ _ _ c.from_residual.ensures.1 (go_on l (c.in_err-decide.ensures.comes next))
+    let next = λ (k : Next). on_branch b (get_or c.args.branches.now i d).1.now (pair_texts (drop (i + 1) c.args.branches.now)) other (sized_next c.args.limits.value_bytes k) in
+    let l = λ (k : Next). branch_on b c.args.branches.now i d other c.loop-condition.self.variables (sized_next c.args.limits.value_bytes k) c.loop-condition-test.true (c.loop-condition.invariant.comes (sized_next c.args.limits.value_bytes k)) in
+    comes_stopped _ _ _ _ _ c.from_residual.ensures.1 (λ k. go_on (l k) (c.in_err-decide.ensures.comes (next k)))
 
 pub branches-returns-in_err-decide-clause-later : goal.branches-returns-in_err-decide-clause-later
 branches-returns-in_err-decide-clause-later g t c = later_on c.loop-condition.invariant.later c.in_err-decide.ensures.later
 
 pub branches-returns-then-branch-clause-comes : goal.branches-returns-then-branch-clause-comes
-branches-returns-then-branch-clause-comes g t c = λ k.
+branches-returns-then-branch-clause-comes g t c =
     let b = bounds c.args.limits.value_bytes c.args.left in
     let i = c.loop-condition.condition-index in
     let d : Bor (List ℕ) × Bor (List ℕ) = (record { ref_ptr = (0, 0); now = [] }, record { ref_ptr = (0, 0); now = [] }) in
     let other = option_map (λ (t : Bor (List ℕ)). t.now) c.args.other in
-    let next = on_branch b (get_or c.args.branches.now i d).1.now (pair_texts (drop (i + 1) c.args.branches.now)) other k in
-    let l = branch_on b c.args.branches.now i d other c.loop-condition.self.variables k c.loop-condition-test.true (c.loop-condition.invariant.comes k) in
-    let h = rw c.if-branch.true at (c.in_ok-decide.ensures.comes next) in
-    go_on (go_on l h) (run_normal _ _ _ c.script.ensures.comes)
+    let next = λ (k : Next). on_branch b (get_or c.args.branches.now i d).1.now (pair_texts (drop (i + 1) c.args.branches.now)) other (sized_next c.args.limits.value_bytes k) in
+    let l = λ (k : Next). branch_on b c.args.branches.now i d other c.loop-condition.self.variables (sized_next c.args.limits.value_bytes k) c.loop-condition-test.true (c.loop-condition.invariant.comes (sized_next c.args.limits.value_bytes k)) in
+    let n = run_comes _ _ _ _ c.script.ensures.comes in
+    (n.0, n.1, λ k. go_on (go_on (l k) (rw c.if-branch.true at (c.in_ok-decide.ensures.comes (next k)))) (n.2 k))
 
 pub branches-returns-then-branch-clause-later : goal.branches-returns-then-branch-clause-later
 branches-returns-then-branch-clause-later g t c = later_on (later_on c.loop-condition.invariant.later c.in_ok-decide.ensures.later) c.script.ensures.later
@@ -132,7 +135,7 @@ call-returns-clause-comes g t c = λ k.
     let v = rw c.deref.ensures.value at c.in_ok-values.ensures in
     let a = rw c.enter-caller.ensures.entered at (c.in_ok-assign.ensures c.args.limits.commands c.args.left (rule c.args.limits.value_bytes) next (point (g.H.Host.oracle c.args.host.now) (g.H.Host.told c.args.host.now) c.args.self.now.used)) in
     let r = rw c.as_str.ensures.value at c.script-outcome.ensures.comes in
-    let l = go_on (go_on (given_on _ _ _ _ v) a) (run_after _ _ _ r) in
+    let l = go_on (go_on (given_on _ _ _ _ v) a) (run_known _ _ _ _ r) in
     rw (c.leave.ensures, c.enter-caller.ensures.caller) (go_on l (c.after_call.ensures _ _ c.args.self.now.variables.frame k _ _))
 
 pub call-returns-clause-later : goal.call-returns-clause-later
@@ -166,43 +169,44 @@ called-core_command-requires g t c κs within =
     (search rules, (search rules, e))
 
 pub called-returns-in-None-clause-comes : goal.called-returns-in-None-clause-comes
-called-returns-in-None-clause-comes g t c = λ k.
+called-returns-in-None-clause-comes g t c =
     let e = c.in-Some.ensures.cases.0 in
     let v = rw (e, c.in-None.is) at c.in_ok-value.ensures in
-    let h = rw c.as_str.ensures.value at (c.core_command.ensures.comes k) in
-    rw e (go_on (given_on _ _ _ _ v) h)
+    let h = rw c.as_str.ensures.value at c.core_command.ensures.comes in
+    (h.0, h.1, λ k. rw e (go_on (given_on _ _ _ _ v) (h.2 k)))
 
 pub called-returns-in-None-clause-later : goal.called-returns-in-None-clause-later
 called-returns-in-None-clause-later g t c = c.core_command.ensures.later
 
 pub called-returns-in-Some-2-clause-comes : goal.called-returns-in-Some-2-clause-comes
-called-returns-in-Some-2-clause-comes g t c = λ k.
+called-returns-in-Some-2-clause-comes g t c =
     let e = c.in-Some.ensures.cases.0 in
     let h = rw (e, c.in-Some-2.is) at c.in_ok-value.ensures in
-    rw e (given_on _ _ _ _ h)
+    let w = c.within.ensures c.args.wanted c.args.self.now.variables in
+    (w.0, w.1, λ k. rw e (go_on (given_on _ _ _ _ h) (w.2 _ _ k _)))
 
 pub called-returns-in-Some-2-clause-later : goal.called-returns-in-Some-2-clause-later
 called-returns-in-Some-2-clause-later g t c = later_refl
 
 pub called-returns-in_default-clause-comes : goal.called-returns-in_default-clause-comes
-called-returns-in_default-clause-comes g t c = λ k.
+called-returns-in_default-clause-comes g t c =
     let e : c.args.words.now ≡ [] = empty_of _ (omega (arith, c.in_default.ensures.cases)) in
-    rw (e, c.new.ensures.bytes) stay
+    ([], (omega arith, λ q. c.new.ensures.bytes), λ k. rw e (sized_on c.args.limits.value_bytes [] (k [] c.args.self.now.variables) (omega arith)))
 
 pub called-returns-in_default-clause-later : goal.called-returns-in_default-clause-later
 called-returns-in_default-clause-later g t c = later_refl
 
 pub called-returns-in_err-value-clause-comes : goal.called-returns-in_err-value-clause-comes
-called-returns-in_err-value-clause-comes g t c = λ k.
+called-returns-in_err-value-clause-comes g t c =
     let e = c.in-Some.ensures.cases.0 in
     let h = rw e at c.in_err-value.ensures in
-    rw e (value_stops _ _ _ _ _ _ c.from_residual.ensures.1 h)
+    comes_stopped _ _ _ _ _ c.from_residual.ensures.1 (λ k. rw e (given_stops _ _ _ _ h))
 
 pub called-returns-in_err-value-clause-later : goal.called-returns-in_err-value-clause-later
 called-returns-in_err-value-clause-later g t c = later_refl
 
 pub catch-returns-clause-comes : goal.catch-returns-clause-comes
-catch-returns-clause-comes g t c = λ k. go_on (run_after _ _ _ c.script-outcome.ensures.comes) (c.after_catch.ensures _ c.args.left _ k _)
+catch-returns-clause-comes g t c = λ k. go_on (run_known _ _ _ _ c.script-outcome.ensures.comes) (c.after_catch.ensures _ c.args.left _ k _)
 
 pub catch-returns-clause-later : goal.catch-returns-clause-later
 catch-returns-clause-later g t c = later_beside refl refl refl refl c.script-outcome.ensures.later
@@ -214,47 +218,35 @@ pub command-called-requires : goal.command-called-requires
 command-called-requires g t c κs within = search rules
 
 pub command-returns-clause-comes : goal.command-returns-clause-comes
-command-returns-clause-comes g t c = λ k.
+command-returns-clause-comes g t c =
     let b = bounds c.args.limits.value_bytes c.args.left in
     let h = c.in_ok-count.ensures in
     let v = command_words (shown c.args.source.now) c.args.command.now in
-    let w = rw (h.variables, h.counted.1, c.deref.ensures.value) at (c.in_ok-texts.ensures.comes (λ texts s1. called b texts s1 (λ u s2. sized c.args.limits.value_bytes u (k u s2)))) in
-    let l = rw c.deref-2.ensures.value at (c.in_ok-value.ensures.comes (λ u s2. sized c.args.limits.value_bytes u (k u s2))) in
-    rw v (go_on (go_on (go_on (count_on h.counted.0) w) l) (c.sized.ensures.comes _ _ k _ _))
+    let a = rw c.deref-2.ensures.value at c.called.ensures.comes in
+    let w = λ (k : Next). rw (h.variables, h.counted.1, c.deref.ensures.value) at (c.in_ok-texts.ensures.comes (λ texts s1. called b texts s1 (sized_next c.args.limits.value_bytes k))) in
+    (a.0, a.1, λ k. rw v (go_on (go_on (count_on h.counted.0) (w k)) (a.2 k)))
 
 pub command-returns-clause-later : goal.command-returns-clause-later
-command-returns-clause-later g t c = later_on (later_counted c.in_ok-count.ensures.counted.1 c.in_ok-count.ensures.kept) (later_on c.in_ok-texts.ensures.later c.in_ok-value.ensures.later)
+command-returns-clause-later g t c = later_on (later_counted c.in_ok-count.ensures.counted.1 c.in_ok-count.ensures.kept) (later_on c.in_ok-texts.ensures.later c.called.ensures.later)
 
 pub command-returns-in_err-count-clause-comes : goal.command-returns-in_err-count-clause-comes
-command-returns-in_err-count-clause-comes g t c = λ k.
+command-returns-in_err-count-clause-comes g t c =
     let h = c.in_err-count.ensures.counted in
-    passed_on _ _ _ _ c.from_residual.ensures.1 (rw (h.2, h.1) (count_over h.0))
+    comes_stopped _ _ _ _ _ c.from_residual.ensures.1 (λ k. rw (h.2, h.1) (count_over h.0))
 
 pub command-returns-in_err-count-clause-later : goal.command-returns-in_err-count-clause-later
 command-returns-in_err-count-clause-later g t c = later_still c.in_err-count.ensures.counted.1 c.in_err-count.ensures.kept
 
 pub command-returns-in_err-texts-clause-comes : goal.command-returns-in_err-texts-clause-comes
-command-returns-in_err-texts-clause-comes g t c = λ k.
+command-returns-in_err-texts-clause-comes g t c =
     let b = bounds c.args.limits.value_bytes c.args.left in
     let h = c.in_ok-count.ensures in
     let v = command_words (shown c.args.source.now) c.args.command.now in
-    let w = rw (h.variables, h.counted.1, c.deref.ensures.value) at (c.in_err-texts.ensures.comes (λ texts s1. called b texts s1 (λ u s2. sized c.args.limits.value_bytes u (k u s2)))) in
-    passed_on _ _ _ _ c.from_residual-in_err-texts.ensures.1 (rw v (go_on (count_on h.counted.0) w))
+    let w = λ (k : Next). rw (h.variables, h.counted.1, c.deref.ensures.value) at (c.in_err-texts.ensures.comes (λ texts s1. called b texts s1 (sized_next c.args.limits.value_bytes k))) in
+    comes_stopped _ _ _ _ _ c.from_residual-in_err-texts.ensures.1 (λ k. rw v (go_on (count_on h.counted.0) (w k)))
 
 pub command-returns-in_err-texts-clause-later : goal.command-returns-in_err-texts-clause-later
 command-returns-in_err-texts-clause-later g t c = later_on (later_counted c.in_ok-count.ensures.counted.1 c.in_ok-count.ensures.kept) c.in_err-texts.ensures.later
-
-pub command-returns-in_err-value-clause-comes : goal.command-returns-in_err-value-clause-comes
-command-returns-in_err-value-clause-comes g t c = λ k.
-    let b = bounds c.args.limits.value_bytes c.args.left in
-    let h = c.in_ok-count.ensures in
-    let v = command_words (shown c.args.source.now) c.args.command.now in
-    let w = rw (h.variables, h.counted.1, c.deref.ensures.value) at (c.in_ok-texts.ensures.comes (λ texts s1. called b texts s1 (λ u s2. sized c.args.limits.value_bytes u (k u s2)))) in
-    let l = rw c.deref-2.ensures.value at (c.in_err-value.ensures.comes (λ u s2. sized c.args.limits.value_bytes u (k u s2))) in
-    passed_on _ _ _ _ c.from_residual-in_err-value.ensures.1 (rw v (go_on (go_on (count_on h.counted.0) w) l))
-
-pub command-returns-in_err-value-clause-later : goal.command-returns-in_err-value-clause-later
-command-returns-in_err-value-clause-later g t c = later_on (later_counted c.in_ok-count.ensures.counted.1 c.in_ok-count.ensures.kept) (later_on c.in_ok-texts.ensures.later c.in_err-value.ensures.later)
 
 pub command-words-requires : goal.command-words-requires
 command-words-requires g t c κs within = search rules
@@ -263,14 +255,15 @@ pub commands-command-requires : goal.commands-command-requires
 commands-command-requires g t c κs within = search rules
 
 pub commands-loop-command-init : goal.commands-loop-command-init
-commands-loop-command-init g t c = record { comes = rw (c.new-last.ensures.bytes, script_commands (shown c.args.source.now) c.args.script.now) stay; later = later_refl }
+commands-loop-command-init g t c = record { comes = ([], (omega arith, λ q. c.new-last.ensures.bytes), rw (script_commands (shown c.args.source.now) c.args.script.now) stay); later = later_refl }
 
 pub commands-loop-command-preserved : goal.commands-loop-command-preserved
 commands-loop-command-preserved g t c =
     let s = c.deref-command-items.ensures.value in
     let d = drop_here _ _ _ (rw s at c.loop-command-test.true) (rw s at c.command-item.is) in
-    let l = rw d at c.loop-command.invariant.comes in
-    record { comes = go_on l (c.in_ok-last.ensures.comes _); later = later_on c.loop-command.invariant.later c.in_ok-last.ensures.later }
+    let l = rw d at c.loop-command.invariant.comes.2 in
+    let a = c.in_ok-last.ensures.comes in
+    record { comes = (a.0, a.1, go_on l (a.2 _)); later = later_on c.loop-command.invariant.later c.in_ok-last.ensures.later }
 
 pub commands-loop-command-smaller : goal.commands-loop-command-smaller
 commands-loop-command-smaller g t c = omega arith
@@ -282,7 +275,8 @@ pub commands-returns-clause-comes : goal.commands-returns-clause-comes
 commands-returns-clause-comes g t c =
     let s = c.deref-command-items.ensures.value in
     let d = drop_all _ _ (rw s at c.loop-command-test.false) in
-    rw d at c.loop-command.invariant.comes
+    let i = c.loop-command.invariant.comes in
+    (i.0, i.1, rw d at i.2)
 
 pub commands-returns-clause-later : goal.commands-returns-clause-later
 commands-returns-clause-later g t c = c.loop-command.invariant.later
@@ -291,8 +285,8 @@ pub commands-returns-in_err-last-clause-comes : goal.commands-returns-in_err-las
 commands-returns-in_err-last-clause-comes g t c =
     let s = c.deref-command-items.ensures.value in
     let d = drop_here _ _ _ (rw s at c.loop-command-test.true) (rw s at c.command-item.is) in
-    let l = rw d at c.loop-command.invariant.comes in
-    passed_on _ _ _ _ c.from_residual.ensures.1 (go_on l (c.in_err-last.ensures.comes _))
+    let l = rw d at c.loop-command.invariant.comes.2 in
+    comes_cut _ _ _ _ _ c.from_residual.ensures.1 (go_on l (c.in_err-last.ensures.comes.2 _))
 
 pub commands-returns-in_err-last-clause-later : goal.commands-returns-in_err-last-clause-later
 commands-returns-in_err-last-clause-later g t c = later_on c.loop-command.invariant.later c.in_err-last.ensures.later
@@ -307,23 +301,26 @@ pub core_command-other_command-requires : goal.core_command-other_command-requir
 core_command-other_command-requires g t c κs within = (search rules, (search rules, search rules))
 
 pub core_command-returns-in-None-clause-comes : goal.core_command-returns-in-None-clause-comes
-core_command-returns-in-None-clause-comes g t c = λ k.
+core_command-returns-in-None-clause-comes g t c =
     let h = rw c.in-None.is at c.in_ok-form.ensures in
-    rw (turned_none _ h) (c.other_command.ensures.comes k)
+    let a = c.other_command.ensures.comes in
+    (a.0, a.1, λ k. rw (turned_none _ h) (a.2 k))
 
 pub core_command-returns-in-None-clause-later : goal.core_command-returns-in-None-clause-later
 core_command-returns-in-None-clause-later g t c = c.other_command.ensures.later
 
 pub core_command-returns-in-Some-clause-comes : goal.core_command-returns-in-Some-clause-comes
-core_command-returns-in-Some-clause-comes g t c = λ k.
+core_command-returns-in-Some-clause-comes g t c =
     let h = rw c.in-Some.is at c.in_ok-form.ensures in
-    rw (turned_some _ _ h) (c.form.ensures.comes k)
+    let a = c.form.ensures.comes in
+    (a.0, a.1, λ k. rw (turned_some _ _ h) (a.2 k))
 
 pub core_command-returns-in-Some-clause-later : goal.core_command-returns-in-Some-clause-later
 core_command-returns-in-Some-clause-later g t c = c.form.ensures.later
 
 pub core_command-returns-in_err-form-clause-comes : goal.core_command-returns-in_err-form-clause-comes
-core_command-returns-in_err-form-clause-comes g t c = λ k. passed_on _ _ _ _ c.from_residual.ensures.1 (core_stops (bounds c.args.limits.value_bytes c.args.left) c.args.name.now (map string_bytes c.args.operands.now) c.args.self.now.variables k _ _ c.in_err-form.ensures)
+core_command-returns-in_err-form-clause-comes g t c =
+    comes_stopped _ _ _ _ _ c.from_residual.ensures.1 (λ k. core_stops (bounds c.args.limits.value_bytes c.args.left) c.args.name.now (map string_bytes c.args.operands.now) c.args.self.now.variables (sized_next c.args.limits.value_bytes k) _ _ c.in_err-form.ensures)
 
 pub core_command-returns-in_err-form-clause-later : goal.core_command-returns-in_err-form-clause-later
 core_command-returns-in_err-form-clause-later g t c = later_refl
@@ -399,13 +396,13 @@ pub for_loop-for_turns-requires : goal.for_loop-for_turns-requires
 for_loop-for_turns-requires g t c κs within = search rules
 
 pub for_loop-returns-clause-comes : goal.for_loop-returns-clause-comes
-for_loop-returns-clause-comes g t c = λ k. go_on (run_on c.in_ok-script.ensures.comes) (c.for_turns.ensures.comes k)
+for_loop-returns-clause-comes g t c = λ k. go_on (run_on c.in_ok-script.ensures.comes.2) (c.for_turns.ensures.comes k)
 
 pub for_loop-returns-clause-later : goal.for_loop-returns-clause-later
 for_loop-returns-clause-later g t c = later_on c.in_ok-script.ensures.later c.for_turns.ensures.later
 
 pub for_loop-returns-in_err-script-clause-comes : goal.for_loop-returns-in_err-script-clause-comes
-for_loop-returns-in_err-script-clause-comes g t c = λ k. passed_on _ _ _ _ c.from_residual.ensures.1 (run_stops _ _ c.in_err-script.ensures.comes)
+for_loop-returns-in_err-script-clause-comes g t c = λ k. passed_on _ _ _ _ c.from_residual.ensures.1 (run_stops _ _ c.in_err-script.ensures.comes.2)
 
 pub for_loop-returns-in_err-script-clause-later : goal.for_loop-returns-in_err-script-clause-later
 for_loop-returns-in_err-script-clause-later g t c = c.in_err-script.ensures.later
@@ -425,7 +422,7 @@ for_turns-loop-self-preserved g t c = record {
       let again = λ (s3 : State). Runs (plans.For c.args.left c.args.condition.now c.args.next.now c.args.body.now s3) plans.ended in
       let between = λ (s2 : State). table.body (bounds c.args.limits.value_bytes c.args.left) c.args.next.now s2 (table.after_next again) in
       let h = rw c.if-not-branch.false at (c.in_ok-guarded_turn.ensures.comes between) in
-      let n = go_on h (run_after (table.after_next again) _ _ c.script.ensures.comes) in
+      let n = go_on h (run_next again _ _ _ c.script.ensures.comes) in
       let e = rw c.if-not-branch-2.false at (c.in_ok-after_next.ensures again c.script.new.self.variables) in
       go_on (c.loop-self.invariant.comes k) (run_tail (same_as e n));
   later = later_on (later_on c.loop-self.invariant.later c.in_ok-guarded_turn.ensures.later) c.script.ensures.later;
@@ -441,7 +438,7 @@ for_turns-returns-in_err-after_next-clause-comes g t c = λ k.
     let again = λ (s3 : State). Runs (plans.For c.args.left c.args.condition.now c.args.next.now c.args.body.now s3) plans.ended in
     let between = λ (s2 : State). table.body (bounds c.args.limits.value_bytes c.args.left) c.args.next.now s2 (table.after_next again) in
     let h = rw c.if-not-branch.false at (c.in_ok-guarded_turn.ensures.comes between) in
-    let n = go_on h (run_after (table.after_next again) _ _ c.script.ensures.comes) in
+    let n = go_on h (run_next again _ _ _ c.script.ensures.comes) in
     passed_on _ _ _ _ c.from_residual-in_err-after_next.ensures.1 (go_on (c.loop-self.invariant.comes k) (run_stops _ _ (same_as (c.in_err-after_next.ensures again _) n)))
 
 pub for_turns-returns-in_err-after_next-clause-later : goal.for_turns-returns-in_err-after_next-clause-later
@@ -461,7 +458,7 @@ for_turns-returns-then-not-branch-2-clause-comes g t c = λ k.
     let again = λ (s3 : State). Runs (plans.For c.args.left c.args.condition.now c.args.next.now c.args.body.now s3) plans.ended in
     let between = λ (s2 : State). table.body (bounds c.args.limits.value_bytes c.args.left) c.args.next.now s2 (table.after_next again) in
     let h = rw c.if-not-branch.false at (c.in_ok-guarded_turn.ensures.comes between) in
-    let n = go_on h (run_after (table.after_next again) _ _ c.script.ensures.comes) in
+    let n = go_on h (run_next again _ _ _ c.script.ensures.comes) in
     let e = rw c.if-not-branch-2.true at (c.in_ok-after_next.ensures again c.script.new.self.variables) in
     rw c.new-then-not-branch-2.ensures.bytes (go_on (c.loop-self.invariant.comes k) (run_on (same_as e n)))
 
@@ -582,8 +579,8 @@ form-chosen-body-requires-text-text g t c κs = search rules
 pub form-express-requires : goal.form-express-requires
 form-express-requires g t c κs within = search rules
 
-pub form-for_loop-requires : goal.form-for_loop-requires
-form-for_loop-requires g t c κs within = search rules
+pub form-for_loop-outcome-requires : goal.form-for_loop-outcome-requires
+form-for_loop-outcome-requires g t c κs within = search rules
 
 pub form-foreach-requires : goal.form-foreach-requires
 form-foreach-requires g t c κs within = search rules
@@ -592,64 +589,82 @@ pub form-otherwise-requires : goal.form-otherwise-requires
 form-otherwise-requires g t c κs within = search rules
 
 pub form-returns-in-Catch-clause-comes : goal.form-returns-in-Catch-clause-comes
-form-returns-in-Catch-clause-comes g t c = λ k. rw c.in-Catch.is (c.catch.ensures.comes k)
+form-returns-in-Catch-clause-comes g t c =
+    let w = c.within-in-Catch.ensures c.args.wanted c.catch.new.self.variables in
+    (w.0, w.1, λ k. rw c.in-Catch.is (go_on (c.catch.ensures.comes (sized_next c.args.limits.value_bytes k)) (w.2 _ _ k _)))
 
 pub form-returns-in-Catch-clause-later : goal.form-returns-in-Catch-clause-later
 form-returns-in-Catch-clause-later g t c = c.catch.ensures.later
 
 pub form-returns-in-For-clause-comes : goal.form-returns-in-For-clause-comes
-form-returns-in-For-clause-comes g t c = λ k. rw c.in-For.is (c.for_loop.ensures.comes k)
+form-returns-in-For-clause-comes g t c =
+    let w = c.within-in-For.ensures c.args.wanted c.for_loop-outcome.new.self.variables in
+    (w.0, w.1, λ k. rw c.in-For.is (go_on (c.for_loop-outcome.ensures.comes (sized_next c.args.limits.value_bytes k)) (w.2 _ _ k _)))
 
 pub form-returns-in-For-clause-later : goal.form-returns-in-For-clause-later
-form-returns-in-For-clause-later g t c = c.for_loop.ensures.later
+form-returns-in-For-clause-later g t c = c.for_loop-outcome.ensures.later
 
 pub form-returns-in-Foreach-clause-comes : goal.form-returns-in-Foreach-clause-comes
-form-returns-in-Foreach-clause-comes g t c = λ k.
-    let h = rw c.as_slice-in-Foreach.ensures.value at (c.foreach.ensures.comes k) in
-    rw c.in-Foreach.is h
+form-returns-in-Foreach-clause-comes g t c =
+    let w = c.within-in-Foreach.ensures c.args.wanted c.foreach.new.self.variables in (
+      w.0,
+      w.1,
+      λ k.
+          let h = rw c.as_slice-in-Foreach.ensures.value at (c.foreach.ensures.comes (sized_next c.args.limits.value_bytes k)) in
+          rw c.in-Foreach.is (go_on h (w.2 _ _ k _)),
+    )
 
 pub form-returns-in-Foreach-clause-later : goal.form-returns-in-Foreach-clause-later
 form-returns-in-Foreach-clause-later g t c = c.foreach.ensures.later
 
 pub form-returns-in-If-clause-comes : goal.form-returns-in-If-clause-comes
-form-returns-in-If-clause-comes g t c = λ k.
-    let h = rw c.as_slice.ensures.value at (c.branches.ensures.comes k) in
-    rw c.in-If.is h
+form-returns-in-If-clause-comes g t c =
+    let a = rw c.as_slice.ensures.value at c.branches.ensures.comes in
+    (a.0, a.1, λ k. rw c.in-If.is (a.2 k))
 
 pub form-returns-in-If-clause-later : goal.form-returns-in-If-clause-later
 form-returns-in-If-clause-later g t c = c.branches.ensures.later
 
 pub form-returns-in-Switch-clause-comes : goal.form-returns-in-Switch-clause-comes
-form-returns-in-Switch-clause-comes g t c = λ k.
+form-returns-in-Switch-clause-comes g t c =
     let e = rw c.as_slice-in-Switch.ensures at c.chosen-body.ensures in
-    rw (c.in-Switch.is, ← e) (c.otherwise.ensures.comes k)
+    let a = c.otherwise.ensures.comes in
+    (a.0, a.1, λ k. rw (c.in-Switch.is, ← e) (a.2 k))
 
 pub form-returns-in-Switch-clause-later : goal.form-returns-in-Switch-clause-later
 form-returns-in-Switch-clause-later g t c = c.otherwise.ensures.later
 
 pub form-returns-in-While-clause-comes : goal.form-returns-in-While-clause-comes
-form-returns-in-While-clause-comes g t c = λ k. rw c.in-While.is (c.while_turns.ensures.comes k)
+form-returns-in-While-clause-comes g t c =
+    let w = c.within-in-While.ensures c.args.wanted c.while_turns.new.self.variables in
+    (w.0, w.1, λ k. rw c.in-While.is (go_on (c.while_turns.ensures.comes (sized_next c.args.limits.value_bytes k)) (w.2 _ _ k _)))
 
 pub form-returns-in-While-clause-later : goal.form-returns-in-While-clause-later
 form-returns-in-While-clause-later g t c = c.while_turns.ensures.later
 
 pub form-returns-in_default : goal.form-returns-in_default
 form-returns-in_default g t c = record {
-  comes = c.plain.ensures _ c.args.left c.args.self.now.used _;
+  comes = (c.plain.ensures.0, c.plain.ensures.1, λ k. c.plain.ensures.2 _ c.args.left c.args.self.now.used _ k);
   later = later_still refl refl;
 }
 
 pub form-returns-in_err-text-in-Express-clause-comes : goal.form-returns-in_err-text-in-Express-clause-comes
-form-returns-in_err-text-in-Express-clause-comes g t c = λ k. rw c.in-Express.is (passed_on _ _ _ _ c.from_residual.ensures.1 (limited_stops _ _ _ _ _ c.in_err-text-in-Express.ensures))
+form-returns-in_err-text-in-Express-clause-comes g t c =
+    comes_stopped _ _ _ _ _ c.from_residual.ensures.1 (λ k. rw c.in-Express.is (limited_stops _ _ _ _ _ c.in_err-text-in-Express.ensures))
 
 pub form-returns-in_err-text-in-Express-clause-later : goal.form-returns-in_err-text-in-Express-clause-later
 form-returns-in_err-text-in-Express-clause-later g t c = later_refl
 
 pub form-returns-in_ok-text-in-Express-clause-comes : goal.form-returns-in_ok-text-in-Express-clause-comes
-form-returns-in_ok-text-in-Express-clause-comes g t c = λ k.
+form-returns-in_ok-text-in-Express-clause-comes g t c =
     let q = limited_on _ _ _ c.in_ok-text-in-Express.ensures in
-    let h = rw (c.as_str.ensures.value, q.1) at (c.express.ensures.comes k) in
-    rw c.in-Express.is (go_on (sized_on _ _ _ q.0) h)
+    let w = c.within.ensures c.args.wanted c.express.new.self.variables in (
+      w.0,
+      w.1,
+      λ k.
+          let h = rw (c.as_str.ensures.value, q.1) at (c.express.ensures.comes (sized_next c.args.limits.value_bytes k)) in
+          rw c.in-Express.is (go_on (sized_on _ _ _ q.0) (go_on h (w.2 _ _ k _))),
+    )
 
 pub form-returns-in_ok-text-in-Express-clause-later : goal.form-returns-in_ok-text-in-Express-clause-later
 form-returns-in_ok-text-in-Express-clause-later g t c = c.express.ensures.later
@@ -704,23 +719,31 @@ pub other_command-procedure-requires-text-name : goal.other_command-procedure-re
 other_command-procedure-requires-text-name g t c κs = search rules
 
 pub other_command-returns-in-None-clause-comes : goal.other_command-returns-in-None-clause-comes
-other_command-returns-in-None-clause-comes g t c = λ k. rw (← c.in-None.ensures) (c.unknown.ensures c.args.limits.commands c.args.self.now.used (bounds c.args.limits.value_bytes c.args.left) (rule c.args.limits.value_bytes) k)
+other_command-returns-in-None-clause-comes g t c =
+    let a = c.unknown.ensures in
+    (a.0, a.1, λ k. rw (← c.in-None.ensures) (a.2 c.args.limits.commands c.args.self.now.used (bounds c.args.limits.value_bytes c.args.left) (rule c.args.limits.value_bytes) k))
 
 pub other_command-returns-in-None-clause-later : goal.other_command-returns-in-None-clause-later
 other_command-returns-in-None-clause-later g t c = later_refl
 
 pub other_command-returns-in_err-procedure-in-Some-clause-comes : goal.other_command-returns-in_err-procedure-in-Some-clause-comes
-other_command-returns-in_err-procedure-in-Some-clause-comes g t c = λ k. starved_end _ _ _ c.from_residual.ensures.1
+other_command-returns-in_err-procedure-in-Some-clause-comes g t c =
+    comes_stopped _ _ _ _ _ c.from_residual.ensures.1 (λ k. starve)
 
 pub other_command-returns-in_err-procedure-in-Some-clause-later : goal.other_command-returns-in_err-procedure-in-Some-clause-later
 other_command-returns-in_err-procedure-in-Some-clause-later g t c = later_refl
 
 pub other_command-returns-in_ok-procedure-in-Some-clause-comes : goal.other_command-returns-in_ok-procedure-in-Some-clause-comes
-other_command-returns-in_ok-procedure-in-Some-clause-comes g t c = λ k.
+other_command-returns-in_ok-procedure-in-Some-clause-comes g t c =
     let d = c.deref.ensures in
     let q = c.in_ok-procedure-in-Some.ensures in
-    let h = rw (d, q.cases) at (c.call.ensures.comes k) in
-    rw (← c.in-Some.ensures) h
+    let w = c.within.ensures c.args.wanted c.call.new.self.variables in (
+      w.0,
+      w.1,
+      λ k.
+          let h = rw (d, q.cases) at (c.call.ensures.comes (sized_next c.args.limits.value_bytes k)) in
+          rw (← c.in-Some.ensures) (go_on h (w.2 _ _ k _)),
+    )
 
 pub other_command-returns-in_ok-procedure-in-Some-clause-later : goal.other_command-returns-in_ok-procedure-in-Some-clause-later
 other_command-returns-in_ok-procedure-in-Some-clause-later g t c = c.call.ensures.later
@@ -729,13 +752,16 @@ pub other_command-unknown-requires : goal.other_command-unknown-requires
 other_command-unknown-requires g t c = search rules
 
 pub otherwise-returns-in-None-clause-comes : goal.otherwise-returns-in-None-clause-comes
-otherwise-returns-in-None-clause-comes g t c = λ k. rw (c.in-None.is, c.new.ensures.bytes) stay
+otherwise-returns-in-None-clause-comes g t c =
+    ([], (omega arith, λ q. c.new.ensures.bytes), λ k. rw c.in-None.is (sized_on c.args.limits.value_bytes [] (k [] c.args.self.now.variables) (omega arith)))
 
 pub otherwise-returns-in-None-clause-later : goal.otherwise-returns-in-None-clause-later
 otherwise-returns-in-None-clause-later g t c = later_refl
 
 pub otherwise-returns-in-Some-clause-comes : goal.otherwise-returns-in-Some-clause-comes
-otherwise-returns-in-Some-clause-comes g t c = λ k. rw c.in-Some.is (run_normal _ _ _ c.script.ensures.comes)
+otherwise-returns-in-Some-clause-comes g t c =
+    let n = run_comes {j = plans.Script c.args.left c.in-Some.body.now c.args.self.now.variables} _ _ _ _ c.script.ensures.comes in
+    (n.0, n.1, λ k. rw c.in-Some.is (n.2 k))
 
 pub otherwise-returns-in-Some-clause-later : goal.otherwise-returns-in-Some-clause-later
 otherwise-returns-in-Some-clause-later g t c = c.script.ensures.later
@@ -750,7 +776,7 @@ pub script-overflow_sub-left : goal.script-overflow_sub-left
 script-overflow_sub-left g t c = omega arith
 
 pub script-returns-in-Err-clause-comes : goal.script-returns-in-Err-clause-comes
-script-returns-in-Err-clause-comes g t c = rw c.of_text.ensures (go_on (begin_on _ _ c.if-left-eq0.false) (text_stops _ _ _ _ c.in-Err.ensures.tree))
+script-returns-in-Err-clause-comes g t c = ([], tt, rw c.of_text.ensures (go_on (begin_on _ _ c.if-left-eq0.false) (text_stops _ _ _ _ c.in-Err.ensures.tree)))
 
 pub script-returns-in-Err-clause-later : goal.script-returns-in-Err-clause-later
 script-returns-in-Err-clause-later g t c = later_begun refl c.script_tree.ensures.begins
@@ -758,13 +784,13 @@ script-returns-in-Err-clause-later g t c = later_begun refl c.script_tree.ensure
 pub script-returns-in-Ok-clause-comes : goal.script-returns-in-Ok-clause-comes
 script-returns-in-Ok-clause-comes g t c =
     let h = rw (c.as_str.ensures.value, c.deref.ensures, c.deref-in-Ok.ensures) at c.commands.ensures.comes in
-    rw c.in-Ok.ensures.tree (go_on (begin_on _ _ c.if-left-eq0.false) h)
+    (h.0, h.1, rw c.in-Ok.ensures.tree (go_on (begin_on _ _ c.if-left-eq0.false) h.2))
 
 pub script-returns-in-Ok-clause-later : goal.script-returns-in-Ok-clause-later
 script-returns-in-Ok-clause-later g t c = later_parsed refl c.script_tree.ensures.begins c.commands.ensures.later
 
 pub script-returns-then-left-eq0-clause-comes : goal.script-returns-then-left-eq0-clause-comes
-script-returns-then-left-eq0-clause-comes g t c = begin_stops _ _ c.if-left-eq0.true
+script-returns-then-left-eq0-clause-comes g t c = ([], tt, begin_stops _ _ c.if-left-eq0.true)
 
 pub script-returns-then-left-eq0-clause-later : goal.script-returns-then-left-eq0-clause-later
 script-returns-then-left-eq0-clause-later g t c = later_refl
@@ -776,7 +802,7 @@ pub turn-returns-clause-comes : goal.turn-returns-clause-comes
 turn-returns-clause-comes g t c = λ again.
     let h = c.in_ok-count.ensures in
     let r = rw (h.variables, h.counted.1) at c.script.ensures.comes in
-    same_as (c.after_turn.ensures again _) (go_on (count_on h.counted.0) (run_after _ _ _ r))
+    same_as (c.after_turn.ensures again _) (go_on (count_on h.counted.0) (run_turn again _ _ _ r))
 
 pub turn-returns-clause-counted : goal.turn-returns-clause-counted
 turn-returns-clause-counted g t c =
@@ -906,7 +932,7 @@ words-loop-word-preserved g t c = record {
       let item = out-Word ByteRange c.word-item.result in
       let rest = words_of (map (word_view (shown c.args.source.now)) (drop (c.loop-word.word-index + 1) c.args.words.now)) in
       let next = λ (t : Text) (s' : State). given (expanded item.expands t) s' (λ ts. pieces.words b rest (map string_bytes c.loop-word.texts.items ++ ts) s' k) in
-      let w = rw (c.new.ensures.bytes, c.as_slice.ensures.value) at (c.in_ok-text.ensures.comes next) in
+      let w = rw c.as_slice.ensures.value at (c.in_ok-text.ensures.comes next) in
       let p = c.in_ok-push_words.ensures in
       rw p.2 (go_on (go_on l w) (given_on _ _ _ _ p.1));
   later = later_on c.loop-word.invariant.later c.in_ok-text.ensures.later;
@@ -934,7 +960,7 @@ words-returns-in_err-push_words-clause-comes g t c = λ k.
     let item = out-Word ByteRange c.word-item.result in
     let rest = words_of (map (word_view (shown c.args.source.now)) (drop (c.loop-word.word-index + 1) c.args.words.now)) in
     let next = λ (t : Text) (s' : State). given (expanded item.expands t) s' (λ ts. pieces.words b rest (map string_bytes c.loop-word.texts.items ++ ts) s' k) in
-    let w = rw (c.new.ensures.bytes, c.as_slice.ensures.value) at (c.in_ok-text.ensures.comes next) in
+    let w = rw c.as_slice.ensures.value at (c.in_ok-text.ensures.comes next) in
     go_on (go_on l w) (value_stops _ _ _ _ _ _ c.from_residual-in_err-push_words.ensures.1 c.in_err-push_words.ensures)
 
 pub words-returns-in_err-push_words-clause-later : goal.words-returns-in_err-push_words-clause-later
@@ -948,14 +974,14 @@ words-returns-in_err-text-clause-comes g t c = λ k.
     let item = out-Word ByteRange c.word-item.result in
     let rest = words_of (map (word_view (shown c.args.source.now)) (drop (c.loop-word.word-index + 1) c.args.words.now)) in
     let next = λ (t : Text) (s' : State). given (expanded item.expands t) s' (λ ts. pieces.words b rest (map string_bytes c.loop-word.texts.items ++ ts) s' k) in
-    let w = rw (c.new.ensures.bytes, c.as_slice.ensures.value) at (c.in_err-text.ensures.comes next) in
+    let w = rw c.as_slice.ensures.value at (c.in_err-text.ensures.comes next) in
     passed_on _ _ _ _ c.from_residual.ensures.1 (go_on l w)
 
 pub words-returns-in_err-text-clause-later : goal.words-returns-in_err-text-clause-later
 words-returns-in_err-text-clause-later g t c = later_on c.loop-word.invariant.later c.in_err-text.ensures.later
 
-pub words-value-requires : goal.words-value-requires
-words-value-requires g t c κs within = search rules
+pub words-word-requires : goal.words-word-requires
+words-word-requires g t c κs within = search rules
 
 pub other_command-unknown-requires-text-name : goal.other_command-unknown-requires-text-name
 other_command-unknown-requires-text-name g t c κs = search rules
@@ -1029,17 +1055,17 @@ form-while_turns-requires-text-condition g t c κs within = search rules
 pub form-while_turns-requires-text-body : goal.form-while_turns-requires-text-body
 form-while_turns-requires-text-body g t c κs within = search rules
 
-pub form-for_loop-requires-text-start : goal.form-for_loop-requires-text-start
-form-for_loop-requires-text-start g t c κs within = search rules
+pub form-for_loop-outcome-requires-text-start : goal.form-for_loop-outcome-requires-text-start
+form-for_loop-outcome-requires-text-start g t c κs within = search rules
 
-pub form-for_loop-requires-text-condition : goal.form-for_loop-requires-text-condition
-form-for_loop-requires-text-condition g t c κs within = search rules
+pub form-for_loop-outcome-requires-text-condition : goal.form-for_loop-outcome-requires-text-condition
+form-for_loop-outcome-requires-text-condition g t c κs within = search rules
 
-pub form-for_loop-requires-text-next : goal.form-for_loop-requires-text-next
-form-for_loop-requires-text-next g t c κs within = search rules
+pub form-for_loop-outcome-requires-text-next : goal.form-for_loop-outcome-requires-text-next
+form-for_loop-outcome-requires-text-next g t c κs within = search rules
 
-pub form-for_loop-requires-text-body : goal.form-for_loop-requires-text-body
-form-for_loop-requires-text-body g t c κs within = search rules
+pub form-for_loop-outcome-requires-text-body : goal.form-for_loop-outcome-requires-text-body
+form-for_loop-outcome-requires-text-body g t c κs within = search rules
 
 pub form-foreach-requires-text-body : goal.form-foreach-requires-text-body
 form-foreach-requires-text-body g t c κs within = search rules
@@ -1074,5 +1100,37 @@ while_turns-guarded_turn-requires-text-condition g t c κs within = search rules
 pub while_turns-guarded_turn-requires-text-body : goal.while_turns-guarded_turn-requires-text-body
 while_turns-guarded_turn-requires-text-body g t c κs within = search rules
 
-pub words-value-requires-text-source : goal.words-value-requires-text-source
-words-value-requires-text-source g t c κs within = search rules
+pub words-word-requires-text-source : goal.words-word-requires-text-source
+words-word-requires-text-source g t c κs within = search rules
+
+pub word-value-requires : goal.word-value-requires
+word-value-requires g t c κs within = search rules
+
+pub word-value-requires-text-source : goal.word-value-requires-text-source
+word-value-requires-text-source g t c κs within = search rules
+
+pub word-returns-clause-comes : goal.word-returns-clause-comes
+word-returns-clause-comes g t c = λ k. rw c.new.ensures.bytes at (c.value.ensures.comes k)
+
+pub word-returns-clause-later : goal.word-returns-clause-later
+word-returns-clause-later g t c = c.value.ensures.later
+
+pub word-returns-in-Some-clause-comes : goal.word-returns-in-Some-clause-comes
+word-returns-in-Some-clause-comes g t c = λ k.
+    let e = c.in_ok-text.ensures.ok ∙ c.of.ensures in
+    rw (c.in-Some.ensures c.args.source.now, ← e) (c.sized.ensures.comes _ _ k _ _)
+
+pub word-returns-in-Some-clause-later : goal.word-returns-in-Some-clause-later
+word-returns-in-Some-clause-later g t c = later_refl
+
+pub word-returns-in_err-text-clause-comes : goal.word-returns-in_err-text-clause-comes
+word-returns-in_err-text-clause-comes g t c = λ k. starved_end _ _ _ c.from_residual.ensures.1
+
+pub word-returns-in_err-text-clause-later : goal.word-returns-in_err-text-clause-later
+word-returns-in_err-text-clause-later g t c = later_refl
+
+pub word-of-requires-text-text : goal.word-of-requires-text-text
+word-of-requires-text-text g t c κs = search rules
+
+pub word-from_str-requires-text-s : goal.word-from_str-requires-text-s
+word-from_str-requires-text-s g t c κs = search rules

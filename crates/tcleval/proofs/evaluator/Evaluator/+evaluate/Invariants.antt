@@ -1,4 +1,4 @@
-use Rattle.std.proofs.Common.{◌≡◌, ◌<◌, [], Bool, true, List, map, option_map, reverse, drop, IfOk, string_bytes, ℕ, ◌+◌, ◌-◌, ◌*◌, ◌≤◌, length}
+use Rattle.std.proofs.Common.{◌≡◌, ◌<◌, [], Bool, true, List, map, option_map, reverse, drop, IfOk, Ok, string_bytes, ℕ, ◌+◌, ◌-◌, ◌*◌, ◌≤◌, length}
 use Rattle.tclchars.specs.Runs.{Text}
 use Rattle.tclscript.specs.Tree.{commands_of, words_of}
 use Rattle.tclscript.specs.View.{script_view, command_view, word_view}
@@ -14,6 +14,7 @@ use Rattle.tclrules.specs.Plans.{Next, on_normal, sized}
 use Rattle.tclrules.specs.Rules.{rule}
 use Rattle.tclforms.specs.Views.{pair_texts}
 use Rattle.tclsteps.specs.Machine.{shown, bounds, control_plan, behind_all, control_weight, frames_weight}
+use Rattle.tcleval.specs.Runs.{Comes}
 use Rattle.tcleval.specs.Later.{Later}
 use Rattle.tcleval.proofs.evaluator.Evaluator.+evaluate.Given as goal
 
@@ -78,7 +79,10 @@ abbrev pub decreases-foreach_turns : goal.decreases-foreach_turns
 decreases-foreach_turns g l = 16 * l.left + 4
 
 abbrev pub decreases-words : goal.decreases-words
-decreases-words g l = 16 * l.left + 2
+decreases-words g l = 16 * l.left + 3
+
+abbrev pub decreases-word : goal.decreases-word
+decreases-word g l = 16 * l.left + 2
 
 abbrev pub decreases-command : goal.decreases-command
 decreases-command g l = 16 * l.left + 10
@@ -104,7 +108,7 @@ invariant-commands-loop-command g l =
     let b = bounds l.limits.value_bytes l.left in
     let view = map (command_view (shown l.source)) in
     record {
-      comes : Leads l.limits.commands (rule l.limits.value_bytes) (rules.commands b (script_view (shown l.source) l.script) [] l.fn.self.variables) (point (o l.fn.host) (t l.fn.host) l.fn.self.used) (rules.commands b (commands_of (view (drop l.command-index (out-Script ByteRange l.script).commands.items))) (string_bytes l.last) l.self.variables) (point (o l.host) (t l.host) l.self.used);
+      comes : Comes l.wanted l.limits.value_bytes (Ok l.last) (λ u. Leads l.limits.commands (rule l.limits.value_bytes) (rules.commands b (script_view (shown l.source) l.script) [] l.fn.self.variables) (point (o l.fn.host) (t l.fn.host) l.fn.self.used) (rules.commands b (commands_of (view (drop l.command-index (out-Script ByteRange l.script).commands.items))) u l.self.variables) (point (o l.host) (t l.host) l.self.used));
       later : Later l.fn.self l.self;
     }
 

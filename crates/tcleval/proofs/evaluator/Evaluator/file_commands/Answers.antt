@@ -49,7 +49,7 @@ returns-in_err-last-clause-comes g c =
     let d = drop_here _ _ _ (rw s at c.loop-command-test.true) (rw s at c.command-item.is) in
     let l = rw (d, command_place (shown c.args.source.now) c.command-item.result) at c.loop-command.invariant.comes in
     let rest = commands_of (map view (drop (c.loop-command.command-index + 1) (out-Script ByteRange c.args.script.now).commands.items)) in
-    let w = rw c.at_place.ensures at (c.in_err-last.ensures.comes (λ (u : Text) (s2 : State). table.file_commands b rest u s2)) in
+    let w = rw c.at_place.ensures at (c.in_err-last.ensures.comes.2 (λ (u : Text) (s2 : State). table.file_commands b rest u s2)) in
     passed_on _ _ _ _ c.from_residual.ensures.1 (go_on l w)
 
 pub loop-command-preserved : goal.loop-command-preserved
@@ -60,8 +60,8 @@ loop-command-preserved g c =
     let d = drop_here _ _ _ (rw s at c.loop-command-test.true) (rw s at c.command-item.is) in
     let l = rw (d, command_place (shown c.args.source.now) c.command-item.result) at c.loop-command.invariant.comes in
     let rest = commands_of (map view (drop (c.loop-command.command-index + 1) (out-Script ByteRange c.args.script.now).commands.items)) in
-    let w = rw c.at_place.ensures at (c.in_ok-last.ensures.comes (λ (u : Text) (s2 : State). table.file_commands b rest u s2)) in
-    record { comes = go_on l w; later = later_on c.loop-command.invariant.later (later_beside refl refl refl refl c.in_ok-last.ensures.later) }
+    let w = rw c.at_place.ensures at (c.in_ok-last.ensures.comes.2 (λ (u : Text) (s2 : State). table.file_commands b rest u s2)) in
+    record { comes = rw (c.in_ok-last.ensures.comes.1.1 refl) (go_on l w); later = later_on c.loop-command.invariant.later (later_beside refl refl refl refl c.in_ok-last.ensures.later) }
 
 pub returns-clause-comes : goal.returns-clause-comes
 returns-clause-comes g c =
