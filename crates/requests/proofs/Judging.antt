@@ -13,6 +13,8 @@ use Rattle.requests.specs.Refusals.{RefusedAs}
 use Rattle.requests.specs.Reasons.{stopped}
 use Rattle.requests.specs.Steps.{Site, entries_of, Finds}
 use Rattle.requests.specs.Verdicts.{plain, asking, one_way, verdict_of, judged_in, OneVerdict, PlainHolds}
+use Rattle.requests.specs.PlainRuns.{JudgedIsPlain}
+use Rattle.requests.proofs.Origins.{found_script}
 use Rattle.requests.proofs.Bound.{went_on, kept_ok}
 use Rattle.requests.proofs.OneStep.{OneLeft, one_run, one_finds}
 
@@ -40,3 +42,13 @@ plain_holds agree s e name h =
     let same : plain ≡ verdict_of ran = (let q : Ok plain ≡ Ok (verdict_of ran) = h3 in cc) in
     let p = plain_parts ran.asked (list_all is_reversible ran.records) same in
     (m, ran, found, p.1, (λ d o n q r. agree s.limits c d m.text ran o (as_ok c s m.text ran runs) p.0 n q r))
+
+pub judged_is_plain : JudgedIsPlain
+judged_is_plain s e name h =
+    let (xs, read, h1) = went_on (Is (entries_of e)) _ plain h in
+    let (m, found, h2) = went_on (Finds s e name) _ plain h1 in
+    let (ran, runs, h3) = went_on _ _ plain h2 in
+    let c = judged_in s name m xs e in
+    let same : plain ≡ verdict_of ran = (let q : Ok plain ≡ Ok (verdict_of ran) = h3 in cc) in
+    let p = plain_parts ran.asked (list_all is_reversible ran.records) same in
+    (m, found, (ran, record { text = m.text; file = found_script s e name m found; context = c; named = refl; placed = refl; runs = as_ok c s m.text ran runs }, p.0))

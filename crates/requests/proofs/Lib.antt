@@ -7,4 +7,7 @@ mod Reporting
 mod SessionMoves
 mod Undone
 mod Returned
+mod FoundText
+mod Origins
+mod PlainMoves
 mod Judging

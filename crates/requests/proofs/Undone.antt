@@ -15,18 +15,21 @@ use Rattle.reversal.specs.Runs.{live_named, without_live, AreFit, Undoes, AreRev
 use Rattle.reversal.specs.Laws.{StepsKeep}
 use Rattle.requests.specs.Returning.{IsNew, AreNew, HasLoadRecords, AreFitting}
 
+pub entries_read : (e : Environment) (o : AreLoadedInOrder e) → loaded_in e ≡ Some o.entries
+entries_read e o = subst (λ (x : Environment). loaded_in x ≡ Some o.entries) o.written (loaded_again e o.entries o.list)
+
 pub entries_at : (e : Environment) → AreLoadedInOrder e → (xs : List Entry) × (loaded_in e ≡ Some xs)
-entries_at e o = (o.entries, subst (λ (x : Environment). loaded_in x ≡ Some o.entries) o.written (loaded_again e o.entries o.list))
+entries_at e o = (o.entries, entries_read e o)
 
 -- the entry is that of the module
-abbrev is_entry_of : Module → Entry → Bool
+abbrev pub is_entry_of : Module → Entry → Bool
 is_entry_of m x = bytes_eq m.name x.name && bytes_eq m.path x.path
 
 not_among_step : (a b c d : Bool) → (a || c) ≡ false → ((a && b) || d) ≡ true → (c ≡ false → d ≡ true → false ≡ true) → false ≡ true
 not_among_step true b c d h k r = sym h
 not_among_step false b c d h k r = r h k
 
-not_among : (m : Module) (xs : List Entry) → has m.name (names_of xs) ≡ false → list_any (is_entry_of m) xs ≡ true → false ≡ true
+pub not_among : (m : Module) (xs : List Entry) → has m.name (names_of xs) ≡ false → list_any (is_entry_of m) xs ≡ true → false ≡ true
 not_among m [] h k = k
 not_among m (x ∷ xs) h k = not_among_step (bytes_eq m.name x.name) (bytes_eq m.path x.path) (has m.name (names_of xs)) (list_any (is_entry_of m) xs) h k (not_among m xs)
 
@@ -41,10 +44,10 @@ live_among m xs (n ∷ live) h k =
     live_step m n live (bytes_eq m.name n.name) (list_any (is_entry_of m) (entries_over xs live))
     (sym (list_any-append (is_entry_of m) (entries_over xs live) (entry_of n ∷ [])) ∙ k) (live_among m xs live h)
 
-same_list : (xs ys : List Entry) → Some xs ≡ Some ys → xs ≡ ys
+pub same_list : (xs ys : List Entry) → Some xs ≡ Some ys → xs ≡ ys
 same_list xs ys e = cc
 
-undoes : (ways : Text → Way) (start old : Environment) (bs : List Entry) (live : List Module) (m : Module) → loaded_in start ≡ Some bs → Stands ways start live old → IsNew start (Unloads m) → HasLoadRecords live m → Fits (Unloads m) old → Undoes live m
+pub undoes : (ways : Text → Way) (start old : Environment) (bs : List Entry) (live : List Module) (m : Module) → loaded_in start ≡ Some bs → Stands ways start live old → IsNew start (Unloads m) → HasLoadRecords live m → Fits (Unloads m) old → Undoes live m
 undoes ways start old bs live m list stands new records (xs, read, any) =
     let same : xs ≡ entries_over bs live = same_list xs (entries_over bs live) (sym read ∙ stands.entries bs list) in
     let l = live_among m bs live (new bs list) (subst (λ (ys : List Entry). list_any (is_entry_of m) ys ≡ true) same any) in

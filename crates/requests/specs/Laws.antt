@@ -14,6 +14,7 @@ use Rattle.requests.specs.Requests.{Asked, Request, load, unload, switch, purge,
 use Rattle.requests.specs.Steps.{Site, Done, Step}
 use Rattle.requests.specs.Sessions.{Response, Session, left_by, outcome_of, session_moves, is_told}
 use Rattle.requests.specs.Returning.{AreNew, AreFitting}
+use Rattle.requests.specs.PlainRuns.{ArePlain}
 
 -- A request has one outcome at most.
 abbrev pub OneOutcome : Type 0
@@ -90,6 +91,14 @@ SessionsReturn =
     (ways : Text → Way) (s : Site) (start : Environment) (rs : List Request) (before after : List Response)
     → IsStart ways start → Session s start rs (before ++ after)
     → AreNew start (session_moves (before ++ after)) → AreFitting ways [] (session_moves (before ++ after))
+    → Holds ways start (live_after [] (session_moves before)) (left_by start before)
+
+-- The same where the files of the modules are plain: nothing is asked of the records of unloads.
+abbrev pub PlainSessionsReturn : Type 0
+PlainSessionsReturn =
+    (ways : Text → Way) (s : Site) (start : Environment) (rs : List Request) (before after : List Response)
+    → IsStart ways start → Session s start rs (before ++ after)
+    → AreNew start (session_moves (before ++ after)) → ArePlain s ways [] (session_moves (before ++ after))
     → Holds ways start (live_after [] (session_moves before)) (left_by start before)
 
 -- One command, which knows no history: from an environment that is in order and stands over a start in order. What it

@@ -8,5 +8,6 @@ pub mod Steps
 pub mod Sessions
 pub mod Verdicts
 pub mod Returning
+pub mod PlainRuns
 pub mod Laws
 pub mod Rows

@@ -1,6 +1,7 @@
 //! Laws about the definitions alone. Each is a function that does nothing: its contract is the law.
 ghost use Rattle.requests.specs.Laws.{OneOutcome, SomeOutcome, StepsLead, StepsAreMade, ReportsLeave};
-ghost use Rattle.requests.specs.Laws.{SessionsRun, SessionsLead, OneSession, SessionsReturn, CommandsReturn};
+ghost use Rattle.requests.specs.Laws.{SessionsRun, SessionsLead, OneSession, SessionsReturn, PlainSessionsReturn, CommandsReturn};
+ghost use Rattle.requests.specs.PlainRuns.{JudgedIsPlain};
 ghost use Rattle.requests.specs.Verdicts.{OneVerdict, PlainHolds};
 
 /// A request has one outcome at most. The moves of an accepted one lead from the environment to what it leaves, and
@@ -51,6 +52,17 @@ pub fn session_returns()
     reversal::laws::steps();
 }
 
+/// The same of modules whose files are plain: that the records of an unload are those of the load is then no premise.
+pub fn plain_session_returns()
+    ensures { PlainSessionsReturn }
+{
+    sessions();
+    session_returns();
+    modulefile::plain();
+    reversal::laws::runs();
+    reversal::laws::steps();
+}
+
 /// The same of one command, which knows no history: from an environment that is in order and stands over a start in
 /// order.
 pub fn command_returns()
@@ -65,6 +77,7 @@ pub fn command_returns()
 pub fn verdicts()
     ensures one { OneVerdict }
     ensures plain { PlainHolds }
+    ensures file { JudgedIsPlain }
 {
     modulefile::files();
     modulefile::plain();

@@ -1,4 +1,4 @@
-use Rattle.requests.proofs.Judging.{one_verdict, plain_holds}
+use Rattle.requests.proofs.Judging.{one_verdict, plain_holds, judged_is_plain}
 use Rattle.requests.proofs.laws.verdicts.Goals as goal
 
 pub returns-clause-one : goal.returns-clause-one
@@ -6,3 +6,6 @@ returns-clause-one c = one_verdict c.files.ensures.one c.one_left.ensures
 
 pub returns-clause-plain : goal.returns-clause-plain
 returns-clause-plain c = plain_holds c.plain.ensures
+
+pub returns-clause-file : goal.returns-clause-file
+returns-clause-file c = judged_is_plain

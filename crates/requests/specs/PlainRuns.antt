@@ -1,0 +1,38 @@
+-- Runs of modules whose files are plain: that the records of an unload are those of the load is then no premise.
+use Rattle.std.specs.Prelude.{◌≡◌, false, List, [], ◌∷◌, Ok}
+use Rattle.environment.specs.Texts.{Text}
+use Rattle.environment.specs.Environment.{Environment}
+use Rattle.lookup.specs.Search.{script, modulefile}
+use Rattle.modulerecords.specs.Moves.{Module, Move, Loads, Unloads}
+use Rattle.modulefile.specs.Answers.{Context}
+use Rattle.modulefile.specs.Files.{Ran, Runs}
+use Rattle.reversal.specs.Ways.{Way}
+use Rattle.reversal.specs.Runs.{without_live, IsFit}
+use Rattle.modulesearch.specs.Found as search
+use Rattle.requests.specs.Steps.{Site, Finds}
+use Rattle.requests.specs.Verdicts.{plain, Judged}
+
+-- an evaluation of the file at this path, as the module of this name, left this
+pub record HasLeft (s : Site) (name path : Text) (ran : Ran) : Type 0 where
+  pub text : Text
+  pub file : modulefile (s.files path) ≡ script text
+  pub context : Context
+  pub named : context.name ≡ name
+  pub placed : context.path ≡ path
+  pub runs : Runs s.limits context text (Ok ran)
+
+-- One of them asked nothing.
+abbrev pub IsPlain : Site → Text → Text → Type 0
+IsPlain s name path = (ran : Ran) × HasLeft s name path ran × (ran.asked ≡ false)
+
+-- Each load is of a module that is reversible and apart from the live ones, and whose file is plain.
+abbrev pub ArePlain : Site → (Text → Way) → List Module → List Move → Type 0
+ArePlain s ways live [] = Unit {0}
+ArePlain s ways live (Loads m ∷ ms) = (IsFit ways live m × IsPlain s m.name m.path) × ArePlain s ways (m ∷ live) ms
+ArePlain s ways live (Unloads m ∷ ms) = ArePlain s ways (without_live m.name live) ms
+
+-- A module that is judged plain is one.
+abbrev pub JudgedIsPlain : Type 0
+JudgedIsPlain =
+    (s : Site) (e : Environment) (name : Text) → Judged s e name (Ok plain)
+    → (m : search.Module) × Finds s e name (Ok m) × IsPlain s m.name m.path
