@@ -13,16 +13,16 @@ use crate::vars::Vars;
 use std::alloc::{AllocError, Global};
 
 /// Whether the variable has another value, or is set in one of the two alone.
-fn differs<V: Vars>(old: &Env, new: &V, name: &str) -> bool
-    ensures { result ≡ not (same_value (lookup old.now name.now) (lookup (V.vars new.now) name.now)) }
+fn differs<B: Vars, V: Vars>(old: &B, new: &V, name: &str) -> bool
+    ensures { result ≡ not (same_value (lookup (B.vars old.now) name.now) (lookup (V.vars new.now) name.now)) }
 {
     old.get(name) != new.get(name)
 }
 
 /// Leaves the names whose values differ.
-fn keep_differing<V: Vars>(names: &mut Vec<&str>, old: &Env, new: &V)
+fn keep_differing<B: Vars, V: Vars>(names: &mut Vec<&str>, old: &B, new: &V)
     ensures { shown names.new.items
-        ≡ filter (λ n. not (same_value (lookup old.now n) (lookup (V.vars new.now) n))) (shown names.old.items) }
+        ≡ filter (λ n. not (same_value (lookup (B.vars old.now) n) (lookup (V.vars new.now) n))) (shown names.old.items) }
 {
     names.retain(|name| differs(old, new, *name));
 }
@@ -48,15 +48,15 @@ fn changes_to<V: Vars>(alloc: Global, new: &V, names: &[&str]) -> Result<Vec<Cha
 }
 
 /// What differs, where the values of all other names are the same.
-pub(crate) fn changes_among<V: Vars>(
+pub(crate) fn changes_among<B: Vars, V: Vars>(
     alloc: Global,
-    old: &Env,
+    old: &B,
     new: &V,
     names: Vec<&str>,
 ) -> Result<Vec<Change>, AllocError>
     requires { (n : Text) → has n (shown names.items) ≡ false
-        → lookup old.now n ≡ lookup (V.vars new.now) n }
-    ensures { IfOk result (λ v. AreChanges old.now (V.vars new.now) (edits_in v)) }
+        → lookup (B.vars old.now) n ≡ lookup (V.vars new.now) n }
+    ensures { IfOk result (λ v. AreChanges (B.vars old.now) (V.vars new.now) (edits_in v)) }
 {
     let mut names = names;
     keep_differing(&mut names, old, new);

@@ -10,26 +10,30 @@ use crate::fault::EnvFault;
 use crate::table::{Table, enter, found, make_changes, names_of};
 use crate::vars::Vars;
 use indexmap::IndexMap;
+use std::alloc::Global;
 use std::marker::Model;
 
-/// Changes over an environment that stays as it is. An edit costs what it touches, whatever else is set.
-pub struct Working<'a> {
-    old: &'a Env,
+/// Changes over an environment that stays as it is, another working one perhaps. An edit costs what it touches, whatever else is
+/// set.
+pub struct Working<'a, B: Vars = Env> {
+    old: &'a B,
     /// The names that were touched, with their values now.
     touched: Table,
+    alloc: Global,
 }
 
 // Not derived, as for `Env`.
-impl<'a> Drop for Working<'a> {
+impl<'a, B: Vars> Drop for Working<'a, B> {
     fn drop(self) {
         let Working {
             old: _old,
             touched: _touched,
+            alloc: _alloc,
         } = self;
     }
 }
 
-impl<'a> Model for Working<'a> {
+impl<'a, B: Vars> Model for Working<'a, B> {
     ghost use Rattle.environment.specs.Tables.{written_over};
     ghost use Rattle.environment.specs.Edited.{Edited, edited_code};
 
@@ -37,18 +41,29 @@ impl<'a> Model for Working<'a> {
 
     ghost coded = { edited_code };
 
-    ghost view = { λ a. record { old = a.old.now; new = written_over a.old.now a.touched.entries } };
+    ghost view = { λ a. record { old = B.vars a.old.now; new = written_over (B.vars a.old.now) a.touched.entries } };
 }
 
-impl<'a> Working<'a> {
+impl<'a> Working<'a, Env> {
     /// The environment as it is, with no changes.
     pub fn over(old: &'a Env) -> Self
         ensures old { result.old ≡ old.entry.now }
         ensures new { result.new ≡ old.entry.now }
     {
+        Working::upon(old.alloc(), old)
+    }
+}
+
+impl<'a, B: Vars> Working<'a, B> {
+    /// The variables as they are, with no changes.
+    pub fn upon(alloc: Global, old: &'a B) -> Self
+        ensures old { result.old ≡ B.vars old.entry.now }
+        ensures new { result.new ≡ B.vars old.entry.now }
+    {
         Working {
             old,
-            touched: IndexMap::new(old.alloc()),
+            touched: IndexMap::new(alloc),
+            alloc,
         }
     }
 
@@ -58,13 +73,13 @@ impl<'a> Working<'a> {
         ensures ok { IfOk result (λ v. AreChanges self.entry.old self.entry.new (edits_in v)) }
         ensures only { IfErr result (λ e. e ≡ OutOfMemory) }
     {
-        let alloc = self.old.alloc();
+        let alloc = self.alloc;
         let names = names_of(alloc, &self.touched)?;
         Ok(changes_among(alloc, self.old, &self, names)?)
     }
 }
 
-impl<'a> Vars for Working<'a> {
+impl<'a, B: Vars> Vars for Working<'a, B> {
     ghost vars = { λ working. working.new };
 
     ghost under = { λ working. working.old };
@@ -77,12 +92,12 @@ impl<'a> Vars for Working<'a> {
     }
 
     fn set(&mut self, name: &str, value: &str) -> Result<(), EnvFault> {
-        enter(self.old.alloc(), &mut self.touched, name, Some(value))?;
+        enter(self.alloc, &mut self.touched, name, Some(value))?;
         Ok(())
     }
 
     fn unset(&mut self, name: &str) -> Result<(), EnvFault> {
-        enter(self.old.alloc(), &mut self.touched, name, None)?;
+        enter(self.alloc, &mut self.touched, name, None)?;
         Ok(())
     }
 

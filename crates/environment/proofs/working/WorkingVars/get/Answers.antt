@@ -5,7 +5,7 @@ use Rattle.environment.proofs.TableLemmas.{found_over}
 use Rattle.environment.proofs.working.WorkingVars.get.Goals as goal
 
 pub returns-in-Some : goal.returns-in-Some
-returns-in-Some c = found_over c.self.inside.old.now c.args.self.now.new c.self.inside.touched c.args.name.now (Some (option_map (λ x. x.now) c.in-Some.value)) _ (ap (λ (e : Edited). e.new) c.self.view_is) c.in-Some.ensures refl
+returns-in-Some g c = found_over (g.B.Vars.vars c.self.inside.old.now) c.args.self.now.new c.self.inside.touched c.args.name.now (Some (option_map (λ x. x.now) c.in-Some.value)) _ (ap (λ (e : Edited). e.new) c.self.view_is) c.in-Some.ensures refl
 
 pub returns-in-None : goal.returns-in-None
-returns-in-None c = found_over c.self.inside.old.now c.args.self.now.new c.self.inside.touched c.args.name.now None _ (ap (λ (e : Edited). e.new) c.self.view_is) c.in-None.ensures c.get.ensures
+returns-in-None g c = found_over (g.B.Vars.vars c.self.inside.old.now) c.args.self.now.new c.self.inside.touched c.args.name.now None _ (ap (λ (e : Edited). e.new) c.self.view_is) c.in-None.ensures c.get.ensures

@@ -6,9 +6,9 @@ use Rattle.environment.proofs.TableLemmas.{kept_over, entered_over}
 use Rattle.environment.proofs.working.WorkingVars.unset.Goals as goal
 
 pub returns-in_err-enter-clause-err : goal.returns-in_err-enter-clause-err
-returns-in_err-enter-clause-err c = refused c.from_residual.result _ (kept_over c.self.inside.old.now c.self.inside.touched c.enter.new.table c.in_err-enter.ensures.err ∙ ap (λ (e : Edited). e.new) c.self.view_is)
+returns-in_err-enter-clause-err g c = refused c.from_residual.result _ (kept_over (g.B.Vars.vars c.self.inside.old.now) c.self.inside.touched c.enter.new.table c.in_err-enter.ensures.err ∙ ap (λ (e : Edited). e.new) c.self.view_is)
 
 pub returns-clause-ok : goal.returns-clause-ok
-returns-clause-ok c =
-    entered_over c.self.inside.old.now c.self.inside.touched c.enter.new.table c.args.name.now None c.in_ok-enter.ensures.ok
+returns-clause-ok g c =
+    entered_over (g.B.Vars.vars c.self.inside.old.now) c.self.inside.touched c.enter.new.table c.args.name.now None c.in_ok-enter.ensures.ok
     ∙ ap (λ (e : Edited). finite.remove e.new c.args.name.now) c.self.view_is
