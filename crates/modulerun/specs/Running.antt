@@ -1,0 +1,70 @@
+-- What a call that runs a modulefile says of it.
+use Rattle.std.specs.Prelude.{◌≡◌, List, map, string_bytes, Option, Some, None, IfSome, Result, Ok, Err}
+use Rattle.std.specs.Option.{option_map}
+use Rattle.environment.specs.Texts.{Text}
+use Rattle.environment.specs.Environment.{Environment}
+use Rattle.tclrules.specs.Derivation as halts
+use Rattle.tclrules.specs.Derivation.{Halt}
+use Rattle.tclrules.specs.declared.limits.Limits.{Limits}
+use Rattle.tclrules.specs.declared.outcome.EvalFault.{EvalFault}
+use Rattle.tclrules.specs.declared.outcome.EvalFault.TheVariants as faults
+use Rattle.modulefile.specs.RecordViews.{mode_view, record_view, fault_reason}
+use Rattle.modulefile.specs.Answers as answers
+use Rattle.modulefile.specs.Answers.{record_number}
+use Rattle.modulefile.specs.Files as files
+use Rattle.modulefile.specs.Files.{Stop, halted, failed, Runs}
+use Rattle.modulerun.specs.declared.context.Context.{Context}
+use Rattle.modulerun.specs.declared.run.Ran.{Ran}
+use Rattle.modulerun.specs.declared.run_fault.RunFault.{RunFault}
+use Rattle.modulerun.specs.declared.run_fault.RunFault.TheVariants.{OutOfMemory, Eval, BadArguments, BadRecord}
+
+-- the context, with the environment from before the file
+abbrev pub context_view : Context → Environment → answers.Context
+context_view c start =
+    record {
+      mode = mode_view c.mode;
+      in_switch = c.in_switch;
+      name = c.name.now;
+      path = c.path.now;
+      shell = c.shell;
+      typed = c.typed.now;
+      loaded = map string_bytes c.loaded.now;
+      start = start;
+    }
+
+-- what a file left, with the environment after it
+abbrev pub ran_view : Ran → Environment → files.Ran
+ran_view ran env =
+    record {
+      records = map record_view ran.records.items;
+      messages = map string_bytes ran.messages.items;
+      asked = ran.asked;
+      env = env;
+    }
+
+-- the stop that a fault of the evaluation says; want of memory is none
+abbrev pub eval_stop : EvalFault → Option Stop
+eval_stop faults.OutOfMemory = None
+eval_stop (faults.Text fault) = Some (halted (halts.BadText fault))
+eval_stop (faults.TclError message line) = Some (failed (string_bytes message) line)
+eval_stop faults.TooManyCommands = Some (halted halts.TooManyCommands)
+eval_stop faults.TooDeep = Some (halted halts.TooDeep)
+eval_stop faults.ValueTooLong = Some (halted halts.ValueTooLong)
+eval_stop faults.NumberTooLarge = Some (halted halts.NumberTooLarge)
+eval_stop faults.FractionOperand = Some (halted halts.FractionOperand)
+eval_stop (faults.LeftOut name) = Some (halted (halts.LeftOut (string_bytes name)))
+eval_stop faults.Stopped = Some (halted halts.Stopped)
+eval_stop (faults.Host n) = Some (halted (halts.ByHost n))
+
+-- the stop that a fault says
+abbrev pub stop_of : RunFault → Option Stop
+stop_of OutOfMemory = None
+stop_of (Eval fault) = eval_stop fault
+stop_of BadArguments = Some (halted (halts.ByHost 56))
+stop_of (BadRecord fault) = option_map (λ reason. halted (halts.ByHost (record_number reason))) (fault_reason fault)
+
+-- What a call returned is what the text comes to in the context, or want of memory. The environment after an accepted file is
+-- the one that it left, and after a refused one the old one.
+abbrev pub RunsTo : Limits → answers.Context → Text → Result Ran RunFault → Environment → Type 0
+RunsTo limits c text (Ok ran) new = Runs limits c text (Ok (ran_view ran new))
+RunsTo limits c text (Err fault) new = (new ≡ c.start) × IfSome (stop_of fault) (λ stop. Runs limits c text (Err stop))

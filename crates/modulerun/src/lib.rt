@@ -1,0 +1,11 @@
+//! A modulefile evaluated: its commands done over an environment, from its text to its records and messages, or to why it is
+//! refused.
+#![tactic(auto)]
+
+mod context;
+mod run;
+mod run_fault;
+
+pub use context::Context;
+pub use run::{Ran, run_file};
+pub use run_fault::RunFault;
