@@ -3,6 +3,7 @@ use Rattle.std.specs.Prelude.{◌≡◌, List, map, string_bytes, Option, Some, 
 use Rattle.std.specs.Option.{option_map}
 use Rattle.environment.specs.Texts.{Text}
 use Rattle.environment.specs.Environment.{Environment}
+use Rattle.environment.specs.Changes.{applied, edits_in}
 use Rattle.tclrules.specs.Derivation as halts
 use Rattle.tclrules.specs.Derivation.{Halt}
 use Rattle.tclrules.specs.declared.limits.Limits.{Limits}
@@ -15,6 +16,7 @@ use Rattle.modulefile.specs.Files as files
 use Rattle.modulefile.specs.Files.{Stop, halted, failed, Runs}
 use Rattle.modulerun.specs.declared.context.Context.{Context}
 use Rattle.modulerun.specs.declared.run.Ran.{Ran}
+use Rattle.modulerun.specs.declared.run.Draft.{Draft}
 use Rattle.modulerun.specs.declared.run_fault.RunFault.{RunFault}
 use Rattle.modulerun.specs.declared.run_fault.RunFault.TheVariants.{OutOfMemory, Eval, BadArguments, BadRecord}
 
@@ -68,3 +70,8 @@ stop_of (BadRecord fault) = option_map (λ reason. halted (halts.ByHost (record_
 abbrev pub RunsTo : Limits → answers.Context → Text → Result Ran RunFault → Environment → Type 0
 RunsTo limits c text (Ok ran) new = Runs limits c text (Ok (ran_view ran new))
 RunsTo limits c text (Err fault) new = (new ≡ c.start) × IfSome (stop_of fault) (λ stop. Runs limits c text (Err stop))
+
+-- The same of a file whose changes aren't made yet.
+abbrev pub Drafts : Limits → answers.Context → Text → Result Draft RunFault → Type 0
+Drafts limits c text (Ok draft) = Runs limits c text (Ok (ran_view draft.ran (applied (edits_in draft.changes) c.start)))
+Drafts limits c text (Err fault) = IfSome (stop_of fault) (λ stop. Runs limits c text (Err stop))

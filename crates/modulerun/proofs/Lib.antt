@@ -1,0 +1,5 @@
+pub mod KeptLemmas
+pub mod ListLemmas
+pub mod ReplyLemmas
+pub mod RunLemmas
+pub mod DraftLemmas

@@ -1,0 +1,33 @@
+-- Lists from their fronts.
+use Rattle.std.proofs.Common.{◌≡◌, ◌≤◌, ◌-◌, ℕ, true, List, [], ◌∷◌, ◌++◌, length, map, take, drop, get_or, string_bytes, String, Bor, refl, ap, sym, ◌∙◌, arith}
+use Rattle.std.specs.declared.alloc.Global.{Global}
+use Rattle.std.specs.List.{list_any}
+use Rattle.std.proofs.lemmas.List.{append_assoc, map-append, take_all}
+use Rattle.environment.specs.Texts.{Text, shown}
+use Rattle.pathstate.specs.PathTexts.{parted}
+use Rattle.modulefile.specs.Calls.{elements_of}
+
+-- there is a text, so some text is any
+pub some_text : (texts : List (String Global)) → 1 ≤ length texts → true ≡ list_any (λ (text : Text). true) (map string_bytes texts)
+some_text [] h = absurd (omega (arith, h))
+some_text (t ∷ ts) h = refl
+
+-- the first of some texts, and what follows it
+pub split_first : (texts rest : List (String Global)) (x : String Global) → 1 ≤ length texts → x ≡ get_or texts 0 x → rest ≡ take (length texts - 1) (drop 1 texts) → map string_bytes texts ≡ string_bytes x ∷ map string_bytes rest
+split_first [] rest x some is e = absurd (omega (arith, some))
+split_first (y ∷ ys) rest x some is e =
+    ap (λ z. string_bytes z ∷ map string_bytes ys) (sym is) ∙ ap (λ zs. string_bytes x ∷ map string_bytes zs) (sym (e ∙ take_all (length (y ∷ ys) - 1) ys (omega arith)))
+
+-- one value more is cut
+pub cut_more : (delim : ℕ) (old new parts : List (Bor Text)) (value : Text) (rest : List Text) (all : List Text)
+    → new ≡ old ++ parts → shown parts ≡ parted delim value → shown old ++ elements_of delim (value ∷ rest) ≡ all → shown new ++ elements_of delim rest ≡ all
+cut_more delim old new parts value rest all e p h =
+    ap (λ xs. shown xs ++ elements_of delim rest) e
+    ∙ ap (λ xs. xs ++ elements_of delim rest) (map-append (λ (x : Bor Text). x.now) old parts)
+    ∙ append_assoc (shown old) (shown parts) (elements_of delim rest)
+    ∙ ap (λ ps. shown old ++ (ps ++ elements_of delim rest)) p ∙ h
+
+pub cut_on : (delim : ℕ) (old new parts : List (Bor Text)) (value : Text) (left right : List (String Global)) (all : List Text)
+    → map string_bytes left ≡ value ∷ map string_bytes right → new ≡ old ++ parts → shown parts ≡ parted delim value → shown old ++ elements_of delim (map string_bytes left) ≡ all → shown new ++ elements_of delim (map string_bytes right) ≡ all
+cut_on delim old new parts value left right all s e p h =
+    cut_more delim old new parts value (map string_bytes right) all e p (ap (λ vs. shown old ++ elements_of delim vs) (sym s) ∙ h)

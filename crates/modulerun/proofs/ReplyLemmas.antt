@@ -1,0 +1,118 @@
+-- How the host's replies follow from what its parts say.
+use Rattle.std.proofs.Common.{◌≡◌, ℕ, Bool, true, false, ◌||◌, List, [], ◌∷◌, ◌++◌, map, string_bytes, String, if◌then◌else◌, Option, Some, None, IfSome, Result, Ok, Err, IfOk, refl, ap, sym, subst, ◌∙◌, codes}
+use Rattle.std.specs.declared.vec.Vec.{Vec}
+use Rattle.std.specs.declared.alloc.Global.{Global}
+use Rattle.std.specs.declared.alloc.AllocError.{AllocError}
+use Rattle.environment.specs.Texts.{Text, texts_in}
+use Rattle.environment.specs.Names.{is_variable_name}
+use Rattle.environment.specs.Environment.{Environment}
+use Rattle.environment.specs.Reasons.{bad_variable, inconsistent}
+use Rattle.tclrules.specs.Oracle as oracle
+use Rattle.tclrules.specs.Oracle.{Oracle, Answer, Told, Kept, tell}
+use Rattle.tclrules.specs.Hosts.{Answers}
+use Rattle.tclrules.specs.declared.host.HostAnswer.{HostAnswer}
+use Rattle.tclrules.specs.declared.host.HostAnswer.TheVariants.{Done, Unknown, LeftOut, Refused, OutOfMemory}
+use Rattle.modulerecords.specs.Records as records
+use Rattle.modulerecords.specs.Judgments.{RecordReason, bad_edit, bad_module_name}
+use Rattle.modulefile.specs.declared.call.Call.{Call}
+use Rattle.modulefile.specs.declared.call_fault.CallFault.{CallFault}
+use Rattle.modulefile.specs.declared.records.Record.{Record}
+use Rattle.modulefile.specs.declared.effects.RecordFault.{RecordFault}
+use Rattle.modulefile.specs.Calls as calls
+use Rattle.modulefile.specs.Calls.{CallReason, bad_record, bad_arguments, unknown, keeps, call_of}
+use Rattle.modulefile.specs.CallViews.{reason_of, call_view, HasReason}
+use Rattle.modulefile.specs.RecordViews.{record_view, fault_reason, HasFault}
+use Rattle.modulefile.specs.Answers as answers
+use Rattle.modulefile.specs.Answers.{answered, asked, kept, not_done, read}
+use Rattle.modulerun.specs.declared.context.Context.{Context}
+use Rattle.modulerun.specs.Journals.{SoFar, found, noted, effect_on}
+use Rattle.modulerun.specs.Hosting.{context_with, told_with, Replies}
+
+pub by_answer : (a b : Answer) (h : HostAnswer) (old new : Told) → a ≡ b → Replies b h old new → Replies a h old new
+by_answer a b h old new e r = subst (λ x. Replies x h old new) (sym e) r
+
+-- the replies of a host are the answers of its oracle
+pub answers_by : (o : Oracle) (words : List Text) (h : HostAnswer) (old new : Told) → Replies (o.command old.records words) h old new → Answers o words h old new
+answers_by o words (Done t) old new r = r
+answers_by o words Unknown old new r = r
+answers_by o words (LeftOut name) old new r = r
+answers_by o words (Refused n) old new r = r
+answers_by o words OutOfMemory old new r = r
+
+or_false : (b : Bool) → b ≡ (b || false)
+or_false true = refl
+or_false false = refl
+
+-- a record that has its effect is kept
+pub noted_reply : (s t : SoFar) (cx : Context) (messages : Vec (String Global) Global) (mark : Bool) (words : List Text) (r : records.Record) (text : String Global) (e : Environment)
+    → call_of words ≡ Ok (keeps r) → string_bytes text ≡ [] → t ≡ noted s words → effect_on s r ≡ Ok e
+    → Replies (answered (context_with s cx) (found s) words (call_of words)) (Done text) (told_with s messages mark) (told_with t messages mark)
+noted_reply s t cx messages mark words r text e call empty note effect =
+    by_answer _ (oracle.Done [] (Kept words) false) (Done text) (told_with s messages mark) (told_with t messages mark)
+    (ap (answered (context_with s cx) (found s) words) call ∙ ap (kept words) effect)
+    (Kept words, false, (ap (λ (x : Text). oracle.Done x (Kept words) false) (sym empty),
+      ap (λ (j : SoFar). told_with j messages mark) note ∙ ap (λ b. told_with (noted s words) messages b) (or_false mark)))
+
+-- what replies to every reason of a record alike is want of memory
+from_reasons : (h : HostAnswer) (old new : Told) (a : Answer) → ((reason : RecordReason) → Replies (not_done (bad_record reason)) h old new) → Replies a h old new
+from_reasons (Done t) old new a f = let r = f (bad_module_name []) in let e : oracle.Refused 44 false ≡ oracle.Done (string_bytes t) r.0 r.1 = r.2.0 in absurd (cc)
+from_reasons Unknown old new a f = let r = f (bad_module_name []) in let e : oracle.Refused 44 false ≡ oracle.Unknown r.0 = r.1.0 in absurd (cc)
+from_reasons (LeftOut name) old new a f = let r = f (bad_module_name []) in let e : oracle.Refused 44 false ≡ oracle.LeftOut (string_bytes name) r.0 = r.1.0 in absurd (cc)
+from_reasons (Refused n) old new a f =
+    let r = f (bad_module_name []) in
+    let q = f (bad_edit inconsistent) in
+    let e : oracle.Refused 44 false ≡ oracle.Refused n r.0 = r.1.0 in
+    let d : oracle.Refused 35 false ≡ oracle.Refused n q.0 = q.1.0 in
+    let same : ◌≡◌ {A = ℕ} 44 35 = cc in absurd (cc)
+from_reasons OutOfMemory old new a f = f (bad_module_name [])
+
+-- a record that has no effect is refused
+pub refused_reply : (s t : SoFar) (cx : Context) (messages : Vec (String Global) Global) (mark : Bool) (words : List Text) (r : records.Record) (fault : RecordFault) (h : HostAnswer) (new : Told)
+    → call_of words ≡ Ok (keeps r) → t ≡ s → IfSome (fault_reason fault) (λ reason. effect_on s r ≡ Err reason)
+    → ((reason : RecordReason) → HasFault reason fault → Replies (not_done (bad_record reason)) h (told_with t messages mark) new)
+    → Replies (answered (context_with s cx) (found s) words (call_of words)) h (told_with s messages mark) new
+refused_reply s t cx messages mark words r fault h new call same e f = go (fault_reason fault) refl
+  where
+    at : (reason : RecordReason) → HasFault reason fault → Replies (not_done (bad_record reason)) h (told_with s messages mark) new
+    at reason k = subst (λ (j : SoFar). Replies (not_done (bad_record reason)) h (told_with j messages mark) new) same (f reason k)
+    go : (o : Option RecordReason) → fault_reason fault ≡ o → Replies (answered (context_with s cx) (found s) words (call_of words)) h (told_with s messages mark) new
+    go None q = from_reasons h (told_with s messages mark) new _ (λ reason. at reason (subst (λ o. IfSome o (λ x. x ≡ reason)) (sym q) tt))
+    go (Some reason) q =
+        let d : effect_on s r ≡ Err reason = subst (λ o. IfSome o (λ x. effect_on s r ≡ Err x)) q e in
+        by_answer _ (not_done (bad_record reason)) h (told_with s messages mark) new
+        (ap (answered (context_with s cx) (found s) words) call ∙ ap (kept words) d)
+        (at reason (subst (λ o. IfSome o (λ x. x ≡ reason)) (sym q) refl))
+
+pub call_made : (made : Result Record AllocError) (kept : Record) (words : List Text) → made ≡ Ok kept → IfOk made (λ r. call_of words ≡ Ok (keeps (record_view r))) → call_of words ≡ Ok (keeps (record_view kept))
+call_made made kept words e h = subst (λ (m : Result Record AllocError). IfOk m (λ r. call_of words ≡ Ok (keeps (record_view r)))) e h
+
+pub read_named : (var value : Text) → is_variable_name var ≡ true → read var value ≡ asked value
+read_named var value e = ap (λ b. if b then asked value else not_done (bad_record (bad_edit (bad_variable var)))) e
+
+-- a question is answered
+pub asked_reply : (c : answers.Context) (e : Environment) (words : List Text) (call : Call) (made : calls.Call) (text : Text) (h : HostAnswer) (old new : Told)
+    → call_of words ≡ Ok (call_view call) → call_view call ≡ made → answered c e words (Ok made) ≡ asked text
+    → Replies (asked text) h old new → Replies (answered c e words (call_of words)) h old new
+asked_reply c e words call made text h old new k is a r =
+    by_answer _ (asked text) h old new (ap (answered c e words) (k ∙ ap (λ x. Ok x) is) ∙ a) r
+
+-- what replies to every reason of a call alike is want of memory
+from_call_reasons : (h : HostAnswer) (old new : Told) (a : Answer) → ((reason : CallReason) → Replies (not_done reason) h old new) → Replies a h old new
+from_call_reasons (Done t) old new a f = let r = f unknown in let e : oracle.Unknown false ≡ oracle.Done (string_bytes t) r.0 r.1 = r.2.0 in absurd (cc)
+from_call_reasons Unknown old new a f = let r = f bad_arguments in let e : oracle.Refused 56 false ≡ oracle.Unknown r.0 = r.1.0 in absurd (cc)
+from_call_reasons (LeftOut name) old new a f = let r = f unknown in let e : oracle.Unknown false ≡ oracle.LeftOut (string_bytes name) r.0 = r.1.0 in absurd (cc)
+from_call_reasons (Refused n) old new a f = let r = f unknown in let e : oracle.Unknown false ≡ oracle.Refused n r.0 = r.1.0 in absurd (cc)
+from_call_reasons OutOfMemory old new a f = f unknown
+
+-- words that call no command are answered by the reason
+pub fault_reply : (c : answers.Context) (e : Environment) (words : List Text) (fault : CallFault) (h : HostAnswer) (old new : Told)
+    → IfSome (reason_of fault) (λ r. call_of words ≡ Err r)
+    → ((reason : CallReason) → HasReason reason fault → Replies (not_done reason) h old new)
+    → Replies (answered c e words (call_of words)) h old new
+fault_reply c e words fault h old new k f = go (reason_of fault) refl
+  where
+    go : (o : Option CallReason) → reason_of fault ≡ o → Replies (answered c e words (call_of words)) h old new
+    go None q = from_call_reasons h old new _ (λ reason. f reason (subst (λ o. IfSome o (λ x. x ≡ reason)) (sym q) tt))
+    go (Some reason) q =
+        let d : call_of words ≡ Err reason = subst (λ o. IfSome o (λ x. call_of words ≡ Err x)) q k in
+        by_answer _ (not_done reason) h old new (ap (answered c e words) d) (f reason (subst (λ o. IfSome o (λ x. x ≡ reason)) (sym q) refl))

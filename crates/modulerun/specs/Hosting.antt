@@ -1,0 +1,45 @@
+-- How the host of a modulefile answers.
+use Rattle.std.specs.Prelude.{◌≡◌, Bool, [], ◌∷◌, ◌++◌, List, map, string_bytes, String, if◌then◌else◌}
+use Rattle.std.specs.declared.vec.Vec.{Vec}
+use Rattle.std.specs.declared.alloc.Global.{Global}
+use Rattle.environment.specs.Texts.{Text, texts_in}
+use Rattle.tclrules.specs.Oracle as oracle
+use Rattle.tclrules.specs.Oracle.{Answer, Told}
+use Rattle.tclrules.specs.Derivation.{perhaps_asked}
+use Rattle.tclrules.specs.Hosts.{IsTold}
+use Rattle.tclrules.specs.declared.host.HostAnswer.{HostAnswer}
+use Rattle.tclrules.specs.declared.host.HostAnswer.TheVariants.{Done, Unknown, LeftOut, Refused, OutOfMemory}
+use Rattle.modulefile.specs.RecordViews.{mode_view}
+use Rattle.modulefile.specs.Answers as answers
+use Rattle.modulerun.specs.declared.context.Context.{Context}
+use Rattle.modulerun.specs.Journals.{SoFar}
+
+-- the context of a file that has done so much
+abbrev pub context_with : SoFar → Context → answers.Context
+context_with s c =
+    record {
+      mode = mode_view s.mode;
+      in_switch = c.in_switch;
+      name = s.owner;
+      path = c.path.now;
+      shell = c.shell;
+      typed = c.typed.now;
+      loaded = map string_bytes c.loaded.now;
+      start = s.start;
+    }
+
+-- what the host was told
+abbrev pub told_with : SoFar → Vec (String Global) Global → Bool → Told
+told_with s messages asked = record { records = s.words; messages = texts_in messages; asked = asked }
+
+-- a message, with a newline or without
+abbrev pub message_of : Text → Bool → Text
+message_of text newline = if newline then text ++ 10 ∷ [] else text
+
+-- The host replies by this answer, and it is told; or memory runs out.
+abbrev pub Replies : Answer → HostAnswer → Told → Told → Type 0
+Replies answer (Done t) old new = (adds : oracle.Addition) × (asks : Bool) × IsTold answer (oracle.Done (string_bytes t) adds asks) old new
+Replies answer Unknown old new = (asks : Bool) × IsTold answer (oracle.Unknown asks) old new
+Replies answer (LeftOut name) old new = (asks : Bool) × IsTold answer (oracle.LeftOut (string_bytes name) asks) old new
+Replies answer (Refused n) old new = (asks : Bool) × IsTold answer (oracle.Refused n asks) old new
+Replies answer OutOfMemory old new = (asked : Bool) × (new ≡ perhaps_asked asked old)

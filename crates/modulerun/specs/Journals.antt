@@ -1,0 +1,84 @@
+-- What a file has done so far.
+use Rattle.std.specs.Prelude.{◌≡◌, ℕ, ◌==◌, List, ◌∷◌, [], ◌++◌, map, IfSome, if◌then◌else◌, Result, Ok, Err, refl}
+use Rattle.std.specs.Coded.{Coded, code_by, coded×, coded_ℕ, coded_list}
+use Rattle.environment.specs.Texts.{Text, texts_in}
+use Rattle.environment.specs.Environment.{Environment, environment_code}
+use Rattle.modulerecords.specs.Records as records
+use Rattle.modulerecords.specs.Judgments.{RecordReason}
+use Rattle.modulerecords.specs.Effects as effects
+use Rattle.modulerecords.specs.Effects.{effect, effects}
+use Rattle.modulefile.specs.declared.records.Mode.{Mode}
+use Rattle.modulefile.specs.declared.records.Mode.TheVariants.{Load, Unload, Display, Whatis}
+use Rattle.modulefile.specs.declared.effects.RecordFault.{RecordFault}
+use Rattle.modulefile.specs.Results.{◌>>=◌}
+use Rattle.modulefile.specs.RecordViews.{mode_view, record_view, fault_reason}
+use Rattle.modulefile.specs.Answers.{records_in, by_record, or_start}
+use Rattle.modulerun.specs.declared.entry.Entry.{Entry}
+
+-- the mode, the module's name, the environment before the file, and the words of the commands that were accepted
+pub record SoFar : Type 0 where
+  pub mode : Mode
+  pub owner : Text
+  pub start : Environment
+  pub words : List (List Text)
+
+-- modes are coded by number, and the whole as a tuple
+abbrev pub mode_number : Mode → ℕ
+mode_number Load = 0
+mode_number Unload = 1
+mode_number Display = 2
+mode_number Whatis = 3
+
+abbrev pub numbered_mode : ℕ → Mode
+numbered_mode n = if n == 0 then Load else if n == 1 then Unload else if n == 2 then Display else Whatis
+
+abbrev pub so_far_of : Mode → Text → Environment → List (List Text) → SoFar
+so_far_of mode owner start words = record { mode = mode; owner = owner; start = start; words = words }
+
+abbrev pub same_again : (m : Mode) (owner : Text) (start : Environment) (words : List (List Text))
+    → so_far_of (numbered_mode (mode_number m)) owner start words
+    ≡ so_far_of m owner start words
+same_again Load owner start words = refl
+same_again Unload owner start words = refl
+same_again Display owner start words = refl
+same_again Whatis owner start words = refl
+
+abbrev pub text_code : Coded Text
+text_code = coded_list coded_ℕ
+
+abbrev pub so_far_code : Coded SoFar
+so_far_code =
+    code_by (ℕ × (Text × (Environment × List (List Text))))
+    (coded× coded_ℕ (coded× text_code (coded× environment_code (coded_list (coded_list text_code)))))
+    (λ s. (mode_number s.mode, (s.owner, (s.start, s.words))))
+    (λ p. record { mode = numbered_mode p.0; owner = p.1.0; start = p.1.1.0; words = p.1.1.1 })
+    (λ s. same_again s.mode s.owner s.start s.words)
+
+-- the environment that the file finds
+abbrev pub found : SoFar → Environment
+found s = or_start s.start (records_in s.words >>= (λ rs. by_record (effects (mode_view s.mode) s.owner rs s.start)))
+
+-- the words and the records of entries
+abbrev pub words_of : List Entry → List (List Text)
+words_of entries = map (λ entry. texts_in entry.words) entries
+
+abbrev pub records_of : List Entry → List records.Record
+records_of entries = map (λ entry. record_view entry.kept) entries
+
+-- The records are those of the words, and the environment is their effects on the one before.
+abbrev pub IsKept : effects.Mode → Text → Environment → Environment → List Entry → Type 0
+IsKept mode owner start now entries =
+    (records_in (words_of entries) ≡ Ok (records_of entries)) × (effects mode owner (records_of entries) start ≡ Ok now)
+
+-- with one command more
+abbrev pub noted : SoFar → List Text → SoFar
+noted s words = record { mode = s.mode; owner = s.owner; start = s.start; words = s.words ++ words ∷ [] }
+
+-- what a record makes of what the file finds
+abbrev pub effect_on : SoFar → records.Record → Result Environment RecordReason
+effect_on s r = effect (mode_view s.mode) s.owner r (found s)
+
+-- A command is noted where its record has its effect, and else nothing changes.
+abbrev pub IsNoted : Result (Unit {0}) RecordFault → List Text → records.Record → SoFar → SoFar → Type 0
+IsNoted (Ok u) words r old new = (new ≡ noted old words) × ((e : Environment) × (effect_on old r ≡ Ok e))
+IsNoted (Err fault) words r old new = (new ≡ old) × IfSome (fault_reason fault) (λ reason. effect_on old r ≡ Err reason)

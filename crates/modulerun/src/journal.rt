@@ -1,0 +1,181 @@
+//! What a file has done so far: the commands that were accepted, and the environment that they make.
+ghost use Rattle.std.specs.Prelude.{◌≡◌, ◌++◌, ◌∷◌, [], Ok, map, string_bytes, OnOk, OnErr, IfOk};
+ghost use Rattle.std.specs.Option.{option_map};
+ghost use Rattle.environment.specs.Texts.{texts_in};
+ghost use Rattle.environment.specs.Environment.{lookup};
+ghost use Rattle.environment.specs.Changes.{applied, edits_in};
+ghost use Rattle.modulerecords.specs.Effects.{effect, effects};
+ghost use Rattle.modulefile.specs.Calls.{keeps, call_of};
+ghost use Rattle.modulefile.specs.Answers.{records_in};
+ghost use Rattle.modulefile.specs.RecordViews.{mode_view, record_view, IsEdited};
+ghost use Rattle.modulerun.specs.Journals.{found, IsNoted};
+
+use crate::entry::Entry;
+use crate::made::copied;
+use environment::{Change, EnvFault, Vars, Working};
+use modulefile::{Mode, Record, RecordFault, effect};
+use std::alloc::{AllocError, Global};
+use std::marker::Model;
+
+/// The commands of a module's file that were accepted so far, and the environment that their records make of the one before the
+/// file, which stays as it is.
+pub(crate) struct Journal<'a, V: Vars> {
+    alloc: Global,
+    mode: Mode,
+    owner: &'a str,
+    entries: Vec<Entry>,
+    working: Working<'a, V>,
+}
+
+// By hand, since the variables below needn't be let go.
+impl<'a, V: Vars> Drop for Journal<'a, V> {
+    fn drop(self) {
+        let Journal {
+            alloc: _alloc,
+            mode: _mode,
+            owner: _owner,
+            entries: _entries,
+            working: _working,
+        } = self;
+    }
+}
+
+impl<'a, V: Vars> Model for Journal<'a, V> {
+    ghost use Rattle.modulefile.specs.RecordViews.{mode_view};
+    ghost use Rattle.modulerun.specs.Journals.{SoFar, so_far_code, IsKept, words_of};
+
+    ghost Value = { SoFar };
+
+    ghost coded = { so_far_code };
+
+    ghost view = { λ a. record { mode = a.mode; owner = a.owner.now; start = a.working.old; words = words_of a.entries.items } };
+
+    ghost invariant = { λ a. IsKept (mode_view a.mode) a.owner.now a.working.old a.working.new a.entries.items };
+}
+
+/// The records of a file that ended, and what they changed.
+#[derive(Drop)]
+pub(crate) struct Made {
+    pub records: Vec<Record>,
+    pub changes: Vec<Change>,
+}
+
+/// Enters a command where its record has its effect.
+fn enter<V: Vars>(
+    alloc: Global,
+    mode: Mode,
+    owner: &str,
+    entry: Entry,
+    entries: &mut Vec<Entry>,
+    env: &mut V,
+) -> Result<(), RecordFault>
+    ensures ok { OnOk result (entries.new.items ≡ entries.old.items ++ entry ∷ []) }
+    ensures err { OnErr result (entries.new.items ≡ entries.old.items) }
+    ensures edits { IsEdited result (V.vars env.old) (V.vars env.new)
+        (effect (mode_view mode) owner.now (record_view entry.kept) (V.vars env.old)) }
+    ensures under { V.under env.new ≡ V.under env.old }
+{
+    if entries.reserve(1).is_err() {
+        return Err(RecordFault::Env(EnvFault::OutOfMemory));
+    }
+    match effect(alloc, mode, owner, &entry.kept, env) {
+        Ok(()) => {
+            entries.push_reserved(entry);
+            Ok(())
+        }
+        Err(fault) => Err(fault),
+    }
+}
+
+fn records_of(alloc: Global, entries: Vec<Entry>) -> Result<Vec<Record>, AllocError>
+    ensures { IfOk result (λ v. v.items ≡ map (λ entry. entry.kept) entries.items) }
+{
+    let mut records = Vec::new(alloc);
+    for entry in entries {
+        let Entry {
+            words: _words,
+            kept,
+        } = entry;
+        records.push(kept)?;
+    }
+    Ok(records)
+}
+
+impl<'a, V: Vars> Journal<'a, V> {
+    /// No command was accepted yet.
+    pub(crate) fn over(alloc: Global, mode: Mode, owner: &'a str, start: &'a V) -> Self
+        ensures { result ≡ record { mode = mode; owner = owner.entry.now; start = V.vars start.entry.now; words = [] } }
+    {
+        Journal {
+            alloc,
+            mode,
+            owner,
+            entries: Vec::new(alloc),
+            working: Working::upon(alloc, start),
+        }
+    }
+
+    /// What the file is evaluated for.
+    pub(crate) fn mode(&self) -> Mode
+        ensures { result ≡ self.now.mode }
+    {
+        self.mode
+    }
+
+    /// The full name of its module.
+    pub(crate) fn owner(&self) -> &str
+        ensures { result.now ≡ self.now.owner }
+    {
+        self.owner
+    }
+
+    /// The value of a variable, as the file finds it.
+    pub(crate) fn get(&self, name: &str) -> Option<&str>
+        ensures { option_map (λ x. x.now) result ≡ lookup (found self.now) name.now }
+    {
+        self.working.get(name)
+    }
+
+    /// Notes a command by its words, where its record has its effect. Else nothing changes.
+    pub(crate) fn note(&mut self, words: &[String], kept: Record) -> Result<(), RecordFault>
+        requires { call_of (map string_bytes words.now) ≡ Ok (keeps (record_view kept)) }
+        ensures { IsNoted result (map string_bytes words.now) (record_view kept) self.old self.new }
+    {
+        match copied(self.alloc, words) {
+            Ok(words) => self.enter(Entry { words, kept }),
+            Err(_) => Err(RecordFault::Env(EnvFault::OutOfMemory)),
+        }
+    }
+
+    fn enter(&mut self, entry: Entry) -> Result<(), RecordFault>
+        requires { call_of (texts_in entry.words) ≡ Ok (keeps (record_view entry.kept)) }
+        ensures { IsNoted result (texts_in entry.words) (record_view entry.kept) self.old self.new }
+    {
+        enter(
+            self.alloc,
+            self.mode,
+            self.owner,
+            entry,
+            &mut self.entries,
+            &mut self.working,
+        )
+    }
+
+    /// The records, and what they changed.
+    pub(crate) fn finish(self) -> Result<Made, EnvFault>
+        ensures records { IfOk result (λ made. records_in self.entry.words ≡ Ok (map record_view made.records.items)) }
+        ensures changes { IfOk result (λ made. effects (mode_view self.entry.mode) self.entry.owner (map record_view made.records.items)
+            self.entry.start ≡ Ok (applied (edits_in made.changes) self.entry.start)) }
+    {
+        let Journal {
+            alloc,
+            mode: _mode,
+            owner: _owner,
+            entries,
+            working,
+        } = self;
+        let records = records_of(alloc, entries)?;
+        let changes = working.into_changes()?;
+        Ok(Made { records, changes })
+    }
+}

@@ -1,0 +1,107 @@
+//! The records of commands.
+ghost use Rattle.std.specs.Prelude.{◌≡◌, ◌<◌, map, string_bytes, IfOk};
+ghost use Rattle.std.specs.Option.{option_map};
+ghost use Rattle.environment.specs.Texts.{texts_in};
+ghost use Rattle.modulerecords.specs.Records.{Set, Unset, Push, Conflict, Prereq};
+ghost use Rattle.modulefile.specs.Calls.{elements_of, description};
+ghost use Rattle.modulefile.specs.CallViews.{edit_record};
+ghost use Rattle.modulefile.specs.RecordViews.{record_view};
+
+use environment::fields::{copies, copy, join, parts, slices};
+use modulefile::{PathEdit, Record};
+use std::alloc::{AllocError, Global};
+
+/// The texts, copied.
+pub(crate) fn copied(alloc: Global, texts: &[String]) -> Result<Vec<String>, AllocError>
+    ensures { IfOk result (λ v. texts_in v ≡ map string_bytes texts.now) }
+{
+    let texts = slices(alloc, texts)?;
+    copies(alloc, texts.as_slice())
+}
+
+/// The elements of values, which are cut at the delimiter.
+fn elements(alloc: Global, delim: char, values: &[String]) -> Result<Vec<String>, AllocError>
+    requires { delim < 128 }
+    ensures { IfOk result (λ v. texts_in v ≡ elements_of delim (map string_bytes values.now)) }
+{
+    let mut elements = Vec::new(alloc);
+    let mut rest = values;
+    while let [value, after @ ..] = rest {
+        let parts = parts(alloc, value, delim)?;
+        elements.extend_from_slice(parts.as_slice())?;
+        rest = after;
+    }
+    copies(alloc, elements.as_slice())
+}
+
+/// `setenv VAR value`
+pub(crate) fn set(alloc: Global, var: &str, value: &str) -> Result<Record, AllocError>
+    ensures { IfOk result (λ r. record_view r ≡ Set var.now value.now) }
+{
+    let var = String::from_str(alloc, var)?;
+    let value = String::from_str(alloc, value)?;
+    Ok(Record::Set { var, value })
+}
+
+/// `unsetenv VAR ?value?`
+pub(crate) fn unset(alloc: Global, var: &str, value: Option<&str>) -> Result<Record, AllocError>
+    ensures { IfOk result (λ r. record_view r ≡ Unset var.now (option_map (λ v. v.now) value.entry)) }
+{
+    let var = String::from_str(alloc, var)?;
+    let value = copy(alloc, value)?;
+    Ok(Record::Unset { var, value })
+}
+
+/// `pushenv VAR value`
+pub(crate) fn push(alloc: Global, var: &str, value: &str) -> Result<Record, AllocError>
+    ensures { IfOk result (λ r. record_view r ≡ Push var.now value.now) }
+{
+    let var = String::from_str(alloc, var)?;
+    let value = String::from_str(alloc, value)?;
+    Ok(Record::Push { var, value })
+}
+
+/// A path command. A call's delimiter is ASCII.
+pub(crate) fn path(
+    alloc: Global,
+    edit: PathEdit,
+    delim: char,
+    var: &str,
+    values: &[String],
+) -> Result<Record, AllocError>
+    ensures { IfOk result (λ r. record_view r ≡ edit_record edit delim var.now (elements_of delim (map string_bytes values.now))) }
+{
+    if delim > '~' {
+        return Err(AllocError);
+    }
+    let var = String::from_str(alloc, var)?;
+    let elements = elements(alloc, delim, values)?;
+    Ok(Record::Path {
+        edit,
+        delim,
+        var,
+        elements,
+    })
+}
+
+/// `conflict NAME...`
+pub(crate) fn conflict(alloc: Global, names: &[String]) -> Result<Record, AllocError>
+    ensures { IfOk result (λ r. record_view r ≡ Conflict (map string_bytes names.now)) }
+{
+    Ok(Record::Conflict(copied(alloc, names)?))
+}
+
+/// `prereq NAME...`
+pub(crate) fn prereq(alloc: Global, names: &[String]) -> Result<Record, AllocError>
+    ensures { IfOk result (λ r. record_view r ≡ Prereq (map string_bytes names.now)) }
+{
+    Ok(Record::Prereq(copied(alloc, names)?))
+}
+
+/// `module-whatis WORD...`
+pub(crate) fn whatis(alloc: Global, words: &[String]) -> Result<Record, AllocError>
+    ensures { IfOk result (λ r. record_view r ≡ description (map string_bytes words.now)) }
+{
+    let words = slices(alloc, words)?;
+    Ok(Record::Whatis(join(alloc, words.as_slice(), ' ')?))
+}

@@ -1,0 +1,92 @@
+//! The answers to questions.
+ghost use Rattle.std.specs.Prelude.{◌≡◌, ◌||◌, ◌&&◌, true, bytes_eq, codes, map, string_bytes};
+ghost use Rattle.std.specs.List.{list_any};
+ghost use Rattle.environment.specs.Texts.{Text};
+ghost use Rattle.modulename.specs.ModuleName.{means};
+ghost use Rattle.modulefile.specs.Answers.{any_loaded, is_second_word, mode_word, truth};
+ghost use Rattle.modulefile.specs.RecordViews.{mode_view};
+
+use modulefile::Mode;
+use modulename::means;
+
+/// What is so is 1, and else 0.
+pub(crate) fn truth(so: bool) -> &'static str
+    ensures { result.now ≡ truth so }
+{
+    if so { "1" } else { "0" }
+}
+
+/// The word of a mode.
+pub(crate) fn mode_word(mode: Mode) -> &'static str
+    ensures { result.now ≡ mode_word (mode_view mode) }
+{
+    match mode {
+        Mode::Load => "load",
+        Mode::Unload => "unload",
+        Mode::Display => "display",
+        Mode::Whatis => "whatis",
+    }
+}
+
+/// Whether this is the second word of a mode.
+fn is_second_word(mode: Mode, word: &str) -> bool
+    ensures { result ≡ is_second_word (mode_view mode) word.now }
+{
+    match mode {
+        Mode::Unload => word == "remove",
+        Mode::Load | Mode::Display | Mode::Whatis => false,
+    }
+}
+
+/// Whether this is a word of the mode, or of both halves of a switch.
+pub(crate) fn is_mode(mode: Mode, in_switch: bool, word: &str) -> bool
+    ensures { result ≡ (bytes_eq word.now (mode_word (mode_view mode)) || is_second_word (mode_view mode) word.now
+        || (in_switch && bytes_eq word.now (codes "switch"))) }
+{
+    word == mode_word(mode) || is_second_word(mode, word) || (in_switch && word == "switch")
+}
+
+/// Whether the name means a loaded module.
+fn is_meant(name: &str, loaded: &[String]) -> bool
+    ensures { result ≡ list_any (means name.now) (map string_bytes loaded.now) }
+{
+    let mut rest = loaded;
+    while let [module, after @ ..] = rest {
+        if means(name, module) {
+            return true;
+        }
+        rest = after;
+    }
+    false
+}
+
+/// Whether one of the names means a loaded module.
+fn is_any_meant(names: &[String], loaded: &[String]) -> bool
+    ensures { result ≡ list_any (λ name. list_any (means name) (map string_bytes loaded.now)) (map string_bytes names.now) }
+{
+    let mut rest = names;
+    while let [name, after @ ..] = rest {
+        if is_meant(name, loaded) {
+            return true;
+        }
+        rest = after;
+    }
+    false
+}
+
+/// Whether there is any.
+fn is_any(loaded: &[String]) -> bool
+    ensures { result ≡ list_any (λ (text : Text). true) (map string_bytes loaded.now) }
+{
+    matches!(loaded, [_, ..])
+}
+
+/// Whether one of the names means a loaded module, or without a name whether any is loaded.
+pub(crate) fn any_loaded(names: &[String], loaded: &[String]) -> bool
+    ensures { result ≡ any_loaded (map string_bytes names.now) (map string_bytes loaded.now) }
+{
+    match names {
+        [] => is_any(loaded),
+        _ => is_any_meant(names, loaded),
+    }
+}

@@ -1,0 +1,135 @@
+//! What is reported of the records of a file.
+ghost use Rattle.std.specs.Prelude.{◌≡◌, ◌++◌, ◌∷◌, [], codes, map, string_bytes, IfOk, OnOk};
+ghost use Rattle.tcllist.specs.Lists.{list_text};
+ghost use Rattle.modulefile.specs.RecordViews.{record_view};
+ghost use Rattle.modulefile.specs.Reports.{path_words, shown_words, line_of, show_text, whatis_text};
+
+use environment::fields::{join, slices};
+use modulefile::{PathEdit, Record};
+use std::alloc::{AllocError, Global};
+use tcllist::write_list;
+
+fn listed<'a>(alloc: Global, command: &'a str, var: &'a str, value: &'a str) -> Result<String, AllocError>
+    ensures { IfOk result (λ t. string_bytes t ≡ list_text (command.now ∷ var.now ∷ value.now ∷ [])) }
+{
+    write_list(alloc, &[command, var, value])
+}
+
+fn listed_with<'a>(alloc: Global, command: &'a str, delim: &'a str, var: &'a str, value: &'a str) -> Result<String, AllocError>
+    ensures { IfOk result (λ t. string_bytes t ≡ list_text (command.now ∷ codes "--delim" ∷ delim.now ∷ var.now ∷ value.now ∷ [])) }
+{
+    write_list(alloc, &[command, "--delim", delim, var, value])
+}
+
+/// A path command: the elements are one value, and the delimiter is told where it isn't the colon. It is ASCII in the record of
+/// each command.
+fn shown_path(
+    alloc: Global,
+    command: &str,
+    delim: char,
+    var: &str,
+    elements: &[String],
+) -> Result<String, AllocError>
+    ensures { IfOk result (λ t. string_bytes t ≡ list_text (path_words command.now delim var.now (map string_bytes elements.now))) }
+{
+    if delim > '~' {
+        return Err(AllocError);
+    }
+    let elements = slices(alloc, elements)?;
+    let value = join(alloc, elements.as_slice(), delim)?;
+    if delim == ':' {
+        return listed(alloc, command, var, &value);
+    }
+    let mut said = String::new(alloc);
+    said.push(delim)?;
+    listed_with(alloc, command, &said, var, &value)
+}
+
+/// A command and names.
+fn shown_names(alloc: Global, command: &str, names: &[String]) -> Result<String, AllocError>
+    ensures { IfOk result (λ t. string_bytes t ≡ list_text (command.now ∷ map string_bytes names.now)) }
+{
+    let mut words = Vec::new(alloc);
+    words.push(command)?;
+    let names = slices(alloc, names)?;
+    words.extend_from_slice(names.as_slice())?;
+    write_list(alloc, words.as_slice())
+}
+
+/// A record as a command with its words.
+fn shown(alloc: Global, kept: &Record) -> Result<String, AllocError>
+    ensures { IfOk result (λ t. string_bytes t ≡ list_text (shown_words (record_view kept.now))) }
+{
+    match kept {
+        Record::Set { var, value } => write_list(alloc, &["setenv", var, value]),
+        Record::Unset { var, value } => match value {
+            None => write_list(alloc, &["unsetenv", var]),
+            Some(value) => write_list(alloc, &["unsetenv", var, value]),
+        },
+        Record::Push { var, value } => write_list(alloc, &["pushenv", var, value]),
+        Record::Path {
+            edit,
+            delim,
+            var,
+            elements,
+        } => match edit {
+            PathEdit::Front => shown_path(alloc, "prepend-path", *delim, var, elements.as_slice()),
+            PathEdit::Back => shown_path(alloc, "append-path", *delim, var, elements.as_slice()),
+            PathEdit::Remove => shown_path(alloc, "remove-path", *delim, var, elements.as_slice()),
+        },
+        Record::Conflict(names) => shown_names(alloc, "conflict", names.as_slice()),
+        Record::Prereq(names) => shown_names(alloc, "prereq", names.as_slice()),
+        Record::Whatis(text) => write_list(alloc, &["module-whatis", text]),
+    }
+}
+
+/// Writes a text as a line.
+fn push_line(report: &mut String, text: &str) -> Result<(), AllocError>
+    ensures { OnOk result (string_bytes report.new ≡ string_bytes report.old ++ line_of text.now) }
+{
+    report.push_str(text)?;
+    report.push('\n')
+}
+
+/// What is shown of a file by its path and records: a line of its path, and one for each record, its command and words in the
+/// writing of lists.
+pub fn show_report(alloc: Global, path: &str, records: &[Record]) -> Result<String, AllocError>
+    ensures { IfOk result (λ t. string_bytes t ≡ show_text path.now (map record_view records.now)) }
+{
+    let mut report = String::from_str(alloc, path)?;
+    report.push_str(":\n")?;
+    let mut rest = records;
+    while let [kept, after @ ..] = rest {
+        let line = shown(alloc, kept)?;
+        push_line(&mut report, &line)?;
+        rest = after;
+    }
+    Ok(report)
+}
+
+/// Writes a description behind the module's name, where the record is one.
+fn push_description(report: &mut String, name: &str, kept: &Record) -> Result<(), AllocError>
+    ensures { OnOk result (string_bytes report.new ≡ string_bytes report.old ++ whatis_text name.now (record_view kept.now ∷ [])) }
+{
+    match kept {
+        Record::Whatis(text) => {
+            report.push_str(name)?;
+            report.push_str(": ")?;
+            push_line(report, text)
+        }
+        _ => Ok(()),
+    }
+}
+
+/// The descriptions among the records of a file, each on a line behind the module's name.
+pub fn whatis_report(alloc: Global, name: &str, records: &[Record]) -> Result<String, AllocError>
+    ensures { IfOk result (λ t. string_bytes t ≡ whatis_text name.now (map record_view records.now)) }
+{
+    let mut report = String::new(alloc);
+    let mut rest = records;
+    while let [kept, after @ ..] = rest {
+        push_description(&mut report, name, kept)?;
+        rest = after;
+    }
+    Ok(report)
+}

@@ -1,0 +1,349 @@
+//! The host of a modulefile.
+ghost use Rattle.std.specs.Prelude.{◌≡◌, ◌++◌, ◌∷◌, [], Ok, map, string_bytes, IfOk, IfErr, OnOk, OnErr, false};
+ghost use Rattle.environment.specs.Texts.{Text, texts_in};
+ghost use Rattle.environment.specs.Reasons.{bad_variable};
+ghost use Rattle.environment.specs.Changes.{applied, edits_in};
+ghost use Rattle.tclrules.specs.Oracle.{Nothing, Message, Done};
+ghost use Rattle.modulerecords.specs.Judgments.{RecordReason, bad_edit};
+ghost use Rattle.modulefile.specs.Calls.{CallReason, bad_record, keeps, call_of};
+ghost use Rattle.modulefile.specs.CallViews.{HasReason, call_view, topic_view};
+ghost use Rattle.modulefile.specs.RecordViews.{mode_view, record_view, HasFault};
+ghost use Rattle.modulefile.specs.Answers.{answered, any_loaded, asked, not_done, read, topic_text, topic_test, value_shown};
+ghost use Rattle.modulefile.specs.Files.{ran_of};
+ghost use Rattle.modulerun.specs.declared.run_fault.RunFault.TheVariants.{OutOfMemory};
+ghost use Rattle.modulerun.specs.Running.{ran_view};
+ghost use Rattle.modulerun.specs.Journals.{found};
+ghost use Rattle.modulerun.specs.Hosting.{context_with, told_with, message_of, Replies};
+
+use crate::context::Context;
+use crate::journal::{Journal, Made};
+use crate::made;
+use crate::questions::{any_loaded, is_mode, mode_word, truth};
+use crate::run::{Draft, Ran};
+use crate::run_fault::{RunFault, record_number};
+use environment::{EnvFault, Vars, is_variable_name};
+use modulefile::{Call, CallFault, Mode, Record, RecordFault, Topic, call_of};
+use std::alloc::{AllocError, Global};
+use tclrules::{Host, HostAnswer};
+
+/// Does the commands of a file over the environment from before it.
+pub(crate) struct Runner<'a, V: Vars> {
+    pub alloc: Global,
+    pub context: Context<'a>,
+    pub journal: Journal<'a, V>,
+    pub messages: Vec<String>,
+    pub asked: bool,
+    /// The refusal behind the number that the evaluation was told.
+    pub refusal: Option<RunFault>,
+}
+
+// By hand, since the variables below needn't be let go.
+impl<'a, V: Vars> Drop for Runner<'a, V> {
+    fn drop(self) {
+        let Runner {
+            alloc: _alloc,
+            context: _context,
+            journal: _journal,
+            messages: _messages,
+            asked: _asked,
+            refusal: _refusal,
+        } = self;
+    }
+}
+
+/// The name is none of a variable.
+fn bad_variable(alloc: Global, var: &str) -> RecordFault
+    ensures { HasFault (bad_edit (bad_variable var.now)) result }
+{
+    match String::from_str(alloc, var) {
+        Ok(var) => RecordFault::Env(EnvFault::BadVariable(var)),
+        Err(_) => RecordFault::Env(EnvFault::OutOfMemory),
+    }
+}
+
+impl<'a, V: Vars> Runner<'a, V> {
+    /// Nothing is told yet.
+    pub(crate) fn over(alloc: Global, context: Context<'a>, start: &'a V) -> Self
+        ensures journal { result.journal ≡ record { mode = context.entry.mode; owner = context.entry.name.now; start = V.vars start.entry.now; words = [] } }
+        ensures context { result.context ≡ context.entry }
+        ensures messages { result.messages.items ≡ [] }
+        ensures asked { result.asked ≡ false }
+    {
+        Runner {
+            alloc,
+            context,
+            journal: Journal::over(alloc, context.mode, context.name, start),
+            messages: Vec::new(alloc),
+            asked: false,
+            refusal: None,
+        }
+    }
+
+    fn not_done(&mut self, fault: CallFault) -> HostAnswer
+        ensures replies { (reason : CallReason) → HasReason reason fault → Replies (not_done reason) result
+            (told_with self.old.journal self.old.messages self.old.asked) (told_with self.new.journal self.new.messages self.new.asked) }
+        ensures same { context_with self.new.journal self.new.context ≡ context_with self.old.journal self.old.context }
+    {
+        match fault {
+            CallFault::OutOfMemory => HostAnswer::OutOfMemory,
+            CallFault::Unknown => HostAnswer::Unknown,
+            CallFault::LeftOut(name) => HostAnswer::LeftOut(name),
+            CallFault::BadArguments => {
+                self.refusal = Some(RunFault::BadArguments);
+                HostAnswer::Refused(56)
+            }
+        }
+    }
+
+    fn refuse(&mut self, fault: RecordFault) -> HostAnswer
+        ensures replies { (reason : RecordReason) → HasFault reason fault → Replies (not_done (bad_record reason)) result
+            (told_with self.old.journal self.old.messages self.old.asked) (told_with self.new.journal self.new.messages self.new.asked) }
+        ensures same { context_with self.new.journal self.new.context ≡ context_with self.old.journal self.old.context }
+    {
+        match record_number(&fault) {
+            None => HostAnswer::OutOfMemory,
+            Some(number) => {
+                self.refusal = Some(RunFault::BadRecord(fault));
+                HostAnswer::Refused(number)
+            }
+        }
+    }
+
+    /// Keeps a record, where it has its effect.
+    fn keep(&mut self, words: &[String], made: Result<Record, AllocError>) -> HostAnswer
+        requires { IfOk made (λ r. call_of (map string_bytes words.now) ≡ Ok (keeps (record_view r))) }
+        ensures replies { Replies (answered (context_with self.old.journal self.old.context) (found self.old.journal)
+            (map string_bytes words.now) (call_of (map string_bytes words.now))) result
+            (told_with self.old.journal self.old.messages self.old.asked) (told_with self.new.journal self.new.messages self.new.asked) }
+        ensures same { context_with self.new.journal self.new.context ≡ context_with self.old.journal self.old.context }
+    {
+        match made {
+            Err(_) => HostAnswer::OutOfMemory,
+            Ok(record) => match self.journal.note(words, record) {
+                Ok(()) => HostAnswer::Done(String::new(self.alloc)),
+                Err(fault) => self.refuse(fault),
+            },
+        }
+    }
+
+    /// A message, with a newline or without.
+    fn say(&mut self, text: &str, newline: bool) -> HostAnswer
+        ensures replies { Replies (Done [] (Message (message_of text.now newline)) false) result
+            (told_with self.old.journal self.old.messages self.old.asked) (told_with self.new.journal self.new.messages self.new.asked) }
+        ensures same { context_with self.new.journal self.new.context ≡ context_with self.old.journal self.old.context }
+    {
+        match push_message(self.alloc, &mut self.messages, text, newline) {
+            Ok(()) => HostAnswer::Done(String::new(self.alloc)),
+            Err(_) => HostAnswer::OutOfMemory,
+        }
+    }
+
+    /// The answer to a question.
+    fn ask(&mut self, text: Result<String, AllocError>) -> HostAnswer
+        ensures replies { (t : Text) → IfOk text (λ s. string_bytes s ≡ t) → Replies (asked t) result
+            (told_with self.old.journal self.old.messages self.old.asked) (told_with self.new.journal self.new.messages self.new.asked) }
+        ensures same { context_with self.new.journal self.new.context ≡ context_with self.old.journal self.old.context }
+    {
+        self.asked = true;
+        match text {
+            Ok(text) => HostAnswer::Done(text),
+            Err(_) => HostAnswer::OutOfMemory,
+        }
+    }
+
+    /// The module's own name, which is no question.
+    fn own_name(&self) -> HostAnswer
+        ensures { Replies (Done self.now.journal.owner Nothing false) result
+            (told_with self.now.journal self.now.messages self.now.asked) (told_with self.now.journal self.now.messages self.now.asked) }
+    {
+        match String::from_str(self.alloc, self.journal.owner()) {
+            Ok(name) => HostAnswer::Done(name),
+            Err(_) => HostAnswer::OutOfMemory,
+        }
+    }
+
+    /// The value of a variable, or in the mode `display` the variable itself.
+    fn value_shown(&self, var: &str, default: &str) -> Result<String, AllocError>
+        ensures { IfOk result (λ t. string_bytes t ≡ value_shown (mode_view self.now.journal.mode) (found self.now.journal) var.now default.now) }
+    {
+        match self.journal.mode() {
+            Mode::Display => format!(in self.alloc; "${var}"),
+            _ => String::from_str(self.alloc, self.journal.get(var).unwrap_or(default)),
+        }
+    }
+
+    fn getenv(&mut self, var: &str, default: &str) -> HostAnswer
+        ensures replies { Replies (read var.now (value_shown (mode_view self.old.journal.mode) (found self.old.journal) var.now default.now)) result
+            (told_with self.old.journal self.old.messages self.old.asked) (told_with self.new.journal self.new.messages self.new.asked) }
+        ensures same { context_with self.new.journal self.new.context ≡ context_with self.old.journal self.old.context }
+    {
+        if is_variable_name(var) {
+            let value = self.value_shown(var, default);
+            self.ask(value)
+        } else {
+            let fault = bad_variable(self.alloc, var);
+            self.refuse(fault)
+        }
+    }
+
+    fn topic_text(&self, topic: Topic) -> &'static str
+        ensures { result.now ≡ topic_text (context_with self.now.journal self.now.context) (topic_view topic) }
+    {
+        match topic {
+            Topic::Mode => mode_word(self.journal.mode()),
+            Topic::Shell => self.context.shell.name(),
+            Topic::ShellType => self.context.shell.family(),
+        }
+    }
+
+    fn topic_test(&self, topic: Topic, word: &str) -> bool
+        ensures { result ≡ topic_test (context_with self.now.journal self.now.context) (topic_view topic) word.now }
+    {
+        match topic {
+            Topic::Mode => is_mode(self.journal.mode(), self.context.in_switch, word),
+            Topic::Shell => word == self.context.shell.name(),
+            Topic::ShellType => word == self.context.shell.family(),
+        }
+    }
+
+    /// Whether a name means a loaded module, or without a name whether any is loaded.
+    fn is_loaded(&self, names: &[String]) -> bool
+        ensures { result ≡ any_loaded (map string_bytes names.now) (map string_bytes self.now.context.loaded.now) }
+    {
+        any_loaded(names, self.context.loaded)
+    }
+
+    /// What the file leaves where it ends.
+    pub(crate) fn finish(self) -> Result<Draft, RunFault>
+        ensures ok { IfOk result (λ draft. ran_of (context_with self.entry.journal self.entry.context)
+            (told_with self.entry.journal self.entry.messages self.entry.asked)
+            ≡ Ok (ran_view draft.ran (applied (edits_in draft.changes) self.entry.journal.start))) }
+        ensures only { IfErr result (λ fault. fault ≡ OutOfMemory) }
+    {
+        let Runner {
+            alloc: _alloc,
+            context: _context,
+            journal,
+            messages,
+            asked,
+            refusal: _refusal,
+        } = self;
+        match journal.finish() {
+            Ok(Made { records, changes }) => {
+                let ran = Ran {
+                    records,
+                    messages,
+                    asked,
+                };
+                Ok(Draft { ran, changes })
+            }
+            Err(_) => Err(RunFault::OutOfMemory),
+        }
+    }
+
+    /// The refusal of a command.
+    pub(crate) fn into_refusal(self) -> Option<RunFault> {
+        let Runner {
+            alloc: _alloc,
+            context: _context,
+            journal: _journal,
+            messages: _messages,
+            asked: _asked,
+            refusal,
+        } = self;
+        refusal
+    }
+
+    /// Answers a command.
+    fn answer(&mut self, words: &[String], call: Call<'_>) -> HostAnswer
+        requires { call_of (map string_bytes words.now) ≡ Ok (call_view call) }
+        ensures replies { Replies (answered (context_with self.old.journal self.old.context) (found self.old.journal)
+            (map string_bytes words.now) (call_of (map string_bytes words.now))) result
+            (told_with self.old.journal self.old.messages self.old.asked) (told_with self.new.journal self.new.messages self.new.asked) }
+        ensures same { context_with self.new.journal self.new.context ≡ context_with self.old.journal self.old.context }
+    {
+        let alloc = self.alloc;
+        match call {
+            Call::Set { var, value } => self.keep(words, made::set(alloc, var, value)),
+            Call::Unset { var, value } => self.keep(words, made::unset(alloc, var, value)),
+            Call::Push { var, value } => self.keep(words, made::push(alloc, var, value)),
+            Call::Path {
+                edit,
+                delim,
+                var,
+                values,
+            } => self.keep(words, made::path(alloc, edit, delim, var, values)),
+            Call::Conflict(names) => self.keep(words, made::conflict(alloc, names)),
+            Call::Prereq(names) => self.keep(words, made::prereq(alloc, names)),
+            Call::Whatis(texts) => self.keep(words, made::whatis(alloc, texts)),
+            Call::Say { text, newline } => self.say(text, newline),
+            Call::Getenv { var, default } => self.getenv(var, default),
+            Call::OwnName => self.own_name(),
+            Call::IsLoaded(names) => {
+                let so = self.is_loaded(names);
+                self.ask(String::from_str(alloc, truth(so)))
+            }
+            Call::TypedName => {
+                let typed = self.context.typed;
+                self.ask(String::from_str(alloc, typed))
+            }
+            Call::Tell(topic) => {
+                let text = self.topic_text(topic);
+                self.ask(String::from_str(alloc, text))
+            }
+            Call::Test(topic, word) => {
+                let so = self.topic_test(topic, word);
+                self.ask(String::from_str(alloc, truth(so)))
+            }
+        }
+    }
+}
+
+/// Pushes a message, with a newline or without.
+fn push_message(
+    alloc: Global,
+    messages: &mut Vec<String>,
+    text: &str,
+    newline: bool,
+) -> Result<(), AllocError>
+    ensures ok { OnOk result (texts_in messages.new ≡ texts_in messages.old ++ message_of text.now newline ∷ []) }
+    ensures err { OnErr result (texts_in messages.new ≡ texts_in messages.old) }
+{
+    let message = message(alloc, text, newline)?;
+    messages.push(message)?;
+    Ok(())
+}
+
+fn message(alloc: Global, text: &str, newline: bool) -> Result<String, AllocError>
+    ensures { IfOk result (λ m. string_bytes m ≡ message_of text.now newline) }
+{
+    let mut message = String::from_str(alloc, text)?;
+    if newline {
+        message.push('\n')?;
+    }
+    Ok(message)
+}
+
+impl<'a, V: Vars> Host for Runner<'a, V> {
+    ghost use Rattle.modulefile.specs.Answers.{oracle_of};
+    ghost use Rattle.modulerun.specs.Hosting.{context_with, told_with};
+
+    ghost told = { λ r. told_with r.journal r.messages r.asked };
+
+    ghost oracle = { λ r. oracle_of (context_with r.journal r.context) };
+
+    fn command(&mut self, words: &[String]) -> HostAnswer {
+        match call_of(self.alloc, words) {
+            Ok(call) => self.answer(words, call),
+            Err(fault) => self.not_done(fault),
+        }
+    }
+
+    fn read_env(&mut self, name: &str) -> Result<Option<String>, AllocError> {
+        self.asked = true;
+        match self.journal.get(name) {
+            None => Ok(None),
+            Some(value) => Ok(Some(String::from_str(self.alloc, value)?)),
+        }
+    }
+}
