@@ -1,5 +1,6 @@
 //! What a file is evaluated in.
-use modulefile::{Mode, Shell};
+use modulefile::Mode;
+use shells::Shell;
 
 /// What a file is evaluated in, but for the environment before it.
 #[derive(Clone, Copy)]

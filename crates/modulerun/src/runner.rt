@@ -192,7 +192,7 @@ impl<'a, V: Vars> Runner<'a, V> {
         match topic {
             Topic::Mode => mode_word(self.journal.mode()),
             Topic::Shell => self.context.shell.name(),
-            Topic::ShellType => self.context.shell.family(),
+            Topic::ShellType => self.context.shell.family().name(),
         }
     }
 
@@ -202,7 +202,7 @@ impl<'a, V: Vars> Runner<'a, V> {
         match topic {
             Topic::Mode => is_mode(self.journal.mode(), self.context.in_switch, word),
             Topic::Shell => word == self.context.shell.name(),
-            Topic::ShellType => word == self.context.shell.family(),
+            Topic::ShellType => word == self.context.shell.family().name(),
         }
     }
 
