@@ -29,7 +29,8 @@ last_of old (new ∷ later) = last_of new later
 
 -- runs make one thing of an environment
 abbrev pub OneEffectTogether : Type 0
-OneEffectTogether = (runs : List Run) (old new other : Environment) → MakeOf runs old new → MakeOf runs old other → new ≡ other
+OneEffectTogether =
+    (runs : List Run) (old new other : Environment) → MakeOf runs old new → MakeOf runs old other → new ≡ other
 
 -- runs whose texts say the differences from each environment to the next make the last of the first
 abbrev pub DifferencesMake : Type 0

@@ -1,0 +1,21 @@
+use Rattle.std.proofs.Common.{◌≡◌, List, [], ◌++◌, sym, subst, append-nil}
+use Rattle.environment.specs.Environment.{Environment}
+use Rattle.reversal.specs.Runs.{live_after}
+use Rattle.requests.specs.Requests.{Request}
+use Rattle.requests.specs.Returning.{AreNew, AreFitting}
+use Rattle.requests.specs.Sessions.{Response, Session, session_moves}
+use Rattle.shelltext.specs.Sequences.{MakeOf}
+use Rattle.rehearsal.specs.Rehearsals.{runs_of}
+use Rattle.rehearsal.proofs.Chain.{whole}
+use Rattle.rehearsal.proofs.come_back.Goals as goal
+
+pub returns : goal.returns
+returns c ways s start rs ps left h begins new fitting none =
+    let os = h.responses in
+    let same : os ≡ os ++ [] = sym (append-nil os) in
+    let IsSession : List Response → Type 0 = λ all. Session s start rs all in
+    let IsNewHere : List Response → Type 0 = λ all. AreNew start (session_moves all) in
+    let IsFittingHere : List Response → Type 0 = λ all. AreFitting ways [] (session_moves all) in
+    let holds = c.session_returns.ensures ways s start rs os [] begins (subst IsSession same h.session) (subst IsNewHere same new) (subst IsFittingHere same fitting) in
+    let Made : Environment → Type 0 = λ e. MakeOf (runs_of rs ps) start e in
+    subst Made (holds.returned none) (whole c.difference_makes.ensures s start rs os ps h.prints)

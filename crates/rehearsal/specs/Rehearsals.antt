@@ -1,0 +1,49 @@
+-- Rehearsals: a session with the text that each accepted request prints.
+use Rattle.std.specs.Prelude.{ℕ, ◌≡◌, ◌==◌, ◌++◌, List, [], ◌∷◌, Option, Some, None, take, if◌then◌else◌, Ok}
+use Rattle.environment.specs.Texts.{Text}
+use Rattle.environment.specs.Environment.{Environment}
+use Rattle.environment.specs.Changes.{Edit, AreChanges}
+use Rattle.shells.specs.declared.shell.Shell.{Shell}
+use Rattle.shelltext.specs.Reading.{SaysDifference}
+use Rattle.shelltext.specs.Printing.{IsUnsayable}
+use Rattle.shelltext.specs.Sequences.{Run, MakeOf}
+use Rattle.requests.specs.Requests.{Asked, Request}
+use Rattle.requests.specs.Steps.{Site, Done, Step}
+use Rattle.requests.specs.Sessions.{Response, accepted, refused, given_up, Session, env_after, left_by, in_shell}
+
+-- the step has changes that no text of the shell says
+abbrev pub LacksText : Site → Environment → Request → Type 0
+LacksText s e r =
+    (d : Done) × (changes : List Edit) × (name : Text) × Step (in_shell s r.0) e r.1 (Ok d)
+    × AreChanges e d.env changes × IsUnsayable r.0 changes name
+
+-- what is printed for a request with this response: for an accepted one a text that says the difference between the
+-- environment before it and what it leaves, for another none; one that is given up by 62 has changes without a text
+abbrev pub IsPrint : Site → Environment → Request → Response → Option Text → Type 0
+IsPrint s e r (accepted d) (Some text) = SaysDifference r.0 text e d.env
+IsPrint s e r (accepted d) None = ⊥
+IsPrint s e r (refused reason) print = print ≡ None
+IsPrint s e r (given_up number) print = (print ≡ None) × (number ≡ 62 → LacksText s e r)
+
+-- for each request what is printed, in the environment that those before it left
+abbrev pub ArePrints : Site → Environment → List Request → List Response → List (Option Text) → Type 0
+ArePrints s e [] [] [] = Unit {0}
+ArePrints s e [] [] (p ∷ ps) = ⊥
+ArePrints s e [] (o ∷ os) ps = ⊥
+ArePrints s e (r ∷ rs) [] ps = ⊥
+ArePrints s e (r ∷ rs) (o ∷ os) [] = ⊥
+ArePrints s e (r ∷ rs) (o ∷ os) (p ∷ ps) = IsPrint s e r o p × ArePrints s (env_after e o) rs os ps
+
+-- The requests were rehearsed: they are a session in which exactly those with a text are accepted, and this is left.
+pub record Rehearsed (s : Site) (e : Environment) (rs : List Request) (ps : List (Option Text)) (left : Environment) : Type 0 where
+  pub responses : List Response
+  pub session : Session s e rs responses
+  pub prints : ArePrints s e rs responses ps
+  pub leaves : left ≡ left_by e responses
+
+-- the texts that were printed, each with the shell of its request
+abbrev pub runs_of : List Request → List (Option Text) → List Run
+runs_of [] ps = []
+runs_of (r ∷ rs) [] = []
+runs_of (r ∷ rs) (None ∷ ps) = runs_of rs ps
+runs_of (r ∷ rs) (Some text ∷ ps) = (r.0, text) ∷ runs_of rs ps
