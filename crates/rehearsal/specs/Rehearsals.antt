@@ -35,7 +35,8 @@ ArePrints s e (r ∷ rs) (o ∷ os) [] = ⊥
 ArePrints s e (r ∷ rs) (o ∷ os) (p ∷ ps) = IsPrint s e r o p × ArePrints s (env_after e o) rs os ps
 
 -- The requests were rehearsed: they are a session in which exactly those with a text are accepted, and this is left.
-pub record Rehearsed (s : Site) (e : Environment) (rs : List Request) (ps : List (Option Text)) (left : Environment) : Type 0 where
+pub record Rehearsed (s : Site) (e : Environment) (rs : List Request) (ps : List (Option Text)) (left : Environment)
+    : Type 0 where
   pub responses : List Response
   pub session : Session s e rs responses
   pub prints : ArePrints s e rs responses ps
