@@ -1,0 +1,2 @@
+-- for this crate's own contracts alone
+pub mod Rest

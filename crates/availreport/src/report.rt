@@ -1,0 +1,103 @@
+//! The report of `avail`, as lines of text.
+ghost use Rattle.std.specs.Prelude.{◌≡◌, ◌++◌, map, codes, nat_eq, IfOk, OnOk, string_bytes};
+ghost use Rattle.std.specs.List.{list_any, starts_with};
+ghost use Rattle.modulelist.specs.Listings.{listing_view};
+ghost use Rattle.modulelist.specs.Rows.{row_view};
+ghost use Rattle.modulefile.specs.Reports.{line_of};
+ghost use Rattle.requests.specs.Reports.{is_wanted, row_line, wanted_text, avail_text};
+
+use modulelist::{Listing, Row};
+use std::alloc::{AllocError, Global};
+
+/// Whether a name begins with a text.
+fn begins(name: &str, text: &str) -> bool
+    ensures { result ≡ starts_with nat_eq name.now text.now }
+{
+    name.as_bytes().starts_with(text.as_bytes())
+}
+
+/// Whether a name begins with one of the texts.
+fn begins_with_one(name: &str, texts: &[String]) -> bool
+    ensures { result ≡ list_any (λ text. starts_with nat_eq name.now text) (map string_bytes texts.now) }
+{
+    let mut rest = texts;
+    while let [text, after @ ..] = rest {
+        if begins(name, text) {
+            return true;
+        }
+        rest = after;
+    }
+    false
+}
+
+/// Whether a name is to be reported: it begins with one of the texts, or there are none.
+#[tactic(auto, using(crate::proofs::Wanted::wanted))]
+fn is_wanted(texts: &[String], name: &str) -> bool
+    ensures { result ≡ is_wanted (map string_bytes texts.now) name.now }
+{
+    texts.is_empty() || begins_with_one(name, texts)
+}
+
+/// Adds the line of a directory.
+fn push_directory(report: &mut String, dir: &str) -> Result<(), AllocError>
+    ensures { OnOk result (string_bytes report.new ≡ string_bytes report.old ++ line_of (dir.now ++ codes ":")) }
+{
+    report.push_str(dir)?;
+    report.push_str(":\n")
+}
+
+/// Adds the line of a module.
+fn push_row(report: &mut String, row: &Row) -> Result<(), AllocError>
+    ensures { OnOk result (string_bytes report.new ≡ string_bytes report.old ++ row_line (row_view row.now)) }
+{
+    report.push_str(&row.name)?;
+    if row.is_default {
+        report.push_str("(default)")?;
+    }
+    report.push('\n')
+}
+
+/// Adds the lines of a directory, where it has a name to report.
+fn push_listing(
+    report: &mut String,
+    texts: &[String],
+    listing: &Listing,
+) -> Result<(), AllocError>
+    ensures { OnOk result (string_bytes report.new
+        ≡ string_bytes report.old ++ wanted_text (map string_bytes texts.now) (listing_view listing.now)) }
+{
+    let mut is_said = false;
+    let mut rest = listing.modules.as_slice();
+    while let [row, after @ ..] = rest {
+        if is_wanted(texts, &row.name) {
+            if !is_said {
+                push_directory(report, &listing.dir)?;
+                is_said = true;
+            }
+            push_row(report, row)?;
+        }
+        rest = after;
+    }
+    Ok(())
+}
+
+/// The report of `avail`: for each directory that has names to report a line `DIR:` and its modules, one a line, with
+/// `(default)` behind one that a default file names. Where texts are given, only names that begin with one of them.
+///
+/// It fails for want of memory alone.
+pub fn avail_report(
+    alloc: Global,
+    texts: &[String],
+    listings: &[Listing],
+) -> Result<String, AllocError>
+    ensures { IfOk result (λ report.
+        string_bytes report ≡ avail_text (map string_bytes texts.now) (map listing_view listings.now)) }
+{
+    let mut report = String::new(alloc);
+    let mut rest = listings;
+    while let [listing, after @ ..] = rest {
+        push_listing(&mut report, texts, listing)?;
+        rest = after;
+    }
+    Ok(report)
+}

@@ -1,0 +1,6 @@
+pub mod ListLemmas
+pub mod RecordLemmas
+pub mod StepLemmas
+pub mod NameLemmas
+pub mod EachLemmas
+pub mod ReportLemmas

@@ -1,0 +1,50 @@
+-- Lists of values of the code, and what is found in them.
+use Rattle.std.proofs.Common.{◌≡◌, ℕ, ◌+◌, ◌<◌, length, get_or, take, append_assoc, Bor, Bool, true, false, cond, ◌||◌, List, [], ◌∷◌, ◌++◌, map, reverse, find, Option, Some, None, refl, sym, ap, ◌∙◌}
+use Rattle.std.specs.List.{list_any}
+use Rattle.std.proofs.lemmas.List.{reverse-append, take_more}
+use Rattle.std.specs.Option.{option_map}
+use Rattle.std.specs.Prelude.{string_bytes, String}
+use Rattle.std.specs.declared.alloc.Global.{Global}
+
+-- a test over what the values are
+pub any_seen : {X Y : Type 0} (test : Y → Bool) (view : X → Y) (xs : List X) → list_any (λ x. test (view x)) xs ≡ list_any test (map view xs)
+any_seen test view [] = refl
+any_seen test view (x ∷ xs) = ap (λ b. test (view x) || b) (any_seen test view xs)
+
+find_map : {X Y : Type 0} (test : Y → Bool) (view : X → Y) (xs : List X) → option_map view (find (λ x. test (view x)) xs) ≡ find test (map view xs)
+find_map test view [] = refl
+find_map {X} {Y} test view (x ∷ xs) = by_test (test (view x)) (find_map test view xs)
+  where
+    by_test : (b : Bool) → option_map view (find (λ x. test (view x)) xs) ≡ find test (map view xs)
+        → option_map view (cond b (Some x) (find (λ x. test (view x)) xs)) ≡ cond b (Some (view x)) (find test (map view xs))
+    by_test true h = refl
+    by_test false h = h
+
+lent : {X Y : Type 0} (view : X → Y) (r : Option (Bor X)) → option_map (λ x. view x.now) r ≡ option_map view (option_map (λ x. x.now) r)
+lent view None = refl
+lent view (Some x) = refl
+
+-- what is found of them
+pub find_seen : {X Y : Type 0} (test : Y → Bool) (view : X → Y) (xs : List X) (r : Option (Bor X)) → option_map (λ x. x.now) r ≡ find (λ x. test (view x)) xs
+    → option_map (λ x. view x.now) r ≡ find test (map view xs)
+find_seen test view xs r h = lent view r ∙ (ap (option_map view) h ∙ find_map test view xs)
+
+map-append : {X Y : Type 0} (view : X → Y) (xs ys : List X) → map view (xs ++ ys) ≡ map view xs ++ map view ys
+map-append view [] ys = refl
+map-append {X} {Y} view (x ∷ xs) ys = ap (λ (l : List Y). view x ∷ l) (map-append view xs ys)
+
+pub map-reverse : {X Y : Type 0} (view : X → Y) (xs : List X) → map view (reverse xs) ≡ reverse (map view xs)
+map-reverse view [] = refl
+map-reverse {X} {Y} view (x ∷ xs) =
+    ap (map view) (reverse-append (x ∷ []) xs)
+    ∙ (map-append view (reverse xs) (x ∷ []) ∙ (ap (λ (l : List Y). l ++ view x ∷ []) (map-reverse view xs) ∙ sym (reverse-append (view x ∷ []) (map view xs))))
+
+-- one value more
+pub turn : {X Y Z : Type 0} (view : X → Y) (of : List Y → List Z) → ((xs ys : List Y) → of (xs ++ ys) ≡ of xs ++ of ys) → (ts us : List Z) (xs : List X) (i : ℕ) (x : X) → i < length xs → x ≡ get_or xs i x
+    → ts ≡ of (map view (take i xs)) → us ≡ ts ++ of (view x ∷ []) → us ≡ of (map view (take (i + 1) xs))
+turn {X} {Y} {Z} view of append ts us xs i x l e h k =
+    k ∙ (ap (λ (t : List Z). t ++ of (view x ∷ [])) h ∙ (sym (append (map view (take i xs)) (view x ∷ []))
+    ∙ ap of (sym (ap (map view) (take_more xs i x l ∙ ap (λ (y : X). take i xs ++ y ∷ []) (sym e)) ∙ map-append view (take i xs) (x ∷ [])))))
+
+pub names_reverse : (xs : List (String Global)) → map (λ (s : String Global). string_bytes s) (reverse xs) ≡ reverse (map (λ (s : String Global). string_bytes s) xs)
+names_reverse xs = map-reverse (λ (s : String Global). string_bytes s) xs

@@ -1,0 +1,215 @@
+-- A request's step, by what its parts answered.
+use Rattle.std.proofs.Common.{◌≡◌, Bool, true, false, List, [], ◌∷◌, Option, Some, None, IfSome, Result, Ok, Err, refl, sym, ap, ◌∙◌, subst}
+use Rattle.environment.specs.Texts.{Text, has}
+use Rattle.environment.specs.Environment.{Environment}
+use Rattle.environment.specs.Reasons.{EnvReason}
+use Rattle.loadedlist.specs.Loaded.{Entry, names_of, dropped_loaded}
+use Rattle.lookup.specs.Agreement.{Files, Listings, Shows}
+use Rattle.tclrules.specs.declared.limits.Limits.{Limits}
+use Rattle.tclrules.specs.Derivation.{Outcome, Ended, Halted}
+use Rattle.tclrules.specs.Plans.{Ending, Normal, Raised, Returned, Broken, Continued}
+use Rattle.tclrules.specs.Oracle.{Told}
+use Rattle.relations.specs.Relations.{If, Is, Then}
+use Rattle.modulerecords.specs.Records.{Record}
+use Rattle.modulerecords.specs.Judgments.{RecordReason, bad_edit, record_reason}
+use Rattle.modulerecords.specs.Effects.{Mode, load, unload, display, whatis, effects, and_then, permitted, by_edit}
+use Rattle.modulerecords.specs.Moves.{Module, Loads, Unloads, listed}
+use Rattle.modulefile.specs.Results.{◌>>=◌}
+use Rattle.modulefile.specs.Calls.{CallReason}
+use Rattle.modulefile.specs.Answers.{Context, by_record, records_in}
+use Rattle.modulefile.specs.Files.{Ran, Stop, Runs, Finishes, ran_of}
+use Rattle.modulefind.specs.Answers as finding
+use Rattle.modulesearch.specs.Reasons as search
+use Rattle.requests.specs.Reasons.{RequestReason, missed, stopped, refused_edit}
+use Rattle.requests.specs.Refusals.{refused_as, unless, RefusedAs}
+use Rattle.requests.specs.Conditions.{load_objection}
+use Rattle.requests.specs.Steps.{Site, Done, moved_on, went, joins}
+use Rattle.modulesteps.specs.declared.refusal.Refusal.{Refusal}
+use Rattle.modulesteps.specs.Answers.{Cause, Stands, Gives, Tells, by_reason, by_search, cause_of}
+use Rattle.modulesteps.specs.Answers.Cause.{memory, device, because}
+use Rattle.modulesteps.specs.declared.files.Topic.{Topic}
+use Rattle.modulesteps.specs.declared.files.Topic.TheVariants.{Commands, Whatis}
+use Rattle.modulesteps.specs.Parts.{added, objection, topic_mode}
+
+-- a cause of one step is a cause of the whole
+pub stands_as : (c : Cause) (failed before : Type 0) (P Q : RequestReason → Type 0) → (failed → before) → ((r : RequestReason) → P r → Q r) → Stands c failed P → Stands c before Q
+stands_as memory failed before P Q later then h = tt
+stands_as device failed before P Q later then h = later h
+stands_as (because r) failed before P Q later then h = then r h
+
+stands_each : (c : Cause) (agrees : Files → Listings → Type 0) (before : Type 0) (P Q : Files → Listings → RequestReason → Type 0)
+    → ((files : Files) (listings : Listings) (r : RequestReason) → agrees files listings → P files listings r → Q files listings r)
+    → ((files : Files) (listings : Listings) → Stands c ⊥ (P files listings)) → Stands c before (λ r. Shows agrees (λ files listings. Q files listings r))
+stands_each memory agrees before P Q then h = tt
+stands_each device agrees before P Q then h = absurd (h (λ path. None) (λ path. None))
+stands_each (because r) agrees before P Q then h = λ files listings a. then files listings r a (h files listings)
+
+-- what a call without a tree gives
+pub gives_tells : {X Y : Type 0} (agrees : Files → Listings → Type 0) (before : Type 0) (view : X → Y) (r : Result X Refusal)
+    (Gave Comes : Files → Listings → Result Y RequestReason → Type 0)
+    → ((files : Files) (listings : Listings) (o : Result Y RequestReason) → agrees files listings → Gave files listings o → Comes files listings o)
+    → ((files : Files) (listings : Listings) → Gives view r (Gave files listings)) → Tells agrees before view r Comes
+gives_tells agrees before view (Ok x) Gave Comes then h = λ files listings a. then files listings (Ok (view x)) a (h files listings)
+gives_tells agrees before view (Err e) Gave Comes then h =
+    stands_each (cause_of e) agrees before (λ files listings r. Gave files listings (Err r)) (λ files listings r. Comes files listings (Err r))
+    (λ files listings r a k. then files listings (Err r) a k) h
+
+-- what a call over a tree tells
+pub tells_same : {X Y : Type 0} (agrees : Files → Listings → Type 0) (failed before : Type 0) (view : X → Y) (r : Result X Refusal)
+    (Told Comes : Files → Listings → Result Y RequestReason → Type 0)
+    → (failed → before) → ((files : Files) (listings : Listings) (o : Result Y RequestReason) → agrees files listings → Told files listings o → Comes files listings o)
+    → Tells agrees failed view r Told → Tells agrees before view r Comes
+tells_same agrees failed before view (Ok x) Told Comes later then h = λ files listings a. then files listings (Ok (view x)) a (h files listings a)
+tells_same agrees failed before view (Err e) Told Comes later then h =
+    stands_as (cause_of e) failed before _ _ later (λ r k files listings a. then files listings (Err r) a (k files listings a)) h
+
+-- a refusal of one step is a refusal of the whole
+pub tells_refused : {X Y V W : Type 0} (agrees : Files → Listings → Type 0) (failed before : Type 0) (view : X → Y) (view' : V → W) (e : Refusal)
+    (Told : Files → Listings → Result Y RequestReason → Type 0) (Comes : Files → Listings → Result W RequestReason → Type 0)
+    → (failed → before) → ((files : Files) (listings : Listings) (r : RequestReason) → agrees files listings → Told files listings (Err r) → Comes files listings (Err r))
+    → Tells agrees failed view (Err e) Told → Tells agrees before view' (Err e) Comes
+tells_refused agrees failed before view view' e Told Comes later then h =
+    stands_as (cause_of e) failed before _ _ later (λ r k files listings a. then files listings r a (k files listings a)) h
+
+-- the same of one without a tree, before a step over one
+pub gives_refused : {X Y V W : Type 0} (agrees : Files → Listings → Type 0) (before : Type 0) (view : X → Y) (view' : V → W) (e : Refusal)
+    (Gave : Result Y RequestReason → Type 0) (Comes : Files → Listings → Result W RequestReason → Type 0)
+    → ((files : Files) (listings : Listings) (r : RequestReason) → agrees files listings → Gave (Err r) → Comes files listings (Err r))
+    → Gives view (Err e) Gave → Tells agrees before view' (Err e) Comes
+gives_refused agrees before view view' e Gave Comes then h =
+    stands_as (cause_of e) ⊥ before _ _ (λ q. absurd q) (λ r k files listings a. then files listings r a k) h
+
+pub if_yes : {A R : Type 0} (b : Bool) (Yes No : Result A R → Type 0) (o : Result A R) → b ≡ true → Yes o → If b Yes No o
+if_yes true Yes No o e h = h
+if_yes false Yes No o e h = absurd (cc)
+
+pub if_no : {A R : Type 0} (b : Bool) (Yes No : Result A R → Type 0) (o : Result A R) → b ≡ false → No o → If b Yes No o
+if_no true Yes No o e h = absurd (cc)
+if_no false Yes No o e h = h
+
+-- a search, as a part of the step
+pub search_stands : (k : finding.Cause) (failed : Type 0) (P : search.Reason → Type 0) (Q : RequestReason → Type 0) → ((r : search.Reason) → P r → Q (missed r)) → finding.Stands k failed P → Stands (by_search k) failed Q
+search_stands finding.memory failed P Q then h = tt
+search_stands finding.device failed P Q then h = h
+search_stands (finding.because r) failed P Q then h = then r h
+
+-- ---- a file
+
+-- a stop, as a reason
+pub run_refused : (o : Option Stop) (Runs' : Result Ran Stop → Type 0) → IfSome o (λ stop. Runs' (Err stop)) → Stands (by_reason stopped o) ⊥ (λ r. RefusedAs stopped Runs' (Err r))
+run_refused None Runs' h = tt
+run_refused (Some stop) Runs' h = (Err stop, h, refl)
+
+-- the outcome of a file that ended
+pub run_ended : (Runs' : Result Ran Stop → Type 0) (ran : Ran) → RefusedAs stopped Runs' (Ok ran) → Runs' (Ok ran)
+run_ended Runs' ran (Ok x, h, e) = let q : x ≡ ran = cc in subst (λ y. Runs' (Ok y)) q h
+run_ended Runs' ran (Err r, h, e) = absurd (cc)
+
+made_by : (c : Context) (told : Told) (ran : Ran) (rs : List Record) (x : Result Environment RecordReason) → effects c.mode c.name rs c.start ≡ x
+    → (by_record x >>= (λ e. Ok (record { records = rs; messages = told.messages; asked = told.asked; env = e }))) ≡ Ok ran → effects c.mode c.name ran.records c.start ≡ Ok ran.env
+made_by c told ran rs (Err r) made h = absurd (cc)
+made_by c told ran rs (Ok e) made h =
+    let made_ran : Ran = record { records = rs; messages = told.messages; asked = told.asked; env = e } in
+    let q : made_ran ≡ ran = cc in
+    subst (λ (y : Ran). effects c.mode c.name y.records c.start ≡ Ok y.env) q made
+
+ran_by : (c : Context) (told : Told) (ran : Ran) (x : Result (List Record) CallReason)
+    → (x >>= (λ rs. by_record (effects c.mode c.name rs c.start) >>= (λ e. Ok (record { records = rs; messages = told.messages; asked = told.asked; env = e })))) ≡ Ok ran
+    → effects c.mode c.name ran.records c.start ≡ Ok ran.env
+ran_by c told ran (Err r) h = absurd (cc)
+ran_by c told ran (Ok rs) h = made_by c told ran rs (effects c.mode c.name rs c.start) refl h
+
+finished : (c : Context) (text : Text) (out : Outcome Ending) (told : Told) (ran : Ran) → Finishes c text out told (Ok ran) → effects c.mode c.name ran.records c.start ≡ Ok ran.env
+finished c text (Ended (Normal result s)) told ran (x, made, e) = let q : x ≡ ran = cc in ran_by c told ran (records_in told.records) (made ∙ ap Ok q)
+finished c text (Ended (Raised message s)) told ran h = absurd (cc)
+finished c text (Ended (Returned result s)) told ran h = absurd h
+finished c text (Ended (Broken s)) told ran h = absurd h
+finished c text (Ended (Continued s)) told ran h = absurd h
+finished c text (Halted halt) told ran h = absurd (cc)
+
+-- a file that ended made the effects of its records
+pub run_made : (limits : Limits) (c : Context) (text : Text) (ran : Ran) → RefusedAs stopped (Runs limits c text) (Ok ran) → effects c.mode c.name ran.records c.start ≡ Ok ran.env
+run_made limits c text ran h = let k = run_ended (Runs limits c text) ran h in finished c text k.0 k.1.told ran k.3
+
+-- in the modes of reports nothing changes
+shown_same : (owner : Text) (rs : List Record) (e d : Environment) → effects display owner rs e ≡ Ok d → d ≡ e
+shown_same owner [] e d h = cc
+shown_same owner (r ∷ rs) e d h = by_reason_of (record_reason r) (shown_same owner rs e d) h
+  where
+    by_reason_of : (o : Option RecordReason) → (effects display owner rs e ≡ Ok d → d ≡ e) → and_then (permitted o (Ok e)) (effects display owner rs) ≡ Ok d → d ≡ e
+    by_reason_of None more k = more k
+    by_reason_of (Some reason) more k = absurd (cc)
+
+described_same : (owner : Text) (rs : List Record) (e d : Environment) → effects whatis owner rs e ≡ Ok d → d ≡ e
+described_same owner [] e d h = cc
+described_same owner (r ∷ rs) e d h = by_reason_of (record_reason r) (described_same owner rs e d) h
+  where
+    by_reason_of : (o : Option RecordReason) → (effects whatis owner rs e ≡ Ok d → d ≡ e) → and_then (permitted o (Ok e)) (effects whatis owner rs) ≡ Ok d → d ≡ e
+    by_reason_of None more k = more k
+    by_reason_of (Some reason) more k = absurd (cc)
+
+-- ---- moves
+
+-- an outcome, and what follows from its value
+abbrev after : {A : Type 0} → (Environment → A) → Result Environment RequestReason → Result A RequestReason
+after f (Ok e) = Ok (f e)
+after f (Err r) = Err r
+
+unless_after : {A : Type 0} (f : Environment → A) (o : Option RequestReason) (x y : Result Environment RequestReason) → y ≡ unless o x → after f y ≡ unless o (x >>= (λ e. Ok (f e)))
+unless_after f None (Ok e) y h = ap (after f) h
+unless_after f None (Err r) y h = ap (after f) h
+unless_after f (Some r) x y h = ap (after f) h
+
+module _ (d : Done) (xs : List Entry) (m : Module) (messages : List Text) (mid : Environment) (made : effects load m.name m.records d.env ≡ Ok mid) where
+  joined : (y : Result Environment RequestReason) → y ≡ added xs m mid → after (moved_on d (Loads m) messages) y ≡ joins d xs m messages
+  joined y h =
+      subst (λ z. after (moved_on d (Loads m) messages) y ≡ unless (load_objection m.name m.records xs) (refused_as refused_edit (and_then z (listed (Loads m))) >>= (λ e. Ok (moved_on d (Loads m) messages e))))
+      (sym made) (unless_after (moved_on d (Loads m) messages) (load_objection m.name m.records xs) (refused_as refused_edit (listed (Loads m) mid)) y h)
+
+  pub joins_ok : (e : Environment) → Ok e ≡ added xs m mid → Ok (moved_on d (Loads m) messages e) ≡ joins d xs m messages
+  joins_ok e h = joined (Ok e) h
+
+  pub joins_refused : (r : RequestReason) → Err r ≡ added xs m mid → Err r ≡ joins d xs m messages
+  joins_refused r h = joined (Err r) h
+
+-- what dropping an entry comes to
+abbrev dropped_so : Done → Module → List Text → Result Environment EnvReason → Result Done RequestReason
+dropped_so d m messages (Ok e) = Ok (moved_on d (Unloads m) messages e)
+dropped_so d m messages (Err r) = Err (refused_edit (bad_edit r))
+
+by_drop : (d : Done) (m : Module) (messages : List Text) (x : Result Environment EnvReason)
+    → dropped_so d m messages x ≡ (refused_as refused_edit (by_edit x) >>= (λ e. Ok (moved_on d (Unloads m) messages e)))
+by_drop d m messages (Ok e) = refl
+by_drop d m messages (Err r) = refl
+
+pub unloads_so : (d : Done) (m : Module) (messages : List Text) (mid : Environment) (x : Result Environment EnvReason) → effects unload m.name m.records d.env ≡ Ok mid
+    → dropped_loaded mid m.name ≡ x → dropped_so d m messages x ≡ went d (Unloads m) messages
+unloads_so d m messages mid x made h =
+    subst (λ z. dropped_so d m messages x ≡ (refused_as refused_edit (and_then z (listed (Unloads m))) >>= (λ e. Ok (moved_on d (Unloads m) messages e)))) (sym made)
+    (by_drop d m messages x ∙ ap (λ z. refused_as refused_edit (by_edit z) >>= (λ e. Ok (moved_on d (Unloads m) messages e))) (sym h))
+
+-- ---- more of the parts
+
+pub edit_refused : (o : Option EnvReason) (P : EnvReason → Type 0) (Q : RequestReason → Type 0) → ((r : EnvReason) → P r → Q (refused_edit (bad_edit r))) → IfSome o P
+    → Stands (by_reason (λ r. refused_edit (bad_edit r)) o) ⊥ Q
+edit_refused None P Q then h = tt
+edit_refused (Some r) P Q then h = then r h
+
+pub judged : (o p : Option RequestReason) → o ≡ p → (x : Result Environment RequestReason) (r : RequestReason) → Err r ≡ unless {A = Unit {0}} o (Ok tt) → Err r ≡ unless p x
+judged None p e x r h = absurd (cc)
+judged (Some s) p e x r h = let q : r ≡ s = cc in subst (λ z. Err r ≡ unless z x) e (ap Err q)
+
+pub objection_same : (n m : Text) (cs ds : List Text) (gs hs : List (List Text)) (xs : List Entry) → n ≡ m → cs ≡ ds → gs ≡ hs → objection n cs gs xs ≡ objection m ds hs xs
+objection_same n m cs ds gs hs xs a b e =
+    ap (λ y. objection y cs gs xs) a ∙ (ap (λ y. objection m y gs xs) b ∙ ap (λ y. objection m ds y xs) e)
+
+pub unloaded_as : (d : Done) (n m p q : Text) (rs : List Record) (messages : List Text) (e : Environment) → n ≡ m → p ≡ q
+    → moved_on d (Unloads (record { name = n; path = p; records = rs })) messages e ≡ moved_on d (Unloads (record { name = m; path = q; records = rs })) messages e
+unloaded_as d n m p q rs messages e a b =
+    ap (λ (y : Text). moved_on d (Unloads (record { name = y; path = p; records = rs })) messages e) a
+    ∙ ap (λ (y : Text). moved_on d (Unloads (record { name = m; path = y; records = rs })) messages e) b
+
+-- a report changes nothing
+pub topic_same : (topic : Topic) (owner : Text) (rs : List Record) (e d : Environment) → effects (topic_mode topic) owner rs e ≡ Ok d → d ≡ e
+topic_same Commands owner rs e d h = shown_same owner rs e d h
+topic_same Whatis owner rs e d h = described_same owner rs e d h

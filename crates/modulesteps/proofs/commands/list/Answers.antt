@@ -1,0 +1,19 @@
+use Rattle.std.proofs.Common.{List, [], map, string_bytes, String, Ok, ap, ◌∙◌}
+use Rattle.std.specs.declared.alloc.Global.{Global}
+use Rattle.environment.specs.Texts.{Text}
+use Rattle.loadedlist.specs.Loaded.{names_of}
+use Rattle.loadedlist.specs.LoadedEntries.{entry_of}
+use Rattle.loadedlist.specs.declared.entry.Loaded.{Loaded}
+use Rattle.requests.specs.Reports.{loaded_text}
+use Rattle.requests.specs.Steps.{begun, reported}
+use Rattle.modulesteps.proofs.commands.list.Goals as goal
+
+pub returns : goal.returns
+returns g c =
+    let e = g.V.Vars.vars c.args.env.now in (
+      Ok (map entry_of c.in_ok-entries.entries.items),
+      c.in_ok-entries.ensures,
+      ap Ok (c.in_ok-reporting.ensures e ∙ ap (λ (t : Text). reported (begun e) [] t) (c.as_str.ensures.value ∙ (c.in_ok-text.ensures
+          ∙ (ap (λ (ns : List (String Global)). loaded_text (map (λ (s : String Global). string_bytes s) ns)) c.as_slice-2.ensures.value
+          ∙ (ap loaded_text c.in_ok-names.ensures ∙ ap (λ (es : List Loaded). loaded_text (names_of (map entry_of es))) c.as_slice.ensures.value))))),
+    )

@@ -1,0 +1,41 @@
+use Rattle.std.proofs.Common.{◌≡◌, ◌<◌, ◌≤◌, true, false, List, map, reverse, string_bytes, String, Some, Result, Ok, Err, refl, sym, ap, ◌∙◌, subst, arith}
+use Rattle.std.proofs.lemmas.Result.{err_from_is_err_and}
+use Rattle.std.specs.declared.alloc.Global.{Global}
+use Rattle.std.specs.Option.{option_map}
+use Rattle.environment.specs.Texts.{Text, texts_in}
+use Rattle.loadedlist.specs.Loaded.{names_of}
+use Rattle.loadedlist.specs.LoadedEntries.{entry_of}
+use Rattle.loadedlist.specs.declared.entry.Loaded.{Loaded}
+use Rattle.relations.specs.Relations.{Is, Then}
+use Rattle.requests.specs.Reasons.{RequestReason}
+use Rattle.requests.specs.Requests as asked
+use Rattle.requests.specs.Steps as steps
+use Rattle.requests.specs.Steps.{begun, entries_of, Each, Ends, Named, Changes, Step, LoadsName, UnloadsName, Switches}
+use Rattle.modulesteps.specs.declared.done.Done.{Done}
+use Rattle.modulesteps.specs.declared.commands.Doing.TheVariants.{Unload}
+use Rattle.modulesteps.specs.Views.{site_of, done_view}
+use Rattle.modulesteps.specs.Parts.{Does, entries_view, topic_mode, topic_text}
+use Rattle.modulesteps.proofs.StepLemmas.{tells_same, tells_refused, gives_refused, gives_tells}
+use Rattle.modulesteps.proofs.EachLemmas.{named_some}
+use Rattle.modulesteps.proofs.commands.purge.Goals as goal
+
+pub returns-in_err-before-clause-told : goal.returns-in_err-before-clause-told
+returns-in_err-before-clause-told g c =
+    let p = err_from_is_err_and c.from_residual.result c.from_residual.ensures.1 in
+    let e = g.V.Vars.vars c.args.env.now in
+    rw (p.1, p.2) (gives_refused (g.T.Tree.agrees c.args.tree.now) (g.T.Tree.failures c.args.tree.now < g.T.Tree.failures c.args.tree.now) entries_view (λ (x : Done). begun e) c.in_err-before.field-0.0
+    (Is (entries_of e)) (λ files listings. Step (site_of c.args.terms files listings) e asked.purge) (λ files listings r a h. (Err r, h, refl)) c.in_err-before.ensures)
+
+pub returns-clause-told : goal.returns-clause-told
+returns-clause-told g c =
+    let e = g.V.Vars.vars c.args.env.now in
+    let items = c.in_ok-before.before.items in
+    let xs = map entry_of items in
+    let rose = g.T.Tree.failures c.args.tree.now < g.T.Tree.failures c.change_each.new.tree in
+    let told = rw (c.as_slice-2.ensures.value, c.as_slice-3.ensures.value) at c.change_each.ensures.told in
+    let back : map (λ (s : String Global). string_bytes s) c.in_ok-names.names.items ≡ reverse (names_of xs) = c.in_ok-names.ensures ∙ ap (λ (es : List Loaded). reverse (names_of (map entry_of es))) c.as_slice.ensures.value in
+    tells_same (g.T.Tree.agrees c.change_each.new.tree) rose rose (λ (x : Done). done_view x (g.V.Vars.vars c.change_each.new.env)) c.change_each.result
+    (λ files listings. Then (Each (Does Unload (site_of c.args.terms files listings)) (map (λ (s : String Global). string_bytes s) c.in_ok-names.names.items) (begun e)) (Ends xs))
+    (λ files listings. Step (site_of c.args.terms files listings) e asked.purge) (λ q. q)
+    (λ files listings o a h. (Ok xs, c.in_ok-before.ensures, subst (λ (ns : List Text). Then (Each (UnloadsName (site_of c.args.terms files listings) false) ns (begun e)) (Ends xs) o) back h))
+    told

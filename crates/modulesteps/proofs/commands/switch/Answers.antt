@@ -1,0 +1,87 @@
+use Rattle.std.proofs.Common.{◌≡◌, ◌<◌, ◌≤◌, true, false, List, map, reverse, string_bytes, String, Some, Result, Ok, Err, refl, sym, ap, ◌∙◌, subst, arith}
+use Rattle.std.proofs.lemmas.Result.{err_from_is_err_and}
+use Rattle.std.specs.declared.alloc.Global.{Global}
+use Rattle.std.specs.Option.{option_map}
+use Rattle.environment.specs.Texts.{Text, texts_in}
+use Rattle.loadedlist.specs.Loaded.{names_of}
+use Rattle.loadedlist.specs.LoadedEntries.{entry_of}
+use Rattle.loadedlist.specs.declared.entry.Loaded.{Loaded}
+use Rattle.relations.specs.Relations.{Is, Then}
+use Rattle.requests.specs.Reasons.{RequestReason}
+use Rattle.requests.specs.Requests as asked
+use Rattle.requests.specs.Steps as steps
+use Rattle.requests.specs.Steps.{begun, entries_of, Each, Ends, Named, Changes, Step, LoadsName, UnloadsName, Switches}
+use Rattle.modulesteps.specs.declared.done.Done.{Done}
+use Rattle.modulesteps.specs.declared.commands.Doing.TheVariants.{Unload}
+use Rattle.modulesteps.specs.Views.{site_of, done_view}
+use Rattle.modulesteps.specs.Parts.{Does, entries_view, topic_mode, topic_text}
+use Rattle.modulesteps.proofs.StepLemmas.{tells_same, tells_refused, gives_refused, gives_tells}
+use Rattle.modulesteps.proofs.EachLemmas.{named_some}
+use Rattle.modulesteps.proofs.commands.switch.Goals as goal
+
+pub returns-in_err-before-clause-told : goal.returns-in_err-before-clause-told
+returns-in_err-before-clause-told g c =
+    let p = err_from_is_err_and c.from_residual.result c.from_residual.ensures.1 in
+    let e = g.V.Vars.vars c.args.env.now in
+    rw (p.1, p.2) (gives_refused (g.T.Tree.agrees c.args.tree.now) (g.T.Tree.failures c.args.tree.now < g.T.Tree.failures c.args.tree.now) entries_view (λ (x : Done). begun e) c.in_err-before.field-0.0
+    (Is (entries_of e)) (λ files listings. Step (site_of c.args.terms files listings) e (asked.switch (option_map (λ x. x.now) c.args.old) c.args.new.now)) (λ files listings r a h. (Err r, h, refl)) c.in_err-before.ensures)
+
+pub returns-in_err-switch_names-clause-told : goal.returns-in_err-switch_names-clause-told
+returns-in_err-switch_names-clause-told g c =
+    let p = err_from_is_err_and c.from_residual-in_err-switch_names.result c.from_residual-in_err-switch_names.ensures.1 in
+    let e = g.V.Vars.vars c.args.env.now in
+    let d = done_view c.new-done.result e in
+    let xs = map entry_of c.in_ok-before.before.items in
+    let rose = g.T.Tree.failures c.args.tree.now < g.T.Tree.failures c.switch_names.new.tree in
+    rw (p.1, p.2) (tells_refused (g.T.Tree.agrees c.switch_names.new.tree) rose rose (λ (u : Unit {0}). d) (λ (x : Done). d) c.in_err-switch_names.field-0.0
+    (λ files listings. Switches (site_of c.args.terms files listings) (Some c.old_name.result.now) c.args.new.now d)
+    (λ files listings. Step (site_of c.args.terms files listings) e (asked.switch (option_map (λ x. x.now) c.args.old) c.args.new.now)) (λ q. q)
+    (λ files listings r a h. (
+      Ok xs,
+      c.in_ok-before.ensures,
+      (
+        Err r,
+        subst (λ (n : Text). Then (UnloadsName (site_of c.args.terms files listings) true n (begun e)) (LoadsName (site_of c.args.terms files listings) true c.args.new.now) (Err r)) c.old_name.ensures
+            (subst (λ x. Switches (site_of c.args.terms files listings) (Some c.old_name.result.now) c.args.new.now x (Err r)) (c.new-done.ensures e) h),
+        refl,
+      ),
+    ))
+    c.in_err-switch_names.ensures.told)
+
+pub returns-in_err-end-clause-told : goal.returns-in_err-end-clause-told
+returns-in_err-end-clause-told g c =
+    let p = err_from_is_err_and c.from_residual-in_err-end.result c.from_residual-in_err-end.ensures.1 in
+    let e = g.V.Vars.vars c.args.env.now in
+    let d = done_view c.switch_names.new.done (g.V.Vars.vars c.switch_names.new.env) in
+    let xs = map entry_of c.in_ok-before.before.items in
+    let rose = g.T.Tree.failures c.args.tree.now < g.T.Tree.failures c.switch_names.new.tree in
+    let ended = rw c.as_slice.ensures.value at c.in_err-end.ensures in
+    rw (p.1, p.2) (gives_refused (g.T.Tree.agrees c.switch_names.new.tree) rose (λ (u : Unit {0}). d) (λ (x : Done). d) c.in_err-end.field-0.0
+    (Ends xs d) (λ files listings. Step (site_of c.args.terms files listings) e (asked.switch (option_map (λ x. x.now) c.args.old) c.args.new.now))
+    (λ files listings r a h. (
+      Ok xs,
+      c.in_ok-before.ensures,
+      (
+        Ok d,
+        subst (λ (n : Text). Then (UnloadsName (site_of c.args.terms files listings) true n (begun e)) (LoadsName (site_of c.args.terms files listings) true c.args.new.now) (Ok d)) c.old_name.ensures
+            (subst (λ x. Switches (site_of c.args.terms files listings) (Some c.old_name.result.now) c.args.new.now x (Ok d)) (c.new-done.ensures e) (c.in_ok-switch_names.ensures.told files listings a)),
+        h,
+      ),
+    ))
+    ended)
+
+pub returns-clause-told : goal.returns-clause-told
+returns-clause-told g c = λ files listings a.
+    let e = g.V.Vars.vars c.args.env.now in
+    let d = done_view c.switch_names.new.done (g.V.Vars.vars c.switch_names.new.env) in
+    let xs = map entry_of c.in_ok-before.before.items in
+    let ended = rw c.as_slice.ensures.value at c.in_ok-end.ensures in (
+      Ok xs,
+      c.in_ok-before.ensures,
+      (
+        Ok d,
+        subst (λ (n : Text). Then (UnloadsName (site_of c.args.terms files listings) true n (begun e)) (LoadsName (site_of c.args.terms files listings) true c.args.new.now) (Ok d)) c.old_name.ensures
+            (subst (λ x. Switches (site_of c.args.terms files listings) (Some c.old_name.result.now) c.args.new.now x (Ok d)) (c.new-done.ensures e) (c.in_ok-switch_names.ensures.told files listings a)),
+        ended,
+      ),
+    )

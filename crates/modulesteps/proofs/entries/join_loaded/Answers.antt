@@ -1,0 +1,39 @@
+use Rattle.std.proofs.Common.{◌≡◌, ◌<◌, false, List, map, string_bytes, Result, Ok, Err, IfSome, refl, sym, ap, ◌∙◌, subst}
+use Rattle.std.proofs.lemmas.Result.{err_from_is_err_and}
+use Rattle.environment.specs.Texts.{Text, has, shown, texts_in}
+use Rattle.environment.specs.Environment.{Environment}
+use Rattle.environment.specs.Reasons.{EnvReason, reason_of}
+use Rattle.loadedlist.specs.Loaded.{names_of, dropped_loaded}
+use Rattle.loadedlist.specs.LoadedEntries.{entry_of}
+use Rattle.loadedlist.specs.declared.entry.Loaded.{Loaded}
+use Rattle.modulerecords.specs.Records.{conflict_names, prereq_groups}
+use Rattle.modulerecords.specs.Effects as modes
+use Rattle.modulerecords.specs.Moves.{Loads, Unloads}
+use Rattle.modulefile.specs.RecordViews.{mode_view, record_view}
+use Rattle.modulefile.specs.declared.records.Record.{Record}
+use Rattle.modulefile.specs.Files.{Stop, Runs}
+use Rattle.modulefind.specs.Answers.{found_view}
+use Rattle.modulerun.specs.Running.{ran_view, stop_of}
+use Rattle.requests.specs.Reasons.{RequestReason, stopped}
+use Rattle.requests.specs.Refusals.{RefusedAs, unless}
+use Rattle.requests.specs.Steps as steps
+use Rattle.requests.specs.Steps.{Finds, LoadsFound, LoadsName, UnloadsEntry, ShowsName, module_of, moved_on, reported}
+use Rattle.modulesteps.specs.Views.{site_of, done_view, module_view}
+use Rattle.modulesteps.specs.Answers.{cause_of}
+use Rattle.modulesteps.specs.Parts.{added, objection, context_among, file_context, UnloadsBy, ReportsFound, topic_mode, topic_text}
+use Rattle.modulesteps.proofs.StepLemmas.{stands_as, gives_tells, tells_refused, run_refused, run_made, judged, objection_same, edit_refused, unloaded_as, topic_same, joins_ok, joins_refused, unloads_so}
+use Rattle.modulesteps.proofs.NameLemmas.{loads_unfound, loads_found, found_stopped, found_joins}
+use Rattle.modulesteps.proofs.entries.join_loaded.Goals as goal
+
+pub returns-in_err-judge-clause-given : goal.returns-in_err-judge-clause-given
+returns-in_err-judge-clause-given g c =
+    let p = err_from_is_err_and c.from_residual-in_err-judge.result c.from_residual-in_err-judge.ensures.1 in
+    let xs = map entry_of c.args.entries.now in
+    let m = module_view c.args.loading.now in
+    let conflicts : shown c.as_slice-3.result.now ≡ conflict_names m.records = ap shown c.as_slice-3.ensures.value ∙ (c.in_ok-conflicts.ensures ∙ ap (λ (rs : List Record). conflict_names (map record_view rs)) c.as_slice.ensures.value) in
+    let prereqs : map texts_in c.as_slice-4.result.now ≡ prereq_groups m.records = ap (map texts_in) c.as_slice-4.ensures.value ∙ (c.in_ok-prereqs.ensures ∙ ap (λ (rs : List Record). prereq_groups (map record_view rs)) c.as_slice-2.ensures.value) in
+    let first = objection c.as_str.result.now (shown c.as_slice-3.result.now) (map texts_in c.as_slice-4.result.now) xs in
+    let second = objection m.name (conflict_names m.records) (prereq_groups m.records) xs in
+    let same : first ≡ second = objection_same c.as_str.result.now m.name (shown c.as_slice-3.result.now) (conflict_names m.records) (map texts_in c.as_slice-4.result.now) (prereq_groups m.records) xs c.as_str.ensures.value conflicts prereqs in
+    rw (p.1, p.2) (stands_as (cause_of c.in_err-judge.field-0.0) ⊥ ⊥ (λ r. Err r ≡ unless {A = Unit {0}} first (Ok tt)) (λ r. Err r ≡ added xs m (g.V.Vars.vars c.args.env.now)) (λ q. q)
+    (λ r h. judged first second same _ r h) (c.in_err-judge.ensures {u = tt}))

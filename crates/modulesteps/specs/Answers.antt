@@ -1,0 +1,73 @@
+-- How the answers of a request show what the definitions say.
+use Rattle.std.specs.Prelude.{ℕ, codes, Option, Some, None, Result, Ok, Err, string_bytes}
+use Rattle.environment.specs.Texts.{Text, texts_in}
+use Rattle.environment.specs.Reasons.{EnvReason, reason_of}
+use Rattle.environment.specs.Reasons.{message_of as edit_message}
+use Rattle.environment.specs.Reasons.{number_of as edit_number}
+use Rattle.lookup.specs.Agreement.{Files, Listings, Shows}
+use Rattle.lookup.specs.Answers.{find_message, find_number}
+use Rattle.lookup.specs.declared.search.FindFault.TheVariants as finds
+use Rattle.lookup.specs.declared.tree.TreeFault.{TreeFault}
+use Rattle.lookup.specs.declared.tree.TreeFault.TheVariants as trees
+use Rattle.message.specs.Messages.{quoting}
+use Rattle.modulerecords.specs.Judgments.{bad_edit}
+use Rattle.modulefile.specs.Files.{Stop}
+use Rattle.modulefind.specs.Answers as finding
+use Rattle.modulefind.specs.Answers.{cause_of as find_cause}
+use Rattle.modulerun.specs.Running.{stop_of}
+use Rattle.requests.specs.Reasons.{RequestReason, bad_arguments, unknown_subcommand, missed, file_gone, not_a_modulefile, stopped, conflict_with, prereq_missing, still_needed_by, refused_edit}
+use Rattle.requests.specs.RequestViews.{reason_of as request_reason}
+use Rattle.modulesteps.specs.declared.refusal.Refusal.{Refusal}
+use Rattle.modulesteps.specs.declared.refusal.Refusal.TheVariants as refusals
+
+-- what is behind a refusal: want of memory, a device that failed, or a reason of the step
+pub data Cause : Type 0 where
+  memory : Cause
+  device : Cause
+  because : RequestReason → Cause
+
+-- the reason, where there is one
+abbrev pub by_reason : {R : Type 0} → (R → RequestReason) → Option R → Cause
+by_reason view None = memory
+by_reason view (Some r) = because (view r)
+
+abbrev pub by_search : finding.Cause → Cause
+by_search finding.memory = memory
+by_search finding.device = device
+by_search (finding.because r) = because (missed r)
+
+abbrev pub cause_of : Refusal → Cause
+cause_of refusals.OutOfMemory = memory
+cause_of (refusals.Run fault) = by_reason stopped (stop_of fault)
+cause_of (refusals.Find fault) = by_search (find_cause fault)
+cause_of (refusals.Env fault) = by_reason (λ r. refused_edit (bad_edit r)) (reason_of fault)
+cause_of (refusals.Request fault) = by_reason (λ r. r) (request_reason fault)
+cause_of (refusals.ConflictWith name) = because (conflict_with (string_bytes name))
+cause_of (refusals.PrereqMissing missing) = because (prereq_missing (texts_in missing.names))
+cause_of (refusals.StillNeededBy name) = because (still_needed_by (string_bytes name))
+cause_of (refusals.FileGone path) = because (file_gone (string_bytes path))
+cause_of (refusals.NotAModulefile path) = because (not_a_modulefile (string_bytes path))
+
+-- A cause stands: memory can always be wanting, a device has failed, and a reason is the step's.
+abbrev pub Stands : Cause → Type 0 → (RequestReason → Type 0) → Type 0
+Stands memory failed Is = Unit {0}
+Stands device failed Is = failed
+Stands (because r) failed Is = Is r
+
+-- A call without a tree: what it gives, seen by view, is what it comes to; or its refusal has a cause.
+abbrev pub Gives : {X Y : Type 0} → (X → Y) → Result X Refusal → (Result Y RequestReason → Type 0) → Type 0
+Gives view (Ok x) Comes = Comes (Ok (view x))
+Gives view (Err e) Comes = Stands (cause_of e) ⊥ (λ r. Comes (Err r))
+
+-- A call over a tree: what it gives is what it comes to in each pair of maps that agrees with the tree now; or its refusal
+-- has a cause.
+abbrev pub Tells : {X Y : Type 0} → (Files → Listings → Type 0) → Type 0 → (X → Y) → Result X Refusal
+    → (Files → Listings → Result Y RequestReason → Type 0) → Type 0
+Tells agrees failed view (Ok x) Comes = Shows agrees (λ files listings. Comes files listings (Ok (view x)))
+Tells agrees failed view (Err e) Comes =
+    Stands (cause_of e) failed (λ r. Shows agrees (λ files listings. Comes files listings (Err r)))
+
+-- a tree's fault, as a refusal
+abbrev pub refused_read : TreeFault → Refusal
+refused_read trees.OutOfMemory = refusals.Find finds.OutOfMemory
+refused_read trees.Device = refusals.Find finds.Device

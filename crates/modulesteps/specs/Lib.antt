@@ -1,0 +1,4 @@
+pub mod Views
+pub mod Answers
+-- for this crate's own contracts alone
+pub mod Parts

@@ -1,0 +1,86 @@
+-- The parts of a step, for this crate's own contracts.
+use Rattle.std.specs.Prelude.{false, List, map, Option, Result, Ok, Err}
+use Rattle.std.specs.Option.{option_map, option_or}
+use Rattle.std.specs.declared.vec.Vec.{Vec}
+use Rattle.std.specs.declared.alloc.Global.{Global}
+use Rattle.environment.specs.Texts.{Text}
+use Rattle.environment.specs.Environment.{Environment}
+use Rattle.loadedlist.specs.Loaded.{Entry, names_of, added_loaded}
+use Rattle.loadedlist.specs.LoadedEntries as code
+use Rattle.loadedlist.specs.declared.entry.Loaded.{Loaded}
+use Rattle.relations.specs.Relations.{Is, ◌>>◌}
+use Rattle.modulerecords.specs.Records.{Record}
+use Rattle.modulerecords.specs.Effects as modes
+use Rattle.modulerecords.specs.Effects.{Mode, by_edit}
+use Rattle.modulerecords.specs.Moves.{Module, Unloads, entry_of}
+use Rattle.modulefile.specs.Answers.{Context}
+use Rattle.modulefile.specs.Files.{Runs}
+use Rattle.modulesearch.specs.Found as search
+use Rattle.requests.specs.Reasons.{RequestReason, conflict_with, prereq_missing, stopped, refused_edit}
+use Rattle.requests.specs.Refusals.{refused_as, unless, RefusedAs}
+use Rattle.requests.specs.Conditions.{recorded_conflict, own_conflict, missing_group, load_objection}
+use Rattle.requests.specs.Steps.{Site, Done, went, module_of, reported, shown_text, described_text, LoadsName, UnloadsName, ShowsName}
+use Rattle.modulesteps.specs.declared.files.Asking.{Asking}
+use Rattle.modulesteps.specs.declared.files.Topic.{Topic}
+use Rattle.modulesteps.specs.declared.files.Topic.TheVariants.{Commands, Whatis}
+use Rattle.modulesteps.specs.declared.commands.Doing.{Doing}
+use Rattle.modulesteps.specs.declared.commands.Doing.TheVariants.{Load, Unload, Report}
+
+-- what a list of loaded modules says
+abbrev pub entries_view : Vec Loaded Global → List Entry
+entries_view v = map code.entry_of v.items
+
+-- what forbids a module with these conflicts and prereqs beside those that are loaded
+abbrev pub objection : Text → List Text → List (List Text) → List Entry → Option RequestReason
+objection name conflicts prereqs entries =
+    option_or (option_map (λ x. conflict_with x.name) (recorded_conflict name entries)) (
+    option_or (option_map (λ x. conflict_with x.name) (own_conflict conflicts entries)) (
+    option_map prereq_missing (missing_group prereqs entries)))
+
+-- the environment with the entry of a module, unless something forbids it
+abbrev pub added : List Entry → Module → Environment → Result Environment RequestReason
+added entries m e =
+    unless (load_objection m.name m.records entries) (refused_as refused_edit (by_edit (added_loaded e (entry_of m))))
+
+-- what the file of this name and path is evaluated in, where these modules are loaded
+abbrev pub context_among : Asking → Mode → Text → Text → List Text → Environment → Context
+context_among asking mode name path loaded e =
+    record {
+      mode = mode;
+      in_switch = asking.in_switch;
+      name = name;
+      path = path;
+      shell = asking.terms.shell;
+      typed = asking.typed.now;
+      loaded = loaded;
+      start = e;
+    }
+
+abbrev pub file_context : Asking → Mode → Text → Text → List Entry → Environment → Context
+file_context asking mode name path xs e = context_among asking mode name path (names_of xs) e
+
+-- the module of this name and path is unloaded by a text
+abbrev pub UnloadsBy : Asking → Text → Text → Text → List Entry → Done → Result Done RequestReason → Type 0
+UnloadsBy asking name path text xs d =
+    RefusedAs stopped (Runs asking.terms.limits (file_context asking modes.unload name path xs d.env) text) >> (λ ran.
+    Is (went d (Unloads (module_of name path ran)) ran.messages))
+
+-- what is evaluated for a topic, and what is reported
+abbrev pub topic_mode : Topic → Mode
+topic_mode Commands = modes.display
+topic_mode Whatis = modes.whatis
+
+abbrev pub topic_text : Topic → search.Module → List Record → Text
+topic_text Commands = shown_text
+topic_text Whatis = described_text
+
+abbrev pub ReportsFound : Asking → Topic → search.Module → List Entry → Done → Result Done RequestReason → Type 0
+ReportsFound asking topic m xs d =
+    RefusedAs stopped (Runs asking.terms.limits (file_context asking (topic_mode topic) m.name m.path xs d.env) m.text)
+    >> (λ ran. Is (Ok (reported d ran.messages (topic_text topic m ran.records))))
+
+-- what is done for a name
+abbrev pub Does : Doing → Site → Text → Done → Result Done RequestReason → Type 0
+Does Load s = LoadsName s false
+Does Unload s = UnloadsName s false
+Does (Report topic) s = ShowsName s (topic_mode topic) (topic_text topic)

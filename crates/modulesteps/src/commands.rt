@@ -1,0 +1,391 @@
+//! Whole requests.
+ghost use Rattle.std.specs.Prelude.{◌≡◌, ◌<◌, ◌≤◌, [], Some, IfOk, map, reverse, string_bytes};
+ghost use Rattle.std.specs.Option.{option_map};
+ghost use Rattle.environment.specs.Environment.{Environment};
+ghost use Rattle.environment.specs.Texts.{texts_in};
+ghost use Rattle.loadedlist.specs.Loaded.{names_of};
+ghost use Rattle.loadedlist.specs.LoadedEntries.{entry_of};
+ghost use Rattle.relations.specs.Relations.{Then};
+ghost use Rattle.lookup.specs.Agreement.{Narrows};
+ghost use Rattle.modulename.specs.ModuleName.{parts};
+ghost use Rattle.requests.specs.Requests as asked;
+ghost use Rattle.requests.specs.RequestViews.{asked_view};
+ghost use Rattle.requests.specs.Steps as steps;
+ghost use Rattle.requests.specs.Steps.{begun, Each, Ends, Named, Changes, Shows, Lists, ListsAll, Step};
+ghost use Rattle.modulesteps.specs.Views.{site_of, done_view};
+ghost use Rattle.modulesteps.specs.Answers.{Gives, Tells};
+ghost use Rattle.modulesteps.specs.Parts.{Does, topic_mode, topic_text};
+
+use crate::conditions::first_lost;
+use crate::done::{Done, Terms};
+use crate::entries::{entries_of, modulepath, names_of};
+use crate::files::{Asking, Topic, load_name, report_name, unload_name};
+use crate::refusal::Refusal;
+use crate::reports::list_report;
+use availreport::avail_report;
+use defaultfiles::Evaluated;
+use environment::Vars;
+use loadedlist::Loaded;
+use lookup::Tree;
+use modulelist::available;
+use requests::{Action, Request, RequestFault};
+use std::alloc::{AllocError, Global};
+use tclrules::Limits;
+
+/// What is done for each name.
+#[derive(Clone, Copy, Debug, PartialEq, Eq)]
+pub(crate) enum Doing {
+    Load,
+    Unload,
+    Report(Topic),
+}
+
+/// Does it for a name.
+fn do_name<T: Tree, V: Vars>(
+    alloc: Global,
+    terms: Terms,
+    doing: Doing,
+    typed: &str,
+    env: &mut V,
+    tree: &mut T,
+    done: &mut Done,
+) -> Result<(), Refusal>
+    ensures before { Narrows (T.agrees tree.old) (T.agrees tree.new) }
+    ensures later { T.failures tree.old ≤ T.failures tree.new }
+    ensures under { V.under env.new ≡ V.under env.old }
+    ensures told { Tells (T.agrees tree.new) (T.failures tree.old < T.failures tree.new)
+        (λ u. done_view done.new (V.vars env.new)) result
+        (λ files listings. Does doing (site_of terms files listings) typed.now (done_view done.old (V.vars env.old))) }
+{
+    let asking = Asking {
+        terms,
+        in_switch: false,
+        typed,
+    };
+    match doing {
+        Doing::Load => load_name(alloc, asking, env, tree, done),
+        Doing::Unload => unload_name(alloc, asking, env, tree, done),
+        Doing::Report(topic) => report_name(alloc, terms, topic, typed, env, tree, done),
+    }
+}
+
+/// Does it for each name in turn.
+fn do_each<T: Tree, V: Vars>(
+    alloc: Global,
+    terms: Terms,
+    doing: Doing,
+    names: &[String],
+    env: &mut V,
+    tree: &mut T,
+    done: &mut Done,
+) -> Result<(), Refusal>
+    ensures before { Narrows (T.agrees tree.old) (T.agrees tree.new) }
+    ensures later { T.failures tree.old ≤ T.failures tree.new }
+    ensures under { V.under env.new ≡ V.under env.old }
+    ensures told { Tells (T.agrees tree.new) (T.failures tree.old < T.failures tree.new)
+        (λ u. done_view done.new (V.vars env.new)) result
+        (λ files listings. Each (Does doing (site_of terms files listings)) (map string_bytes names.now)
+        (done_view done.old (V.vars env.old))) }
+{
+    let mut rest = names;
+    while let [name, after @ ..] = rest {
+        do_name(alloc, terms, doing, name.as_str(), env, tree, done)?;
+        rest = after;
+    }
+    Ok(())
+}
+
+/// Refuses where a module that was loaded before has lost what it needs.
+fn end<V: Vars>(alloc: Global, before: &[Loaded], env: &V, done: &Done) -> Result<(), Refusal>
+    ensures { Gives (λ u. done_view done.now (V.vars env.now)) result
+        (Ends (map entry_of before.now) (done_view done.now (V.vars env.now))) }
+{
+    let after = entries_of(alloc, env)?;
+    match first_lost(before, after.as_slice()) {
+        None => Ok(()),
+        Some(entry) => Err(Refusal::StillNeededBy(String::from_str(alloc, entry.name.as_str())?)),
+    }
+}
+
+/// Does it for each name, and ends the command.
+fn change_each<T: Tree, V: Vars>(
+    alloc: Global,
+    terms: Terms,
+    doing: Doing,
+    names: &[String],
+    before: &[Loaded],
+    env: &mut V,
+    tree: &mut T,
+) -> Result<Done, Refusal>
+    ensures before { Narrows (T.agrees tree.old) (T.agrees tree.new) }
+    ensures later { T.failures tree.old ≤ T.failures tree.new }
+    ensures under { V.under env.new ≡ V.under env.old }
+    ensures told { Tells (T.agrees tree.new) (T.failures tree.old < T.failures tree.new)
+        (λ done. done_view done (V.vars env.new)) result
+        (λ files listings. Then (Each (Does doing (site_of terms files listings)) (map string_bytes names.now)
+        (begun (V.vars env.old))) (Ends (map entry_of before.now))) }
+{
+    let mut done = Done::new(alloc);
+    do_each(alloc, terms, doing, names, env, tree, &mut done)?;
+    end(alloc, before, env, &done)?;
+    Ok(done)
+}
+
+/// Loads or unloads each of at least one name.
+fn change_names<T: Tree, V: Vars>(
+    alloc: Global,
+    terms: Terms,
+    doing: Doing,
+    names: &[String],
+    env: &mut V,
+    tree: &mut T,
+) -> Result<Done, Refusal>
+    ensures before { Narrows (T.agrees tree.old) (T.agrees tree.new) }
+    ensures later { T.failures tree.old ≤ T.failures tree.new }
+    ensures under { V.under env.new ≡ V.under env.old }
+    ensures told { Tells (T.agrees tree.new) (T.failures tree.old < T.failures tree.new)
+        (λ done. done_view done (V.vars env.new)) result
+        (λ files listings. Named (map string_bytes names.now) (Changes (V.vars env.old)
+        (λ before. Each (Does doing (site_of terms files listings)) (map string_bytes names.now)))) }
+{
+    if names.is_empty() {
+        return Err(Refusal::Request(RequestFault::BadArguments));
+    }
+    let before = entries_of(alloc, env)?;
+    change_each(alloc, terms, doing, names, before.as_slice(), env, tree)
+}
+
+/// The names of the loaded modules, the last loaded first.
+fn names_back(alloc: Global, entries: &[Loaded]) -> Result<Vec<String>, AllocError>
+    ensures { IfOk result (λ v. texts_in v ≡ reverse (names_of (map entry_of entries.now))) }
+{
+    let mut names = names_of(alloc, entries)?;
+    names.reverse();
+    Ok(names)
+}
+
+/// Unloads all modules, the last loaded first.
+fn purge<T: Tree, V: Vars>(
+    alloc: Global,
+    terms: Terms,
+    env: &mut V,
+    tree: &mut T,
+) -> Result<Done, Refusal>
+    ensures before { Narrows (T.agrees tree.old) (T.agrees tree.new) }
+    ensures later { T.failures tree.old ≤ T.failures tree.new }
+    ensures under { V.under env.new ≡ V.under env.old }
+    ensures told { Tells (T.agrees tree.new) (T.failures tree.old < T.failures tree.new)
+        (λ done. done_view done (V.vars env.new)) result
+        (λ files listings. Step (site_of terms files listings) (V.vars env.old) asked.purge) }
+{
+    let before = entries_of(alloc, env)?;
+    let names = names_back(alloc, before.as_slice())?;
+    change_each(
+        alloc,
+        terms,
+        Doing::Unload,
+        names.as_slice(),
+        before.as_slice(),
+        env,
+        tree,
+    )
+}
+
+/// The first part of a name.
+fn first_part(name: &str) -> &str
+    ensures { result.now ≡ steps.first_part (parts name.entry.now) }
+{
+    match name.split_once('/') {
+        Some((first, _)) => first,
+        None => name,
+    }
+}
+
+/// Without an old name it is the first part of the new one.
+fn old_name<'a>(old: Option<&'a str>, new: &'a str) -> &'a str
+    ensures { result.now ≡ steps.old_name (option_map (λ x. x.now) old.entry) new.entry.now }
+{
+    match old {
+        Some(old) => old,
+        None => first_part(new),
+    }
+}
+
+/// Unloads the old name, and then loads the new one.
+fn switch_names<T: Tree, V: Vars>(
+    alloc: Global,
+    terms: Terms,
+    old: &str,
+    new: &str,
+    env: &mut V,
+    tree: &mut T,
+    done: &mut Done,
+) -> Result<(), Refusal>
+    ensures before { Narrows (T.agrees tree.old) (T.agrees tree.new) }
+    ensures later { T.failures tree.old ≤ T.failures tree.new }
+    ensures under { V.under env.new ≡ V.under env.old }
+    ensures told { Tells (T.agrees tree.new) (T.failures tree.old < T.failures tree.new)
+        (λ u. done_view done.new (V.vars env.new)) result
+        (λ files listings. steps.Switches (site_of terms files listings) (Some old.now) new.now
+        (done_view done.old (V.vars env.old))) }
+{
+    let unloading = Asking {
+        terms,
+        in_switch: true,
+        typed: old,
+    };
+    unload_name(alloc, unloading, env, tree, done)?;
+    let loading = Asking {
+        terms,
+        in_switch: true,
+        typed: new,
+    };
+    load_name(alloc, loading, env, tree, done)
+}
+
+/// Unloads the old name, and then loads the new one, as one command.
+fn switch<T: Tree, V: Vars>(
+    alloc: Global,
+    terms: Terms,
+    old: Option<&str>,
+    new: &str,
+    env: &mut V,
+    tree: &mut T,
+) -> Result<Done, Refusal>
+    ensures before { Narrows (T.agrees tree.old) (T.agrees tree.new) }
+    ensures later { T.failures tree.old ≤ T.failures tree.new }
+    ensures under { V.under env.new ≡ V.under env.old }
+    ensures told { Tells (T.agrees tree.new) (T.failures tree.old < T.failures tree.new)
+        (λ done. done_view done (V.vars env.new)) result
+        (λ files listings. Step (site_of terms files listings) (V.vars env.old)
+        (asked.switch (option_map (λ x. x.now) old.entry) new.now)) }
+{
+    let before = entries_of(alloc, env)?;
+    let mut done = Done::new(alloc);
+    switch_names(alloc, terms, old_name(old, new), new, env, tree, &mut done)?;
+    end(alloc, before.as_slice(), env, &done)?;
+    Ok(done)
+}
+
+/// Reports on each of at least one name.
+fn report_names<T: Tree, V: Vars>(
+    alloc: Global,
+    terms: Terms,
+    topic: Topic,
+    names: &[String],
+    env: &mut V,
+    tree: &mut T,
+) -> Result<Done, Refusal>
+    ensures before { Narrows (T.agrees tree.old) (T.agrees tree.new) }
+    ensures later { T.failures tree.old ≤ T.failures tree.new }
+    ensures under { V.under env.new ≡ V.under env.old }
+    ensures told { Tells (T.agrees tree.new) (T.failures tree.old < T.failures tree.new)
+        (λ done. done_view done (V.vars env.new)) result
+        (λ files listings. Named (map string_bytes names.now) (Shows (site_of terms files listings) (topic_mode topic)
+        (topic_text topic) (V.vars env.old) (map string_bytes names.now))) }
+{
+    if names.is_empty() {
+        return Err(Refusal::Request(RequestFault::BadArguments));
+    }
+    entries_of(alloc, env)?;
+    let mut done = Done::new(alloc);
+    do_each(
+        alloc,
+        terms,
+        Doing::Report(topic),
+        names,
+        env,
+        tree,
+        &mut done,
+    )?;
+    Ok(done)
+}
+
+/// What a request has done that only reports.
+fn reporting(alloc: Global, text: &str) -> Result<Done, AllocError>
+    ensures { IfOk result (λ done. (e : Environment) → done_view done e ≡ steps.reported (begun e) [] text.now) }
+{
+    let mut done = Done::new(alloc);
+    done.report_on(Vec::new(alloc), text)?;
+    Ok(done)
+}
+
+/// Reports the loaded modules.
+fn list<V: Vars>(alloc: Global, env: &V) -> Result<Done, Refusal>
+    ensures { Gives (λ done. done_view done (V.vars env.now)) result (Lists (V.vars env.now)) }
+{
+    let entries = entries_of(alloc, env)?;
+    let names = names_of(alloc, entries.as_slice())?;
+    let text = list_report(alloc, names.as_slice())?;
+    Ok(reporting(alloc, text.as_str())?)
+}
+
+/// Reports the modules along MODULEPATH.
+fn avail<T: Tree, V: Vars>(
+    alloc: Global,
+    terms: Terms,
+    texts: &[String],
+    env: &V,
+    tree: &mut T,
+) -> Result<Done, Refusal>
+    ensures before { Narrows (T.agrees tree.old) (T.agrees tree.new) }
+    ensures later { T.failures tree.old ≤ T.failures tree.new }
+    ensures told { Tells (T.agrees tree.new) (T.failures tree.old < T.failures tree.new)
+        (λ done. done_view done (V.vars env.now)) result
+        (λ files listings. ListsAll (site_of terms files listings) (V.vars env.now) (map string_bytes texts.now)) }
+{
+    let default_files = Evaluated {
+        limits: terms.limits,
+    };
+    let listings = available(alloc, tree, &default_files, modulepath(env))?;
+    let text = avail_report(alloc, texts, listings.as_slice())?;
+    Ok(reporting(alloc, text.as_str())?)
+}
+
+/// Makes of the variables what the request makes of them, over a tree of modulefiles, and answers what it did besides.
+///
+/// It is refused as the request's step over the tree is, for want of memory, or by 43 where the device failed in this call.
+/// Then the variables may be anything: hand in a copy to keep them.
+pub fn step<T: Tree, V: Vars>(
+    alloc: Global,
+    request: &Request,
+    env: &mut V,
+    tree: &mut T,
+    limits: Limits,
+) -> Result<Done, Refusal>
+    ensures before { Narrows (T.agrees tree.old) (T.agrees tree.new) }
+    ensures later { T.failures tree.old ≤ T.failures tree.new }
+    ensures under { V.under env.new ≡ V.under env.old }
+    ensures told { Tells (T.agrees tree.new) (T.failures tree.old < T.failures tree.new)
+        (λ done. done_view done (V.vars env.new)) result
+        (λ files listings. Step (record {
+          files = files;
+          listings = listings;
+          limits = limits;
+          shell = request.now.shell;
+        }) (V.vars env.old) (asked_view request.now.action)) }
+{
+    let terms = Terms {
+        limits,
+        shell: request.shell,
+    };
+    match &request.action {
+        Action::Load(names) => change_names(alloc, terms, Doing::Load, names.as_slice(), env, tree),
+        Action::Unload(names) => {
+            change_names(alloc, terms, Doing::Unload, names.as_slice(), env, tree)
+        }
+        Action::Switch(old, new) => {
+            let old = old.as_ref().map(|old| old.as_str());
+            switch(alloc, terms, old, new.as_str(), env, tree)
+        }
+        Action::Purge => purge(alloc, terms, env, tree),
+        Action::List => list(alloc, env),
+        Action::Avail(texts) => avail(alloc, terms, texts.as_slice(), env, tree),
+        Action::Show(names) => {
+            report_names(alloc, terms, Topic::Commands, names.as_slice(), env, tree)
+        }
+        Action::Whatis(names) => {
+            report_names(alloc, terms, Topic::Whatis, names.as_slice(), env, tree)
+        }
+    }
+}

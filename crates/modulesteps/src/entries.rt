@@ -1,0 +1,193 @@
+//! The loaded modules, and the entry that a module joins them with.
+ghost use Rattle.std.specs.Prelude.{◌≡◌, ◌++◌, [], ◌∷◌, map, IfOk, OnOk, Ok, string_bytes};
+ghost use Rattle.environment.specs.Texts.{shown, texts_in};
+ghost use Rattle.environment.specs.Fields.{firsts};
+ghost use Rattle.loadedlist.specs.Loaded.{names_of, added_loaded};
+ghost use Rattle.loadedlist.specs.LoadedEntries.{entry_of};
+ghost use Rattle.relations.specs.Relations.{Is};
+ghost use Rattle.modulerecords.specs.Records.{conflict_names, prereq_groups};
+ghost use Rattle.modulerecords.specs.Moves as moves;
+ghost use Rattle.modulefile.specs.RecordViews.{record_view};
+ghost use Rattle.requests.specs.Refusals.{unless};
+ghost use Rattle.requests.specs.Steps.{entries_of, modulepath};
+ghost use Rattle.modulesteps.specs.Views.{module_view};
+ghost use Rattle.modulesteps.specs.Answers.{Gives};
+ghost use Rattle.modulesteps.specs.Parts.{entries_view, objection, added};
+
+use crate::conditions::{missing_group, own_conflict, recorded_conflict};
+use crate::done::Module;
+use crate::refusal::{MissingNames, Refusal};
+use environment::Vars;
+use environment::fields::{copies, join, once, slices};
+use loadedlist::{Loaded, add_loaded, loaded};
+use modulefile::Record;
+use std::alloc::{AllocError, Global};
+
+/// The loaded modules.
+pub(crate) fn entries_of<V: Vars>(alloc: Global, env: &V) -> Result<Vec<Loaded>, Refusal>
+    ensures { Gives entries_view result (Is (entries_of (V.vars env.now))) }
+{
+    Ok(loaded(alloc, env)?)
+}
+
+/// The search path: empty where MODULEPATH is unset.
+pub(crate) fn modulepath<V: Vars>(env: &V) -> &str
+    ensures { result.now ≡ modulepath (V.vars env.now) }
+{
+    match env.get("MODULEPATH") {
+        None => "",
+        Some(text) => text,
+    }
+}
+
+/// The names of the loaded modules.
+pub(crate) fn names_of(alloc: Global, entries: &[Loaded]) -> Result<Vec<String>, AllocError>
+    ensures { IfOk result (λ v. texts_in v ≡ names_of (map entry_of entries.now)) }
+{
+    let mut names = Vec::new(alloc);
+    for entry in entries {
+        names.push(String::from_str(alloc, entry.name.as_str())?)?;
+    }
+    Ok(names)
+}
+
+/// Puts the names that the record is in conflict with at the end.
+fn push_conflicts<'a>(
+    alloc: Global,
+    all: &mut Vec<&'a str>,
+    kept: &'a Record,
+) -> Result<(), AllocError>
+    ensures { OnOk result (shown all.new.items
+        ≡ shown all.old.items ++ conflict_names (record_view kept.entry.now ∷ [])) }
+{
+    match kept {
+        Record::Conflict(names) => {
+            let mut names = slices(alloc, names.as_slice())?;
+            all.append(&mut names)
+        }
+        _ => Ok(()),
+    }
+}
+
+/// The names that the records are in conflict with.
+fn conflict_names(alloc: Global, records: &[Record]) -> Result<Vec<&str>, AllocError>
+    ensures { IfOk result (λ v. shown v.items ≡ conflict_names (map record_view records.entry.now)) }
+{
+    let mut all = Vec::new(alloc);
+    for record in records {
+        push_conflicts(alloc, &mut all, record)?;
+    }
+    Ok(all)
+}
+
+/// A copy of the names.
+fn copy_names(alloc: Global, names: &[String]) -> Result<Vec<String>, AllocError>
+    ensures { IfOk result (λ v. texts_in v ≡ map string_bytes names.now) }
+{
+    let names = slices(alloc, names)?;
+    copies(alloc, names.as_slice())
+}
+
+/// Puts the group of a prereq at the end.
+fn push_group(alloc: Global, groups: &mut Vec<Vec<String>>, kept: &Record) -> Result<(), AllocError>
+    ensures { OnOk result (map texts_in groups.new.items
+        ≡ map texts_in groups.old.items ++ prereq_groups (record_view kept.now ∷ [])) }
+{
+    if let Record::Prereq(names) = kept {
+        groups.push(copy_names(alloc, names.as_slice())?)?;
+    }
+    Ok(())
+}
+
+/// The alternatives of each prereq.
+fn prereq_groups(alloc: Global, records: &[Record]) -> Result<Vec<Vec<String>>, AllocError>
+    ensures { IfOk result (λ v. map texts_in v.items ≡ prereq_groups (map record_view records.now)) }
+{
+    let mut groups = Vec::new(alloc);
+    for record in records {
+        push_group(alloc, &mut groups, record)?;
+    }
+    Ok(groups)
+}
+
+/// Refuses for want of these names.
+fn missing(alloc: Global, group: &[String]) -> Result<MissingNames, AllocError>
+    ensures { IfOk result (λ m. texts_in m.names ≡ map string_bytes group.now) }
+{
+    let names = slices(alloc, group)?;
+    Ok(MissingNames {
+        text: join(alloc, names.as_slice(), ' ')?,
+        names: copies(alloc, names.as_slice())?,
+    })
+}
+
+/// Refuses a module of this name that is in conflict with loaded ones, or lacks what it needs.
+fn judge(
+    alloc: Global,
+    entries: &[Loaded],
+    name: &str,
+    conflicts: &[&str],
+    prereqs: &[Vec<String>],
+) -> Result<(), Refusal>
+    ensures { Gives (λ u. u) result (Is (unless
+        (objection name.now (shown conflicts.now) (map texts_in prereqs.now) (map entry_of entries.now)) (Ok tt))) }
+{
+    if let Some(entry) = recorded_conflict(name, entries) {
+        return Err(Refusal::ConflictWith(String::from_str(alloc, entry.name.as_str())?));
+    }
+    if let Some(entry) = own_conflict(conflicts, entries) {
+        return Err(Refusal::ConflictWith(String::from_str(alloc, entry.name.as_str())?));
+    }
+    match missing_group(prereqs, entries) {
+        Some(group) => Err(Refusal::PrereqMissing(missing(alloc, group.as_slice())?)),
+        None => Ok(()),
+    }
+}
+
+/// The entry of a module: each conflict once.
+fn entry_for(
+    alloc: Global,
+    loading: &Module,
+    conflicts: &[&str],
+    prereqs: Vec<Vec<String>>,
+) -> Result<Loaded, AllocError>
+    ensures { IfOk result (λ x. entry_of x ≡ record {
+      name = string_bytes loading.now.name;
+      path = string_bytes loading.now.path;
+      conflicts = firsts (shown conflicts.now);
+      prereqs = map texts_in prereqs.items;
+    }) }
+{
+    let conflicts = once(alloc, conflicts)?;
+    Ok(Loaded {
+        name: String::from_str(alloc, loading.name.as_str())?,
+        path: String::from_str(alloc, loading.path.as_str())?,
+        conflicts: copies(alloc, conflicts.as_slice())?,
+        prereqs,
+    })
+}
+
+/// Adds the entry of a module behind the loaded ones, unless something forbids it beside them.
+pub(crate) fn join_loaded<V: Vars>(
+    alloc: Global,
+    entries: &[Loaded],
+    loading: &Module,
+    env: &mut V,
+) -> Result<(), Refusal>
+    ensures given { Gives (λ u. V.vars env.new) result
+        (Is (added (map entry_of entries.now) (module_view loading.now) (V.vars env.old))) }
+    ensures under { V.under env.new ≡ V.under env.old }
+{
+    let conflicts = conflict_names(alloc, loading.records.as_slice())?;
+    let prereqs = prereq_groups(alloc, loading.records.as_slice())?;
+    judge(
+        alloc,
+        entries,
+        loading.name.as_str(),
+        conflicts.as_slice(),
+        prereqs.as_slice(),
+    )?;
+    let entry = entry_for(alloc, loading, conflicts.as_slice(), prereqs)?;
+    add_loaded(alloc, env, &entry)?;
+    Ok(())
+}

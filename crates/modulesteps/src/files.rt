@@ -1,0 +1,328 @@
+//! The files of modules, evaluated for the names of a request.
+ghost use Rattle.std.specs.Prelude.{◌≡◌, ◌<◌, ◌≤◌, IfOk, map, string_bytes};
+ghost use Rattle.loadedlist.specs.LoadedEntries.{entry_of};
+ghost use Rattle.lookup.specs.Agreement.{Files, Listings, Narrows};
+ghost use Rattle.lookup.specs.Search.{modulefile};
+ghost use Rattle.relations.specs.Relations.{Is};
+ghost use Rattle.modulefile.specs.RecordViews.{mode_view, record_view};
+ghost use Rattle.modulefile.specs.Files.{Runs};
+ghost use Rattle.modulefind.specs.Answers.{found_view};
+ghost use Rattle.modulerun.specs.Running.{ran_view};
+ghost use Rattle.requests.specs.Reasons.{stopped};
+ghost use Rattle.requests.specs.Refusals.{RefusedAs};
+ghost use Rattle.requests.specs.Steps.{Finds, LoadsFound, LoadsName, UnloadsEntry, UnloadsName, ShowsName, script_at};
+ghost use Rattle.modulesteps.specs.Views.{site_of, done_view};
+ghost use Rattle.modulesteps.specs.Answers.{Gives, Tells};
+ghost use Rattle.modulesteps.specs.Parts.{file_context, UnloadsBy, ReportsFound, topic_mode, topic_text};
+
+use crate::conditions::{is_loaded, last_meant};
+use crate::done::{Done, Module, Move, Terms};
+use crate::entries::{entries_of, join_loaded, modulepath, names_of};
+use crate::refusal::Refusal;
+use defaultfiles::Evaluated;
+use environment::Vars;
+use loadedlist::{Loaded, drop_loaded};
+use lookup::{FindFault, Modulefile, Tree, read_modulefile};
+use modulefile::Mode;
+use modulefind::{Found, locate};
+use modulename::is_module_name;
+use modulerun::{Context, Ran, run_file, show_report, whatis_report};
+use std::alloc::{AllocError, Global};
+
+/// How a module is asked for: whether by half of a switch, and by which name.
+#[derive(Clone, Copy)]
+pub(crate) struct Asking<'a> {
+    pub(crate) terms: Terms,
+    pub(crate) in_switch: bool,
+    pub(crate) typed: &'a str,
+}
+
+/// The file of a module.
+#[derive(Clone, Copy)]
+struct File<'a> {
+    name: &'a str,
+    path: &'a str,
+    text: &'a str,
+}
+
+/// What is reported of a module.
+#[derive(Clone, Copy, Debug, PartialEq, Eq)]
+pub(crate) enum Topic {
+    /// What it would do.
+    Commands,
+    /// Its descriptions.
+    Whatis,
+}
+
+/// The module that a name means now.
+fn find_module<T: Tree, V: Vars>(
+    alloc: Global,
+    asking: Asking<'_>,
+    env: &V,
+    tree: &mut T,
+) -> Result<Found, Refusal>
+    ensures before { Narrows (T.agrees tree.old) (T.agrees tree.new) }
+    ensures later { T.failures tree.old ≤ T.failures tree.new }
+    ensures told { Tells (T.agrees tree.new) (T.failures tree.old < T.failures tree.new) found_view result
+        (λ files listings. Finds (site_of asking.entry.terms files listings) (V.vars env.now) asking.entry.typed.now) }
+{
+    let default_files = Evaluated {
+        limits: asking.terms.limits,
+    };
+    Ok(locate(alloc, tree, &default_files, modulepath(env), asking.typed)?)
+}
+
+/// Evaluates a file, which has its effects on the variables.
+fn evaluate<V: Vars>(
+    alloc: Global,
+    asking: Asking<'_>,
+    mode: Mode,
+    entries: &[Loaded],
+    file: File<'_>,
+    env: &mut V,
+) -> Result<Ran, Refusal>
+    ensures given { Gives (λ ran. ran_view ran (V.vars env.new)) result (RefusedAs stopped
+        (Runs asking.entry.terms.limits (file_context asking.entry (mode_view mode) file.entry.name.now file.entry.path.now
+        (map entry_of entries.now) (V.vars env.old)) file.entry.text.now)) }
+    ensures under { V.under env.new ≡ V.under env.old }
+{
+    let loaded = names_of(alloc, entries)?;
+    let context = Context {
+        mode,
+        in_switch: asking.in_switch,
+        name: file.name,
+        path: file.path,
+        shell: asking.terms.shell,
+        typed: asking.typed,
+        loaded: loaded.as_slice(),
+    };
+    Ok(run_file(alloc, &context, file.text, env, asking.terms.limits)?)
+}
+
+/// Loads the module that was found, unless it is loaded.
+fn load_found<V: Vars>(
+    alloc: Global,
+    asking: Asking<'_>,
+    entries: &[Loaded],
+    found: Found,
+    env: &mut V,
+    done: &mut Done,
+) -> Result<(), Refusal>
+    ensures given { (files : Files) (listings : Listings) → Gives (λ u. done_view done.new (V.vars env.new)) result
+        (LoadsFound (site_of asking.entry.terms files listings) asking.entry.in_switch asking.entry.typed.now
+        (done_view done.old (V.vars env.old)) (map entry_of entries.now) (found_view found)) }
+    ensures under { V.under env.new ≡ V.under env.old }
+{
+    if is_loaded(entries, found.name.as_str()) {
+        return Ok(());
+    }
+    let file = File {
+        name: found.name.as_str(),
+        path: found.path.as_str(),
+        text: found.text.as_str(),
+    };
+    let ran = evaluate(alloc, asking, Mode::Load, entries, file, env)?;
+    let loading = Module {
+        name: found.name,
+        path: found.path,
+        records: ran.records,
+    };
+    join_loaded(alloc, entries, &loading, env)?;
+    done.go_on(Move::Loads(loading), ran.messages)?;
+    Ok(())
+}
+
+/// Loads the module that a name means. A name that is exactly a loaded module's changes nothing.
+pub(crate) fn load_name<T: Tree, V: Vars>(
+    alloc: Global,
+    asking: Asking<'_>,
+    env: &mut V,
+    tree: &mut T,
+    done: &mut Done,
+) -> Result<(), Refusal>
+    ensures before { Narrows (T.agrees tree.old) (T.agrees tree.new) }
+    ensures later { T.failures tree.old ≤ T.failures tree.new }
+    ensures under { V.under env.new ≡ V.under env.old }
+    ensures told { Tells (T.agrees tree.new) (T.failures tree.old < T.failures tree.new)
+        (λ u. done_view done.new (V.vars env.new)) result
+        (λ files listings. LoadsName (site_of asking.entry.terms files listings) asking.entry.in_switch
+        asking.entry.typed.now (done_view done.old (V.vars env.old))) }
+{
+    let entries = entries_of(alloc, env)?;
+    if is_loaded(entries.as_slice(), asking.typed) {
+        return Ok(());
+    }
+    let found = find_module(alloc, asking, env, tree)?;
+    load_found(alloc, asking, entries.as_slice(), found, env, done)
+}
+
+/// The script in the file of a loaded module: 54 where no file is there, 55 where it has no cookie, 46 where it isn't UTF-8.
+fn script_at<T: Tree>(alloc: Global, tree: &mut T, path: &str) -> Result<String, Refusal>
+    ensures before { Narrows (T.agrees tree.old) (T.agrees tree.new) }
+    ensures later { T.failures tree.old ≤ T.failures tree.new }
+    ensures told { Tells (T.agrees tree.new) (T.failures tree.old < T.failures tree.new) (λ text. string_bytes text)
+        result (λ files listings. Is (script_at path.now (modulefile (files path.now)))) }
+{
+    match read_modulefile(tree, path)? {
+        Modulefile::Script(text) => Ok(text),
+        Modulefile::Absent => Err(Refusal::FileGone(String::from_str(alloc, path)?)),
+        Modulefile::NoCookie => Err(Refusal::NotAModulefile(String::from_str(alloc, path)?)),
+        Modulefile::NotUtf8 => Err(Refusal::Find(FindFault::NotUtf8(String::from_str(
+            alloc, path,
+        )?))),
+    }
+}
+
+/// Unloads a module by the script in its file.
+fn unload_by<V: Vars>(
+    alloc: Global,
+    asking: Asking<'_>,
+    entries: &[Loaded],
+    file: File<'_>,
+    env: &mut V,
+    done: &mut Done,
+) -> Result<(), Refusal>
+    ensures given { Gives (λ u. done_view done.new (V.vars env.new)) result
+        (UnloadsBy asking.entry file.entry.name.now file.entry.path.now file.entry.text.now
+        (map entry_of entries.now) (done_view done.old (V.vars env.old))) }
+    ensures under { V.under env.new ≡ V.under env.old }
+{
+    let ran = evaluate(alloc, asking, Mode::Unload, entries, file, env)?;
+    drop_loaded(alloc, env, file.name)?;
+    let unloaded = Module {
+        name: String::from_str(alloc, file.name)?,
+        path: String::from_str(alloc, file.path)?,
+        records: ran.records,
+    };
+    done.go_on(Move::Unloads(unloaded), ran.messages)?;
+    Ok(())
+}
+
+/// Unloads a loaded module by the file at its recorded path.
+fn unload_entry<T: Tree, V: Vars>(
+    alloc: Global,
+    asking: Asking<'_>,
+    entries: &[Loaded],
+    entry: &Loaded,
+    env: &mut V,
+    tree: &mut T,
+    done: &mut Done,
+) -> Result<(), Refusal>
+    ensures before { Narrows (T.agrees tree.old) (T.agrees tree.new) }
+    ensures later { T.failures tree.old ≤ T.failures tree.new }
+    ensures under { V.under env.new ≡ V.under env.old }
+    ensures told { Tells (T.agrees tree.new) (T.failures tree.old < T.failures tree.new)
+        (λ u. done_view done.new (V.vars env.new)) result
+        (λ files listings. UnloadsEntry (site_of asking.entry.terms files listings) asking.entry.in_switch
+        asking.entry.typed.now (done_view done.old (V.vars env.old)) (map entry_of entries.now) (entry_of entry.now)) }
+{
+    let text = script_at(alloc, tree, entry.path.as_str())?;
+    let file = File {
+        name: entry.name.as_str(),
+        path: entry.path.as_str(),
+        text: text.as_str(),
+    };
+    unload_by(alloc, asking, entries, file, env, done)
+}
+
+/// Unloads the last loaded module that a name means, if there is one.
+pub(crate) fn unload_name<T: Tree, V: Vars>(
+    alloc: Global,
+    asking: Asking<'_>,
+    env: &mut V,
+    tree: &mut T,
+    done: &mut Done,
+) -> Result<(), Refusal>
+    ensures before { Narrows (T.agrees tree.old) (T.agrees tree.new) }
+    ensures later { T.failures tree.old ≤ T.failures tree.new }
+    ensures under { V.under env.new ≡ V.under env.old }
+    ensures told { Tells (T.agrees tree.new) (T.failures tree.old < T.failures tree.new)
+        (λ u. done_view done.new (V.vars env.new)) result
+        (λ files listings. UnloadsName (site_of asking.entry.terms files listings) asking.entry.in_switch
+        asking.entry.typed.now (done_view done.old (V.vars env.old))) }
+{
+    let entries = entries_of(alloc, env)?;
+    if !is_module_name(asking.typed) {
+        let name = String::from_str(alloc, asking.typed)?;
+        return Err(Refusal::Find(FindFault::BadName(name)));
+    }
+    match last_meant(entries.as_slice(), asking.typed) {
+        None => Ok(()),
+        Some(entry) => unload_entry(alloc, asking, entries.as_slice(), entry, env, tree, done),
+    }
+}
+
+/// What is evaluated for a topic.
+fn mode_for(topic: Topic) -> Mode
+    ensures { mode_view result ≡ topic_mode topic }
+{
+    match topic {
+        Topic::Commands => Mode::Display,
+        Topic::Whatis => Mode::Whatis,
+    }
+}
+
+/// The report on a module.
+fn report_on(alloc: Global, topic: Topic, found: &Found, ran: &Ran) -> Result<String, AllocError>
+    ensures { IfOk result (λ t. string_bytes t ≡ topic_text topic (found_view found.now)
+        (map record_view ran.now.records.items)) }
+{
+    match topic {
+        Topic::Commands => show_report(alloc, found.path.as_str(), ran.records.as_slice()),
+        Topic::Whatis => whatis_report(alloc, found.name.as_str(), ran.records.as_slice()),
+    }
+}
+
+/// Reports on the module that was found.
+fn report_found<V: Vars>(
+    alloc: Global,
+    asking: Asking<'_>,
+    topic: Topic,
+    entries: &[Loaded],
+    found: &Found,
+    env: &mut V,
+    done: &mut Done,
+) -> Result<(), Refusal>
+    ensures given { Gives (λ u. done_view done.new (V.vars env.new)) result
+        (ReportsFound asking.entry topic (found_view found.now) (map entry_of entries.now)
+        (done_view done.old (V.vars env.old))) }
+    ensures under { V.under env.new ≡ V.under env.old }
+{
+    let file = File {
+        name: found.name.as_str(),
+        path: found.path.as_str(),
+        text: found.text.as_str(),
+    };
+    let ran = evaluate(alloc, asking, mode_for(topic), entries, file, env)?;
+    let text = report_on(alloc, topic, found, &ran)?;
+    done.report_on(ran.messages, text.as_str())?;
+    Ok(())
+}
+
+/// Reports on the module that a name means. The variables stay.
+pub(crate) fn report_name<T: Tree, V: Vars>(
+    alloc: Global,
+    terms: Terms,
+    topic: Topic,
+    typed: &str,
+    env: &mut V,
+    tree: &mut T,
+    done: &mut Done,
+) -> Result<(), Refusal>
+    ensures before { Narrows (T.agrees tree.old) (T.agrees tree.new) }
+    ensures later { T.failures tree.old ≤ T.failures tree.new }
+    ensures under { V.under env.new ≡ V.under env.old }
+    ensures told { Tells (T.agrees tree.new) (T.failures tree.old < T.failures tree.new)
+        (λ u. done_view done.new (V.vars env.new)) result
+        (λ files listings. ShowsName (site_of terms files listings) (topic_mode topic) (topic_text topic) typed.now
+        (done_view done.old (V.vars env.old))) }
+{
+    let asking = Asking {
+        terms,
+        in_switch: false,
+        typed,
+    };
+    let entries = entries_of(alloc, env)?;
+    let found = find_module(alloc, asking, env, tree)?;
+    report_found(alloc, asking, topic, entries.as_slice(), &found, env, done)
+}

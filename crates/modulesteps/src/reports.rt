@@ -1,0 +1,40 @@
+//! The report of `list`.
+ghost use Rattle.std.specs.Prelude.{◌≡◌, ◌++◌, map, flat_map, IfOk, OnOk, string_bytes};
+ghost use Rattle.modulefile.specs.Reports.{line_of};
+ghost use Rattle.requests.specs.Reports.{loaded_text};
+
+use std::alloc::{AllocError, Global};
+
+/// Puts a line at the end.
+fn push_line(report: &mut String, text: &str) -> Result<(), AllocError>
+    ensures { OnOk result (string_bytes report.new ≡ string_bytes report.old ++ line_of text.now) }
+{
+    report.push_str(text)?;
+    report.push('\n')
+}
+
+/// Puts a line for each text at the end.
+fn push_lines(report: &mut String, texts: &[String]) -> Result<(), AllocError>
+    ensures { OnOk result (string_bytes report.new
+        ≡ string_bytes report.old ++ flat_map line_of (map string_bytes texts.now)) }
+{
+    for text in texts {
+        push_line(report, text.as_str())?;
+    }
+    Ok(())
+}
+
+/// The report of `list`: the names of the loaded modules, in load order, one a line.
+#[tactic(auto, using(crate::proofs::ReportLemmas::loaded_none, crate::proofs::ReportLemmas::loaded_some))]
+pub(crate) fn list_report(alloc: Global, names: &[String]) -> Result<String, AllocError>
+    ensures { IfOk result (λ t. string_bytes t ≡ loaded_text (map string_bytes names.now)) }
+{
+    let mut report = String::new(alloc);
+    if names.is_empty() {
+        push_line(&mut report, "No Modulefiles Currently Loaded.")?;
+        return Ok(report);
+    }
+    push_line(&mut report, "Currently Loaded Modulefiles:")?;
+    push_lines(&mut report, names)?;
+    Ok(report)
+}
