@@ -1,0 +1,16 @@
+//! What requests make of an environment, over a tree of modulefiles (module(1)).
+#![tactic(auto)]
+
+mod messages;
+mod running;
+mod sessions;
+
+pub use environment::{Change, Env, EnvFault};
+pub use lookup::{FindFault, Tree, TreeFault};
+pub use messages::{message_of, number_of};
+pub use modulesteps::{Done, MissingNames, Module, Move, Refusal};
+pub use requests::{Action, Request, RequestFault, request};
+pub use running::{Changed, Reply, loaded_names, run, run_changes};
+pub use sessions::{Outcome, session};
+pub use shells::Shell;
+pub use tclrules::Limits;
