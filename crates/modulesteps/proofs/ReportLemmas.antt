@@ -1,14 +1,18 @@
 -- The lines of reports.
-use Rattle.std.proofs.Common.{◌≡◌, ◌+◌, ◌<◌, ℕ, Bool, true, false, nat_eq, List, [], ◌∷◌, ◌++◌, codes, length, get_or, map, flat_map, take, string_bytes, String, refl, sym, ap, ◌∙◌, append_assoc, append-nil}
+use Rattle.std.proofs.Common.{◌≡◌, ◌+◌, ◌<◌, ℕ, Bool, true, false, nat_eq, List, [], ◌∷◌, ◌++◌, codes, length, get_or, map, flat_map, take, string_bytes, String, refl, sym, ap, ◌∙◌, append_assoc, append-nil, arith}
+use Rattle.std.proofs.lemmas.Bool.Decides.{nat_tests}
 use Rattle.std.specs.declared.alloc.Global.{Global}
 use Rattle.environment.specs.Texts.{Text}
 use Rattle.modulefile.specs.Reports.{line_of}
 use Rattle.requests.specs.Reports.{loaded_text}
 use Rattle.modulesteps.proofs.ListLemmas.{turn}
 
+zero_is : (n : ℕ) → nat_eq n 0 ≡ true → n ≡ 0
+zero_is n h = grind (arith, nat_tests)
+
 pub loaded_none : (names : List (String Global)) → nat_eq (length names) 0 ≡ true → loaded_text (map (λ (s : String Global). string_bytes s) names) ≡ line_of (codes "No Modulefiles Currently Loaded.")
 loaded_none [] h = refl
-loaded_none (n ∷ ns) h = absurd (cc)
+loaded_none (n ∷ ns) h = let z : length (n ∷ ns) ≡ 0 = zero_is (length (n ∷ ns)) h in absurd (omega arith)
 
 pub loaded_some : (names : List (String Global)) → nat_eq (length names) 0 ≡ false
     → loaded_text (map (λ (s : String Global). string_bytes s) names) ≡ line_of (codes "Currently Loaded Modulefiles:") ++ flat_map line_of (map (λ (s : String Global). string_bytes s) names)
