@@ -46,7 +46,7 @@ pub started : (limits : Limits) (text : Text) (cx ctx : Context) (start : Enviro
 started limits text cx ctx start j messages mark gs r new e d m b k h =
     subst (λ (t : Told). Evaluates limits text (globals_of cx.path.now) (oracle_of (context_view cx start)) t r new) (untold_at j messages mark (ap (λ (s : SoFar). s.words) e) m b)
     (subst (λ (c : answers.Context). Evaluates limits text (globals_of cx.path.now) (oracle_of c) (told_with j messages mark) r new) (begun cx ctx start j e d)
-     (subst (λ (vs : Variables). Evaluates limits text vs (oracle_of (context_with j ctx)) (told_with j messages mark) r new) k h))
+    (subst (λ (vs : Variables). Evaluates limits text vs (oracle_of (context_with j ctx)) (told_with j messages mark) r new) k h))
 
 pub drafts_ok : (limits : Limits) (c d : answers.Context) (text : Text) (told : Told) (end : Ending) (r : Result Draft RunFault)
     → Evaluates limits text (globals_of c.path) (oracle_of c) untold (Ok end) told → oracle_of d ≡ oracle_of c

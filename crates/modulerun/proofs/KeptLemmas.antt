@@ -48,11 +48,12 @@ found_kept mode owner start now entries k =
 kept_more : (mode : effects.Mode) (owner : Text) (start now new : Environment) (entries : List Entry) (entry : Entry) → call_of (texts_in entry.words) ≡ Ok (keeps (record_view entry.kept)) → effect mode owner (record_view entry.kept) now ≡ Ok new → IsKept mode owner start now entries → IsKept mode owner start new (entries ++ entry ∷ [])
 kept_more mode owner start now new entries entry call e k =
     let w : words_of (entries ++ entry ∷ []) ≡ words_of entries ++ texts_in entry.words ∷ [] = map_push (λ (x : Entry). texts_in x.words) entries entry in
-    let r : records_of (entries ++ entry ∷ []) ≡ records_of entries ++ record_view entry.kept ∷ [] = map_push (λ (x : Entry). record_view x.kept) entries entry in
-    (ap records_in w
-     ∙ records_more (words_of entries) (texts_in entry.words) (records_of entries) (record_view entry.kept) k.0 (bind_ok (call_of (texts_in entry.words)) recorded (keeps (record_view entry.kept)) (record_view entry.kept) call refl)
-     ∙ ap (λ rs. Ok rs) (sym r),
-     ap (λ rs. effects mode owner rs start) r ∙ effects_more mode owner (records_of entries) (record_view entry.kept) start now new k.1 e)
+    let r : records_of (entries ++ entry ∷ []) ≡ records_of entries ++ record_view entry.kept ∷ [] = map_push (λ (x : Entry). record_view x.kept) entries entry in (
+      ap records_in w
+          ∙ records_more (words_of entries) (texts_in entry.words) (records_of entries) (record_view entry.kept) k.0 (bind_ok (call_of (texts_in entry.words)) recorded (keeps (record_view entry.kept)) (record_view entry.kept) call refl)
+          ∙ ap (λ rs. Ok rs) (sym r),
+      ap (λ rs. effects mode owner rs start) r ∙ effects_more mode owner (records_of entries) (record_view entry.kept) start now new k.1 e,
+    )
 
 pub kept_by : (result : Result (Unit {0}) RecordFault) (mode : effects.Mode) (owner : Text) (start now new : Environment) (entries more : List Entry) (entry : Entry)
     → OnOk result (more ≡ entries ++ entry ∷ []) → OnErr result (more ≡ entries) → IsEdited result now new (effect mode owner (record_view entry.kept) now)
@@ -66,13 +67,17 @@ pub noted_by : (result : Result (Unit {0}) RecordFault) (mode : Mode) (owner : T
     → OnOk result (more ≡ entries ++ entry ∷ []) → OnErr result (more ≡ entries) → IsEdited result now new (effect (mode_view mode) owner (record_view entry.kept) now)
     → IsKept (mode_view mode) owner start now entries
     → IsNoted result (texts_in entry.words) (record_view entry.kept) (record { mode = mode; owner = owner; start = start; words = words_of entries }) (record { mode = mode; owner = owner; start = start; words = words_of more })
-noted_by (Ok u) mode owner start now new entries more entry ok err edited k =
-    (ap (λ (ws : List (List Text)). record { mode = mode; owner = owner; start = start; words = ws }) (ap words_of ok ∙ map_push (λ (x : Entry). texts_in x.words) entries entry),
-     (new,
-      ap (λ e. effect (mode_view mode) owner (record_view entry.kept) e) (found_kept mode owner start now entries k) ∙ edited))
-noted_by (Err fault) mode owner start now new entries more entry ok err edited k =
-    (ap (λ (es : List Entry). record { mode = mode; owner = owner; start = start; words = words_of es }) err,
-     subst (λ e. IfSome (fault_reason fault) (λ reason. effect (mode_view mode) owner (record_view entry.kept) e ≡ Err reason)) (sym (found_kept mode owner start now entries k)) edited.1)
+noted_by (Ok u) mode owner start now new entries more entry ok err edited k = (
+  ap (λ (ws : List (List Text)). record { mode = mode; owner = owner; start = start; words = ws }) (ap words_of ok ∙ map_push (λ (x : Entry). texts_in x.words) entries entry),
+  (
+    new,
+    ap (λ e. effect (mode_view mode) owner (record_view entry.kept) e) (found_kept mode owner start now entries k) ∙ edited,
+  ),
+)
+noted_by (Err fault) mode owner start now new entries more entry ok err edited k = (
+  ap (λ (es : List Entry). record { mode = mode; owner = owner; start = start; words = words_of es }) err,
+  subst (λ e. IfSome (fault_reason fault) (λ reason. effect (mode_view mode) owner (record_view entry.kept) e ≡ Err reason)) (sym (found_kept mode owner start now entries k)) edited.1,
+)
 
 -- the records of entries, seen from the records that were taken out
 pub records_kept : (entries : List Entry) (rs : List Record) → rs ≡ map (λ (entry : Entry). entry.kept) entries → records_of entries ≡ map record_view rs

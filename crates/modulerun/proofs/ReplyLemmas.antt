@@ -1,5 +1,5 @@
 -- How the host's replies follow from what its parts say.
-use Rattle.std.proofs.Common.{◌≡◌, ℕ, Bool, true, false, ◌||◌, List, [], ◌∷◌, ◌++◌, map, string_bytes, String, if◌then◌else◌, Option, Some, None, IfSome, Result, Ok, Err, IfOk, refl, ap, sym, subst, ◌∙◌, codes}
+use Rattle.std.proofs.Common.{◌≡◌, ◌==◌, ℕ, Bool, true, false, ◌||◌, List, [], ◌∷◌, ◌++◌, map, string_bytes, String, if◌then◌else◌, Option, Some, None, IfSome, Result, Ok, Err, IfOk, refl, ap, sym, subst, ◌∙◌, codes}
 use Rattle.std.specs.declared.vec.Vec.{Vec}
 use Rattle.std.specs.declared.alloc.Global.{Global}
 use Rattle.std.specs.declared.alloc.AllocError.{AllocError}
@@ -49,9 +49,23 @@ pub noted_reply : (s t : SoFar) (cx : Context) (messages : Vec (String Global) G
     → Replies (answered (context_with s cx) (found s) words (call_of words)) (Done text) (told_with s messages mark) (told_with t messages mark)
 noted_reply s t cx messages mark words r text e call empty note effect =
     by_answer _ (oracle.Done [] (Kept words) false) (Done text) (told_with s messages mark) (told_with t messages mark)
-    (ap (answered (context_with s cx) (found s) words) call ∙ ap (kept words) effect)
-    (Kept words, false, (ap (λ (x : Text). oracle.Done x (Kept words) false) (sym empty),
-      ap (λ (j : SoFar). told_with j messages mark) note ∙ ap (λ b. told_with (noted s words) messages b) (or_false mark)))
+    (ap (answered (context_with s cx) (found s) words) call ∙ ap (kept words) effect) (
+      Kept words,
+      false,
+      (
+        ap (λ (x : Text). oracle.Done x (Kept words) false) (sym empty),
+        ap (λ (j : SoFar). told_with j messages mark) note ∙ ap (λ b. told_with (noted s words) messages b) (or_false mark),
+      ),
+    )
+
+abbrev number_in : Answer → ℕ
+number_in (oracle.Done t adds asks) = 0
+number_in (oracle.Unknown asks) = 0
+number_in (oracle.LeftOut name asks) = 0
+number_in (oracle.Refused n asks) = n
+
+true_not_false : true ≡ false → ⊥
+true_not_false e = absurd (cc)
 
 -- what replies to every reason of a record alike is want of memory
 from_reasons : (h : HostAnswer) (old new : Told) (a : Answer) → ((reason : RecordReason) → Replies (not_done (bad_record reason)) h old new) → Replies a h old new
@@ -63,7 +77,9 @@ from_reasons (Refused n) old new a f =
     let q = f (bad_edit inconsistent) in
     let e : oracle.Refused 44 false ≡ oracle.Refused n r.0 = r.1.0 in
     let d : oracle.Refused 35 false ≡ oracle.Refused n q.0 = q.1.0 in
-    let same : ◌≡◌ {A = ℕ} 44 35 = cc in absurd (cc)
+    let yes : true ≡ (n == 44) = ap (λ a. number_in a == 44) e in
+    let no : false ≡ (n == 44) = ap (λ a. number_in a == 44) d in
+    absurd (true_not_false (yes ∙ sym no))
 from_reasons OutOfMemory old new a f = f (bad_module_name [])
 
 -- a record that has no effect is refused
@@ -75,6 +91,7 @@ refused_reply s t cx messages mark words r fault h new call same e f = go (fault
   where
     at : (reason : RecordReason) → HasFault reason fault → Replies (not_done (bad_record reason)) h (told_with s messages mark) new
     at reason k = subst (λ (j : SoFar). Replies (not_done (bad_record reason)) h (told_with j messages mark) new) same (f reason k)
+
     go : (o : Option RecordReason) → fault_reason fault ≡ o → Replies (answered (context_with s cx) (found s) words (call_of words)) h (told_with s messages mark) new
     go None q = from_reasons h (told_with s messages mark) new _ (λ reason. at reason (subst (λ o. IfSome o (λ x. x ≡ reason)) (sym q) tt))
     go (Some reason) q =

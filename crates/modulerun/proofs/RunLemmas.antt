@@ -36,10 +36,12 @@ pub runs_err : (limits : Limits) (c : Context) (text : Text) (told : Told) (faul
     → Evaluates limits text (globals_of c.path) (oracle_of c) untold (Err fault) told → IfSome (eval_stop fault) (λ stop. Runs limits c text (Err stop))
 runs_err limits c text told faults.OutOfMemory h = tt
 runs_err limits c text told (faults.Text f) h = halted_by limits c text (record { used = h.1; told = told }) h.0 _ h.2 h.3
-runs_err limits c text told (faults.TclError m n) h =
-    (Ended (Raised (string_bytes m) h.2.0), record { used = h.1; told = told },
-     subst (λ (x : Outcome plans.Ending). Comes false limits text (globals_of c.path) (oracle_of c) untold x (record { used = h.1; told = told })) h.2.1 h.3,
-     ap (λ (line : ℕ). Err (failed (string_bytes m) line)) h.2.2)
+runs_err limits c text told (faults.TclError m n) h = (
+  Ended (Raised (string_bytes m) h.2.0),
+  record { used = h.1; told = told },
+  subst (λ (x : Outcome plans.Ending). Comes false limits text (globals_of c.path) (oracle_of c) untold x (record { used = h.1; told = told })) h.2.1 h.3,
+  ap (λ (line : ℕ). Err (failed (string_bytes m) line)) h.2.2,
+)
 runs_err limits c text told faults.TooManyCommands h = halted_by limits c text (record { used = h.1; told = told }) h.0 _ h.2 h.3
 runs_err limits c text told faults.TooDeep h = halted_by limits c text (record { used = h.1; told = told }) h.0 _ h.2 h.3
 runs_err limits c text told faults.ValueTooLong h = halted_by limits c text (record { used = h.1; told = told }) h.0 _ h.2 h.3

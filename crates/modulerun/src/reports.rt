@@ -9,13 +9,24 @@ use modulefile::{PathEdit, Record};
 use std::alloc::{AllocError, Global};
 use tcllist::write_list;
 
-fn listed<'a>(alloc: Global, command: &'a str, var: &'a str, value: &'a str) -> Result<String, AllocError>
+fn listed<'a>(
+    alloc: Global,
+    command: &'a str,
+    var: &'a str,
+    value: &'a str,
+) -> Result<String, AllocError>
     ensures { IfOk result (λ t. string_bytes t ≡ list_text (command.now ∷ var.now ∷ value.now ∷ [])) }
 {
     write_list(alloc, &[command, var, value])
 }
 
-fn listed_with<'a>(alloc: Global, command: &'a str, delim: &'a str, var: &'a str, value: &'a str) -> Result<String, AllocError>
+fn listed_with<'a>(
+    alloc: Global,
+    command: &'a str,
+    delim: &'a str,
+    var: &'a str,
+    value: &'a str,
+) -> Result<String, AllocError>
     ensures { IfOk result (λ t. string_bytes t ≡ list_text (command.now ∷ codes "--delim" ∷ delim.now ∷ var.now ∷ value.now ∷ [])) }
 {
     write_list(alloc, &[command, "--delim", delim, var, value])

@@ -12,8 +12,8 @@ returns-in-Ok g c =
     drafts_ok c.args.limits (context_view c.args.context.now start) (context_with c.evaluate.new.host.journal c.evaluate.new.host.context) c.args.text.now
     (told_with c.evaluate.new.host.journal c.evaluate.new.host.messages c.evaluate.new.host.asked) c.in-Ok._ending c.finish.result
     (started c.args.limits c.args.text.now c.args.context.now c.over-runner.result.context start c.over-runner.result.journal c.over-runner.result.messages c.over-runner.result.asked (texts_of c.in_ok-globals.globals.items) (Ok c.in-Ok._ending)
-     (told_with c.evaluate.new.host.journal c.evaluate.new.host.messages c.evaluate.new.host.asked)
-     c.over-runner.ensures.journal c.over-runner.ensures.context c.over-runner.ensures.messages c.over-runner.ensures.asked c.in_ok-globals.ensures c.in-Ok.ensures.evaluates)
+    (told_with c.evaluate.new.host.journal c.evaluate.new.host.messages c.evaluate.new.host.asked)
+    c.over-runner.ensures.journal c.over-runner.ensures.context c.over-runner.ensures.messages c.over-runner.ensures.asked c.in_ok-globals.ensures c.in-Ok.ensures.evaluates)
     (c.in-Ok.ensures.same ∙ ap oracle_of (begun c.args.context.now c.over-runner.result.context start c.over-runner.result.journal c.over-runner.ensures.journal c.over-runner.ensures.context))
     c.finish.ensures.ok c.finish.ensures.only
 
@@ -23,6 +23,6 @@ returns-in-Err g c =
     drafts_err c.args.limits (context_view c.args.context.now start) c.args.text.now
     (told_with c.evaluate.new.host.journal c.evaluate.new.host.messages c.evaluate.new.host.asked) c.in-Err.fault c.refusal.result
     (started c.args.limits c.args.text.now c.args.context.now c.over-runner.result.context start c.over-runner.result.journal c.over-runner.result.messages c.over-runner.result.asked (texts_of c.in_ok-globals.globals.items) (Err c.in-Err.fault)
-     (told_with c.evaluate.new.host.journal c.evaluate.new.host.messages c.evaluate.new.host.asked)
-     c.over-runner.ensures.journal c.over-runner.ensures.context c.over-runner.ensures.messages c.over-runner.ensures.asked c.in_ok-globals.ensures c.in-Err.ensures.evaluates)
+    (told_with c.evaluate.new.host.journal c.evaluate.new.host.messages c.evaluate.new.host.asked)
+    c.over-runner.ensures.journal c.over-runner.ensures.context c.over-runner.ensures.messages c.over-runner.ensures.asked c.in_ok-globals.ensures c.in-Err.ensures.evaluates)
     c.refusal.ensures

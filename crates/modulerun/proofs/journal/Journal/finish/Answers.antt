@@ -16,4 +16,4 @@ pub returns-clause-changes : goal.returns-clause-changes
 returns-clause-changes g c =
     subst (λ (s : SoFar). effects (mode_view s.mode) s.owner (map record_view c.in_ok-records.records.items) s.start ≡ Ok (applied (edits_in c.in_ok-changes.changes) s.start)) c.self.view_is
     (made_by c.self.inside.mode c.self.inside.owner.now c.self.inside.working.old c.self.inside.working.new c.self.inside.entries.items c.in_ok-records.records.items (edits_in c.in_ok-changes.changes)
-     c.self.invariant c.in_ok-records.ensures c.in_ok-changes.ensures.ok)
+    c.self.invariant c.in_ok-records.ensures c.in_ok-changes.ensures.ok)
