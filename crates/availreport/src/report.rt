@@ -58,11 +58,7 @@ fn push_row(report: &mut String, row: &Row) -> Result<(), AllocError>
 }
 
 /// Adds the lines of a directory, where it has a name to report.
-fn push_listing(
-    report: &mut String,
-    texts: &[String],
-    listing: &Listing,
-) -> Result<(), AllocError>
+fn push_listing(report: &mut String, texts: &[String], listing: &Listing) -> Result<(), AllocError>
     ensures { OnOk result (string_bytes report.new
         ≡ string_bytes report.old ++ wanted_text (map string_bytes texts.now) (listing_view listing.now)) }
 {

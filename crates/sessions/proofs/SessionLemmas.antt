@@ -118,8 +118,7 @@ pub session_grows : (start e new : Environment) (outcomes : List Outcome) (o : O
     → (new ≡ sessions.left_by start (responses start (outcomes ++ o ∷ []))) × (responses start (outcomes ++ o ∷ []) ≡ responses start outcomes ++ response_of e o ∷ [])
 session_grows start e new outcomes o left after =
     let grown : responses start (outcomes ++ o ∷ []) ≡ responses start outcomes ++ response_of e o ∷ [] =
-        responses_push start outcomes o ∙ ap (λ x. responses start outcomes ++ response_of x o ∷ []) (sym left) in
-    (
+    responses_push start outcomes o ∙ ap (λ x. responses start outcomes ++ response_of x o ∷ []) (sym left) in (
       after ∙ (ap (λ x. env_after x (response_of e o)) left ∙ (sym (left_push start (responses start outcomes) (response_of e o)) ∙ ap (sessions.left_by start) (sym grown))),
       grown,
     )

@@ -106,9 +106,7 @@ pub fn message_of(refusal: &Refusal) -> Message<'_>
         Refusal::Find(fault) => fault.message(),
         Refusal::Env(fault) => fault.message(),
         Refusal::Request(fault) => fault.message(),
-        Refusal::ConflictWith(name) => {
-            Message::quoting("Conflict with '", name.as_str())
-        }
+        Refusal::ConflictWith(name) => { Message::quoting("Conflict with '", name.as_str()) }
         Refusal::PrereqMissing(missing) => {
             Message::quoting("Missing one of '", missing.text.as_str())
         }

@@ -47,7 +47,7 @@ pub fn run_changes<T: Tree>(
     ensures later { T.failures tree.old ≤ T.failures tree.new }
     ensures answer { Tells (T.agrees tree.new) (T.failures tree.old < T.failures tree.new) (changed_view env.now) result
         (λ files listings. Step (site_in limits request.now.shell files listings) env.now
-            (asked_view request.now.action)) }
+        (asked_view request.now.action)) }
     ensures exact { IfOk result (λ changed.
         AreChanges env.now (left_by env.now changed) (edits_in changed.changes)) }
 {
@@ -71,7 +71,7 @@ pub fn run<T: Tree>(
     ensures later { T.failures tree.old ≤ T.failures tree.new }
     ensures answer { Tells (T.agrees tree.new) (T.failures tree.old < T.failures tree.new) reply_view result
         (λ files listings. Step (site_in limits request.now.shell files listings) env.now
-            (asked_view request.now.action)) }
+        (asked_view request.now.action)) }
 {
     let changed = run_changes(alloc, request, env, tree, limits)?;
     let mut after = env.copy()?;

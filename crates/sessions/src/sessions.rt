@@ -40,7 +40,7 @@ fn change<T: Tree>(
     ensures answer { Tells (T.agrees tree.new) (T.failures tree.old < T.failures tree.new)
         (λ done. done_view done env.new) result
         (λ files listings. Step (site_in limits request.now.shell files listings) env.old
-            (asked_view request.now.action)) }
+        (asked_view request.now.action)) }
     ensures kept { OnErr result (env.new ≡ env.old) }
 {
     let changed = run_changes(alloc, request, env, tree, limits)?;
@@ -60,7 +60,7 @@ fn respond<T: Tree>(
     ensures failures { T.failures tree.old + count_failed (result ∷ []) ≤ T.failures tree.new }
     ensures answer { Shows (T.agrees tree.new) (λ files listings.
         IsResponse (site_in limits request.now.shell files listings) env.old (asked_view request.now.action)
-            (response_of env.old result)) }
+        (response_of env.old result)) }
     ensures left { Shows (T.agrees tree.new) (λ files listings. env.new ≡ env_after env.old (response_of env.old result)) }
 {
     requests::outcomes();
