@@ -1,3 +1,4 @@
 pub mod Running
 pub mod Journals
 pub mod Hosting
+pub mod Messages

@@ -1,6 +1,2 @@
-pub mod Refusals
 pub mod RunLemmas
-pub mod LiteralLemmas
-pub mod LoadLemmas
-pub mod StepLemmas
-pub mod Examples
+pub mod SessionLemmas

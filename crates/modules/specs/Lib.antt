@@ -1,11 +1,2 @@
-pub mod Then
-pub mod Records
-pub mod Reasons
-pub mod Requests
-pub mod Commands
-pub mod Literals
-pub mod Evaluation
-pub mod Steps
-pub mod Answers
-pub mod Running
-pub mod Subcommands
+pub mod Replies
+pub mod Responses

@@ -1,19 +1,14 @@
-//! Requests to load and unload modules, and what they make of an environment (module(1), modulefile(5)).
+//! What requests make of an environment, over a tree of modulefiles (module(1)).
 #![tactic(auto)]
 
-mod call;
-mod command;
-mod command_line;
-mod evaluate;
-mod refusal;
-mod requests;
 mod running;
+mod sessions;
 
-pub use command_line::request;
-pub use envstate::{Change, End, Env, EnvFault, Loaded};
-pub use evaluate::Mode;
+pub use environment::{Change, Env, EnvFault};
 pub use lookup::{FindFault, Tree, TreeFault};
-pub use refusal::Refusal;
-pub use requests::{Action, Request};
-pub use running::{Limits, Reply, run};
+pub use modulesteps::{Done, MissingNames, Module, Move, Refusal};
+pub use requests::{Action, Request, RequestFault, request};
+pub use running::{Changed, Reply, loaded_names, run, run_changes};
+pub use sessions::{Outcome, session};
 pub use shells::Shell;
+pub use tclrules::Limits;

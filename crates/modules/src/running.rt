@@ -1,239 +1,65 @@
-//! Runs a request over an environment and a tree of modulefiles.
-ghost use Rattle.std.specs.Prelude.{◌≡◌, ◌<◌, ◌≤◌, [], ◌∷◌, map, find, reverse, None, IfOk, string_bytes};
-ghost use Rattle.std.specs.Option.{option_map};
-ghost use Rattle.modulename.specs.ModuleName.{means};
-ghost use Rattle.envstate.specs.Texts.{has};
-ghost use Rattle.envstate.specs.Loaded as list;
-ghost use Rattle.envstate.specs.LoadedEntries.{entry_of};
+//! One request over an environment that stays as it is.
+ghost use Rattle.std.specs.Prelude.{◌≡◌, ◌<◌, ◌≤◌, [], ◌∷◌, ◌++◌, map, IfOk, OnOk};
+ghost use Rattle.environment.specs.Changes.{AreChanges, edits_in};
 ghost use Rattle.lookup.specs.Agreement.{Narrows};
-ghost use Rattle.lookup.specs.Search.{modulefile};
-ghost use Rattle.modules.specs.declared.evaluate.Mode.TheVariants as modes;
-ghost use Rattle.modules.specs.Running.{left_by, left_loaded, left_unloaded};
-ghost use Rattle.modules.specs.Answers.{Gives, Tells, done_of, entries_view};
-ghost use Rattle.modules.specs.Requests.{asked, only};
-ghost use Rattle.modules.specs.Steps.{step, script_at, entries_in, modulepath, done, Loads, Unloads};
+ghost use Rattle.modulerecords.specs.Moves as records;
+ghost use Rattle.requests.specs.RequestViews.{asked_view};
+ghost use Rattle.requests.specs.Steps.{Step};
+ghost use Rattle.modulesteps.specs.Answers.{Tells};
+ghost use Rattle.modulesteps.specs.Views.{move_view};
+ghost use Rattle.modules.specs.Replies.{left_by, changed_view, reply_view, site_in};
 
-use crate::evaluate::{Evaluation, Mode};
-use crate::refusal::Refusal;
-use crate::requests::{Action, Request};
-use envstate::{Env, Loaded, add_loaded, drop_loaded, loaded};
-use lookup::{FindFault, Found, Modulefile, Tree, is_module_name, locate, means, read_modulefile};
+use environment::{Change, Env, Vars, Working};
+use lookup::Tree;
+use modulesteps::{Done, Move, Refusal, step};
+use requests::Request;
 use std::alloc::{AllocError, Global};
+use tclrules::Limits;
 
-/// What an evaluation may use: commands that run, evaluations that stand in one another, bytes of a value.
-#[derive(Clone, Copy, Debug, PartialEq, Eq)]
-pub struct Limits {
-    pub commands: u64,
-    pub depth: u32,
-    pub value_bytes: usize,
+/// What an accepted request changes: each variable whose value is another now, once, in the order of bytes; and what was
+/// done.
+#[derive(Debug, Drop)]
+pub struct Changed {
+    pub changes: Vec<Change>,
+    pub done: Done,
 }
 
-/// What an accepted request leaves: the environment, the modules that it loaded, what modulefiles wrote, the report.
+/// What an accepted request leaves: the environment, and what was done.
 #[derive(Drop)]
 pub struct Reply {
     pub env: Env,
-    pub loaded: Vec<String>,
-    pub messages: String,
-    pub report: String,
+    pub done: Done,
 }
 
-/// The one name of a request: 56 where there is none, or another.
-pub(crate) fn only(names: &[String]) -> Result<&str, Refusal>
-    ensures { Gives (λ name. name.now) result (only (map string_bytes names.entry.now)) }
-{
-    match names {
-        [name] => Ok(name.as_str()),
-        _ => Err(Refusal::BadArguments),
-    }
-}
-
-/// The list of one name.
-pub(crate) fn one_name(alloc: Global, name: &str) -> Result<Vec<String>, AllocError>
-    ensures { IfOk result (λ v. map string_bytes v.items ≡ name.now ∷ []) }
-{
-    let mut names = Vec::new(alloc);
-    names.push(String::from_str(alloc, name)?)?;
-    Ok(names)
-}
-
-/// The search path: empty where MODULEPATH is unset.
-fn modulepath(env: &Env) -> &str
-    ensures { result.now ≡ modulepath env.now }
-{
-    match env.get("MODULEPATH") {
-        None => "",
-        Some(text) => text,
-    }
-}
-
-/// The loaded modules: 56 where conflicts or prereqs are kept in the environment, 35 where the lists are inconsistent.
-fn entries_in(alloc: Global, env: &Env) -> Result<Vec<Loaded>, Refusal>
-    ensures { Gives entries_view result (entries_in env.now) }
-{
-    if env.get("__MODULES_LMCONFLICT").is_some() || env.get("__MODULES_LMPREREQ").is_some() {
-        return Err(Refusal::BadArguments);
-    }
-    Ok(loaded(alloc, env)?)
-}
-
-fn is_loaded(entries: &[Loaded], name: &str) -> bool
-    ensures { result ≡ has name.now (list.names_of (map entry_of entries.now)) }
-{
-    entries.iter().any(|entry| name == entry.name.as_str())
-}
-
-/// The last loaded module that the name means.
-fn last_meant<'a>(entries: &'a [Loaded], name: &str) -> Option<&'a Loaded>
-    ensures { option_map (λ x. entry_of x.now) result
-        ≡ find (λ x. means name.now x.name) (reverse (map entry_of entries.entry.now)) }
-{
-    entries
-        .iter()
-        .rev()
-        .find(|entry| means(name, entry.name.as_str()))
-}
-
-/// What a request leaves that changes nothing.
-fn unchanged(alloc: Global, env: &Env) -> Result<Reply, Refusal>
-    ensures { Gives done_of result (done env.now None) }
-{
-    Ok(Reply {
-        env: env.copy()?,
-        loaded: Vec::new(alloc),
-        messages: String::new(alloc),
-        report: String::new(alloc),
-    })
-}
-
-/// The script in the file of a module: 54 where no file is there, 55 where it has no cookie, 46 where it isn't UTF-8.
-fn script_at<T: Tree>(alloc: Global, tree: &mut T, path: &str) -> Result<String, Refusal>
-    ensures before { Narrows (T.agrees tree.old) (T.agrees tree.new) }
-    ensures later { T.failures tree.old ≤ T.failures tree.new }
-    ensures answer { Tells (T.agrees tree.new) (T.failures tree.old < T.failures tree.new)
-        (λ text. string_bytes text) result
-        (λ files. script_at path.now (modulefile (files path.now))) }
-{
-    match read_modulefile(tree, path)? {
-        Modulefile::Script(text) => Ok(text),
-        Modulefile::Absent => Err(Refusal::FileGone(String::from_str(alloc, path)?)),
-        Modulefile::NoCookie => Err(Refusal::NotAModulefile(String::from_str(alloc, path)?)),
-        Modulefile::NotUtf8 => Err(Refusal::Find(FindFault::NotUtf8(String::from_str(
-            alloc, path,
-        )?))),
-    }
-}
-
-/// Loads the module of this text.
-fn load_text(
-    alloc: Global,
-    found: Found,
-    text: &str,
-    env: &Env,
-    limits: Limits,
-) -> Result<Reply, Refusal>
-    ensures { Gives done_of result (left_by Loads modes.Load limits env.now (string_bytes found.name)
-        (string_bytes found.path) text.now) }
-{
-    let mut after = env.copy()?;
-    let evaluation = Evaluation {
-        alloc,
-        mode: Mode::Load,
-        limits,
-    };
-    evaluation.run(text, &mut after)?;
-    let loaded = one_name(alloc, found.name.as_str())?;
-    let entry = Loaded {
-        name: found.name,
-        path: found.path,
-        conflicts: Vec::new(alloc),
-        prereqs: Vec::new(alloc),
-    };
-    add_loaded(alloc, &mut after, &entry)?;
-    Ok(Reply {
-        env: after,
-        loaded,
-        messages: String::new(alloc),
-        report: String::new(alloc),
-    })
-}
-
-/// Unloads the module of this text.
-fn unload_text(
-    alloc: Global,
-    entry: &Loaded,
-    text: &str,
-    env: &Env,
-    limits: Limits,
-) -> Result<Reply, Refusal>
-    ensures { Gives done_of result (left_by Unloads modes.Unload limits env.now (string_bytes entry.now.name)
-        (string_bytes entry.now.path) text.now) }
-{
-    let mut after = env.copy()?;
-    let evaluation = Evaluation {
-        alloc,
-        mode: Mode::Unload,
-        limits,
-    };
-    evaluation.run(text, &mut after)?;
-    drop_loaded(alloc, &mut after, entry.name.as_str())?;
-    Ok(Reply {
-        env: after,
-        loaded: Vec::new(alloc),
-        messages: String::new(alloc),
-        report: String::new(alloc),
-    })
-}
-
-/// Loads the module of this name, unless it is loaded.
-fn load<T: Tree>(
-    alloc: Global,
-    name: &str,
-    env: &Env,
-    entries: &[Loaded],
-    tree: &mut T,
-    limits: Limits,
-) -> Result<Reply, Refusal>
-    ensures before { Narrows (T.agrees tree.old) (T.agrees tree.new) }
-    ensures later { T.failures tree.old ≤ T.failures tree.new }
-    ensures answer { Tells (T.agrees tree.new) (T.failures tree.old < T.failures tree.new) done_of result
-        (left_loaded limits env.now (map entry_of entries.now) name.now) }
-{
-    if is_loaded(entries, name) {
-        return unchanged(alloc, env);
-    }
-    let found = locate(alloc, tree, modulepath(env), name)?;
-    let text = script_at(alloc, tree, found.path.as_str())?;
-    load_text(alloc, found, text.as_str(), env, limits)
-}
-
-/// Unloads the last loaded module that the name means, if there is one.
-fn unload<T: Tree>(
-    alloc: Global,
-    name: &str,
-    env: &Env,
-    entries: &[Loaded],
-    tree: &mut T,
-    limits: Limits,
-) -> Result<Reply, Refusal>
-    ensures before { Narrows (T.agrees tree.old) (T.agrees tree.new) }
-    ensures later { T.failures tree.old ≤ T.failures tree.new }
-    ensures answer { Tells (T.agrees tree.new) (T.failures tree.old < T.failures tree.new) done_of result
-        (left_unloaded limits env.now (map entry_of entries.now) name.now) }
-{
-    if !is_module_name(name) {
-        return Err(Refusal::Find(FindFault::BadName(String::from_str(alloc, name)?)));
-    }
-    let Some(entry) = last_meant(entries, name) else {
-        return unchanged(alloc, env);
-    };
-    let text = script_at(alloc, tree, entry.path.as_str())?;
-    unload_text(alloc, entry, text.as_str(), env, limits)
-}
-
-/// Runs a request over an environment, which stays as it is, and a tree of modulefiles.
+/// Runs a request over an environment, which stays as it is, and a tree of modulefiles, and answers what the request
+/// changes. It costs what the request touches, whatever else is set.
 ///
-/// It is refused as the request's step over the tree is, or for want of memory (1, 31 or 41), or by 43 where the device
-/// failed in this call.
+/// It is refused as the request's step over the tree is; or for want of memory; or by 43 where the device failed in this
+/// call. Then there is no change.
+pub fn run_changes<T: Tree>(
+    alloc: Global,
+    request: &Request,
+    env: &Env,
+    tree: &mut T,
+    limits: Limits,
+) -> Result<Changed, Refusal>
+    ensures before { Narrows (T.agrees tree.old) (T.agrees tree.new) }
+    ensures later { T.failures tree.old ≤ T.failures tree.new }
+    ensures answer { Tells (T.agrees tree.new) (T.failures tree.old < T.failures tree.new) (changed_view env.now) result
+        (λ files listings. Step (site_in limits request.now.shell files listings) env.now
+        (asked_view request.now.action)) }
+    ensures exact { IfOk result (λ changed.
+        AreChanges env.now (left_by env.now changed) (edits_in changed.changes)) }
+{
+    environment::laws::changes();
+    let mut working = Working::over(env);
+    let done = step(alloc, request, &mut working, tree, limits)?;
+    let changes = working.into_changes()?;
+    Ok(Changed { changes, done })
+}
+
+/// Runs a request as `run_changes` does, and answers the environment that the request leaves. It costs a copy of the
+/// environment besides.
 pub fn run<T: Tree>(
     alloc: Global,
     request: &Request,
@@ -243,19 +69,40 @@ pub fn run<T: Tree>(
 ) -> Result<Reply, Refusal>
     ensures before { Narrows (T.agrees tree.old) (T.agrees tree.new) }
     ensures later { T.failures tree.old ≤ T.failures tree.new }
-    ensures answer { Tells (T.agrees tree.new) (T.failures tree.old < T.failures tree.new) done_of result
-        (λ files. step limits files env.now (asked request.now.action)) }
+    ensures answer { Tells (T.agrees tree.new) (T.failures tree.old < T.failures tree.new) reply_view result
+        (λ files listings. Step (site_in limits request.now.shell files listings) env.now
+        (asked_view request.now.action)) }
 {
-    match &request.action {
-        Action::Load(names) => {
-            let name = only(names.as_slice())?;
-            let entries = entries_in(alloc, env)?;
-            load(alloc, name, env, entries.as_slice(), tree, limits)
-        }
-        Action::Unload(names) => {
-            let name = only(names.as_slice())?;
-            let entries = entries_in(alloc, env)?;
-            unload(alloc, name, env, entries.as_slice(), tree, limits)
-        }
+    let changed = run_changes(alloc, request, env, tree, limits)?;
+    let mut after = env.copy()?;
+    after.apply(changed.changes)?;
+    Ok(Reply {
+        env: after,
+        done: changed.done,
+    })
+}
+
+/// Adds the name of the module that the move loads, if it loads one.
+fn keep_loaded<'a>(names: &mut Vec<&'a str>, step: &'a Move) -> Result<(), AllocError>
+    ensures { OnOk result (map (λ name. name.now) names.new.items
+        ≡ map (λ name. name.now) names.old.items ++ records.loaded_names (move_view step.entry.now ∷ [])) }
+{
+    match step {
+        Move::Loads(module) => Ok(names.push(module.name.as_str())?),
+        Move::Unloads(_) => Ok(()),
     }
+}
+
+/// The names of the modules that the moves load, in order.
+pub fn loaded_names(alloc: Global, moves: &[Move]) -> Result<Vec<&str>, AllocError>
+    ensures { IfOk result (λ names. map (λ name. name.now) names.items
+        ≡ records.loaded_names (map move_view moves.entry.now)) }
+{
+    let mut names = Vec::new(alloc);
+    let mut rest = moves;
+    while let [step, after @ ..] = rest {
+        keep_loaded(&mut names, step)?;
+        rest = after;
+    }
+    Ok(names)
 }

@@ -1,15 +1,21 @@
 //! Why a request is refused.
-ghost use Rattle.std.specs.Prelude.{◌≡◌};
+ghost use Rattle.std.specs.Prelude.{◌≡◌, Some};
 ghost use Rattle.std.specs.List.{join_with_byte};
 ghost use Rattle.environment.specs.Texts.{texts_in};
+ghost use Rattle.message.specs.Messages.{text_of};
 ghost use Rattle.modulesteps.specs.declared.refusal.Refusal.TheVariants as refusals;
 ghost use Rattle.modulesteps.specs.Answers.{refused_read};
+ghost use Rattle.modulesteps.specs.Messages.{number_of, message_of};
 
 use environment::EnvFault;
 use lookup::{FindFault, TreeFault};
+use message::Message;
 use modulerun::RunFault;
 use requests::RequestFault;
 use std::alloc::{AllocError, AllocFailed};
+use std::error::Error;
+use std::fmt;
+use std::fmt::Display;
 
 /// Names of which none is loaded, and their text.
 #[derive(Debug, Drop)]
@@ -19,7 +25,7 @@ pub struct MissingNames {
     pub text: String,
 }
 
-/// Why a request is refused.
+/// Why a request is refused. Its `Display` is what follows `ERROR: `.
 #[derive(Debug, Drop)]
 pub enum Refusal {
     /// 31: a growth of memory was refused.
@@ -43,6 +49,58 @@ pub enum Refusal {
     /// 55: the file at the path of a loaded module is no modulefile.
     NotAModulefile(String),
 }
+
+impl Refusal {
+    /// The number of the refusal.
+    pub fn number(&self) -> u16
+        ensures { result ≡ number_of self.now }
+    {
+        match self {
+            Refusal::OutOfMemory => 31,
+            Refusal::Run(fault) => fault.number(),
+            Refusal::Find(fault) => fault.number(),
+            Refusal::Env(fault) => fault.number(),
+            Refusal::Request(fault) => fault.number(),
+            Refusal::ConflictWith(_) => 51,
+            Refusal::PrereqMissing(_) => 52,
+            Refusal::StillNeededBy(_) => 53,
+            Refusal::FileGone(_) => 54,
+            Refusal::NotAModulefile(_) => 55,
+        }
+    }
+
+    /// What the refusal says.
+    pub fn message(&self) -> Message<'_>
+        ensures { text_of result ≡ message_of self.now }
+    {
+        match self {
+            Refusal::OutOfMemory => Message::plain("Out of memory"),
+            Refusal::Run(fault) => fault.message(),
+            Refusal::Find(fault) => fault.message(),
+            Refusal::Env(fault) => fault.message(),
+            Refusal::Request(fault) => fault.message(),
+            Refusal::ConflictWith(name) => Message::quoting("Conflict with '", name.as_str()),
+            Refusal::PrereqMissing(missing) => {
+                Message::quoting("Missing one of '", missing.text.as_str())
+            }
+            Refusal::StillNeededBy(name) => Message::quoting("Still needed by '", name.as_str()),
+            Refusal::FileGone(path) => Message::quoting("No file at '", path.as_str()),
+            Refusal::NotAModulefile(path) => {
+                Message::quoting("Not a modulefile: '", path.as_str())
+            }
+        }
+    }
+}
+
+impl fmt::Display for Refusal {
+    ghost output = { λ refusal. Some (message_of refusal) };
+
+    fn fmt<W: fmt::Write>(&self, f: &mut fmt::Formatter<W>) -> fmt::Result {
+        self.message().fmt(f)
+    }
+}
+
+impl Error for Refusal {}
 
 impl From<AllocError> for Refusal {
     ghost from_gives = { λ _ e. e ≡ refusals.OutOfMemory };

@@ -1,0 +1,151 @@
+-- Sessions grow by one request at their end.
+use Rattle.std.proofs.Common.{◌≡◌, ℕ, ◌+◌, ◌-◌, ◌≤◌, ◌<◌, List, [], ◌∷◌, ◌++◌, map, length, take, drop, get_or, refl, sym, subst, ap, ◌∙◌, Result, Ok, Err, append_assoc, append-nil, arith}
+use Rattle.std.proofs.lemmas.List.{take_all}
+use Rattle.environment.specs.Texts.{Text}
+use Rattle.environment.specs.Environment.{Environment}
+use Rattle.modulerecords.specs.Moves.{made}
+use Rattle.requests.specs.Laws.{SessionsReturn, StepsAreMade}
+use Rattle.requests.specs.Reasons.{RequestReason}
+use Rattle.requests.specs.RequestViews.{request_view}
+use Rattle.requests.specs.Requests.{Asked, Request}
+use Rattle.requests.specs.declared.asked.Request as code
+use Rattle.requests.specs.Returning.{AreNew, AreFitting}
+use Rattle.requests.specs.Sessions as sessions
+use Rattle.requests.specs.Sessions.{Response, Session, IsResponse, env_after, in_shell, session_moves}
+use Rattle.requests.specs.Steps.{Site, Step}
+use Rattle.reversal.specs.Ways.{Way}
+use Rattle.reversal.specs.Standing.{IsStart}
+use Rattle.lookup.specs.Agreement.{Files, Listings, Shows}
+use Rattle.modulesteps.specs.Answers.{Cause, Stands, memory, device, because, cause_of}
+use Rattle.modulesteps.specs.declared.refusal.Refusal.{Refusal}
+use Rattle.modulesteps.specs.Views.{done_view, move_view}
+use Rattle.modulesteps.specs.declared.done.Done.{Done}
+use Rattle.modules.specs.declared.sessions.Outcome.{Outcome}
+use Rattle.modules.specs.declared.sessions.Outcome.TheVariants.{Accepted, Refused}
+use Rattle.modules.specs.Responses.{accepted_in, by_cause, count_cause, count_failed, count_one, led_to, response_of, responses, Returns}
+
+-- what is left behind one response more
+pub left_push : (e : Environment) (os : List Response) (o : Response) → sessions.left_by e (os ++ o ∷ []) ≡ env_after (sessions.left_by e os) o
+left_push e [] o = refl
+left_push e (p ∷ os) o = left_push (env_after e p) os o
+
+pub responses_push : (e : Environment) (os : List Outcome) (o : Outcome)
+    → responses e (os ++ o ∷ []) ≡ responses e os ++ response_of (sessions.left_by e (responses e os)) o ∷ []
+responses_push e [] o = refl
+responses_push e (p ∷ os) o = ap (λ rs. response_of e p ∷ rs) (responses_push (env_after e (response_of e p)) os o)
+
+-- the moves of an accepted step lead to the environment that it leaves
+pub made_led : StepsAreMade → (s : Site) (e new : Environment) (asked : Asked) (done : Done) → Step s e asked (Ok (done_view done new)) → new ≡ led_to e done
+made_led law s e new asked done step = sym (ap (accepted_in e) (law s e asked (done_view done new) step))
+
+plus_assoc : (a b c : ℕ) → a + (b + c) ≡ (a + b) + c
+plus_assoc a b c = omega arith
+
+plus_none : (a : ℕ) → a ≡ 0 + a
+plus_none a = omega arith
+
+count_push : (os : List Outcome) (o : Outcome) → count_failed (os ++ o ∷ []) ≡ count_failed os + count_failed (o ∷ [])
+count_push [] o = plus_none (count_failed (o ∷ []))
+count_push (p ∷ os) o = ap (λ n. count_one p + n) (count_push os o) ∙ plus_assoc (count_one p) (count_failed os) (count_failed (o ∷ []))
+
+counts : (before mid after a b : ℕ) → before + a ≤ mid → mid + b ≤ after → before + (a + b) ≤ after
+counts before mid after a b h k = omega arith
+
+pub failures_push : (before mid after : ℕ) (os : List Outcome) (o : Outcome) → before + count_failed os ≤ mid → mid + count_failed (o ∷ []) ≤ after
+    → before + count_failed (os ++ o ∷ []) ≤ after
+failures_push before mid after os o h k =
+    let P : ℕ → Type 0 = λ n. before + n ≤ after in
+    subst P (sym (count_push os o)) (counts before mid after (count_failed os) (count_failed (o ∷ [])) h k)
+
+none_failed : (before after : ℕ) → before ≤ after → before + (0 + 0) ≤ after
+none_failed before after h = omega arith
+
+one_failed : (before after : ℕ) → before < after → before + (1 + 0) ≤ after
+one_failed before after h = omega arith
+
+-- ---- one response
+
+pub accepted_counts : (before after : ℕ) (done : Done) → before ≤ after → before + count_failed (Accepted done ∷ []) ≤ after
+accepted_counts before after done h = none_failed before after h
+
+cause_counts : (c : Cause) (before after : ℕ) (Is : RequestReason → Type 0) → before ≤ after → Stands c (before < after) Is → before + (count_cause c + 0) ≤ after
+cause_counts memory before after Is later h = none_failed before after later
+cause_counts device before after Is later h = one_failed before after h
+cause_counts (because r) before after Is later h = none_failed before after later
+
+pub refused_counts : (before after : ℕ) (refusal : Refusal) (Is : RequestReason → Type 0) → before ≤ after → Stands (cause_of refusal) (before < after) Is
+    → before + count_failed (Refused refusal ∷ []) ≤ after
+refused_counts before after refusal Is later h = cause_counts (cause_of refusal) before after Is later h
+
+pub responds : StepsAreMade → (s : Site) (e new : Environment) (asked : Asked) (done : Done) → Step s e asked (Ok (done_view done new)) → IsResponse s e asked (response_of e (Accepted done))
+responds law s e new asked done step =
+    let P : Environment → Type 0 = λ x. Step s e asked (Ok (done_view done x)) in
+    subst P (made_led law s e new asked done step) step
+
+cause_responds : (c : Cause) (agrees : Files → Listings → Type 0) (failed : Type 0) (site : Files → Listings → Site) (e : Environment) (asked : Asked)
+    → Stands c failed (λ r. Shows agrees (λ files listings. Step (site files listings) e asked (Err r)))
+    → Shows agrees (λ files listings. IsResponse (site files listings) e asked (by_cause c))
+cause_responds memory agrees failed site e asked h = λ files listings agreed. refl
+cause_responds device agrees failed site e asked h = λ files listings agreed. refl
+cause_responds (because r) agrees failed site e asked h = h
+
+pub refused_responds : (refusal : Refusal) (agrees : Files → Listings → Type 0) (failed : Type 0) (site : Files → Listings → Site) (e : Environment) (asked : Asked)
+    → Stands (cause_of refusal) failed (λ r. Shows agrees (λ files listings. Step (site files listings) e asked (Err r)))
+    → Shows agrees (λ files listings. IsResponse (site files listings) e asked (response_of e (Refused refusal)))
+refused_responds refusal agrees failed site e asked h = cause_responds (cause_of refusal) agrees failed site e asked h
+
+cause_leaves : (c : Cause) (e : Environment) → e ≡ env_after e (by_cause c)
+cause_leaves memory e = refl
+cause_leaves device e = refl
+cause_leaves (because r) e = refl
+
+pub refused_leaves : (refusal : Refusal) (e new : Environment) → new ≡ e → new ≡ env_after e (response_of e (Refused refusal))
+refused_leaves refusal e new same = same ∙ cause_leaves (cause_of refusal) e
+
+-- ---- sessions
+
+-- the law of sessions, of all the ways to cut one in two
+pub session_returning : SessionsReturn → (s : Site) (start : Environment) (rs : List Request) (os : List Response) → Session s start rs os → Returns start os
+session_returning law s start rs os session ways is_start are_new fitting before after cut =
+    let Runs : List Response → Type 0 = λ x. Session s start rs x in
+    let New : List Response → Type 0 = λ x. AreNew start (session_moves x) in
+    let Fits : List Response → Type 0 = λ x. AreFitting ways [] (session_moves x) in
+    law ways s start rs before after is_start (subst Runs cut session) (subst New cut are_new) (subst Fits cut fitting)
+
+-- a request more, behind what was answered so far
+pub session_grows : (start e new : Environment) (outcomes : List Outcome) (o : Outcome)
+    → e ≡ sessions.left_by start (responses start outcomes) → new ≡ env_after e (response_of e o)
+    → (new ≡ sessions.left_by start (responses start (outcomes ++ o ∷ []))) × (responses start (outcomes ++ o ∷ []) ≡ responses start outcomes ++ response_of e o ∷ [])
+session_grows start e new outcomes o left after =
+    let grown : responses start (outcomes ++ o ∷ []) ≡ responses start outcomes ++ response_of e o ∷ [] =
+    responses_push start outcomes o ∙ ap (λ x. responses start outcomes ++ response_of x o ∷ []) (sym left) in (
+      after ∙ (ap (λ x. env_after x (response_of e o)) left ∙ (sym (left_push start (responses start outcomes) (response_of e o)) ∙ ap (sessions.left_by start) (sym grown))),
+      grown,
+    )
+
+-- what the rest of a session has as responses, the whole has behind those so far
+pub session_taken : (s : Site) (start e new : Environment) (asked : Request) (rs all : List Request) (sofar : List Response) (grown : List Response) (o : Response)
+    → (os : List Response) → (Session s e (asked ∷ rs) (o ∷ os) → Session s start all (sofar ++ o ∷ os))
+    → IsResponse (in_shell s asked.0) e asked.1 o → new ≡ env_after e o → grown ≡ sofar ++ o ∷ []
+    → Session s new rs os → Session s start all (grown ++ os)
+session_taken s start e new asked rs all sofar grown o os run is_response left more rest =
+    let P : Environment → Type 0 = λ x. Session s x rs os in
+    let Q : List Response → Type 0 = λ x. Session s start all x in
+    subst Q (sym (append_assoc sofar (o ∷ []) os) ∙ ap (λ x. x ++ os) (sym more)) (run (is_response, subst P left rest))
+
+-- the first of the requests that are left
+pub split_first : {X Y : Type 0} (view : X → Y) (x : X) (rest : List X) → 1 ≤ length rest → x ≡ get_or rest 0 x → map view rest ≡ view x ∷ map view (take (length rest - 1) (drop 1 rest))
+split_first view x [] some is = absurd (omega arith)
+split_first view x (y ∷ ys) some is =
+    ap (λ z. view z ∷ map view ys) (sym is) ∙ ap (λ zs. view x ∷ map view zs) (sym (take_all (length (y ∷ ys) - 1) ys (omega arith)))
+
+no_more : (s : Site) (e : Environment) (rest : List code.Request) → length rest < 1 → Session s e (map request_view rest) []
+no_more s e [] none = tt
+no_more s e (r ∷ rs) none = absurd (omega arith)
+
+-- no request is left
+pub session_done : (s : Site) (start e : Environment) (rest : List code.Request) (all : List Request) (sofar : List Response) → length rest < 1
+    → ((os : List Response) → Session s e (map request_view rest) os → Session s start all (sofar ++ os)) → Session s start all sofar
+session_done s start e rest all sofar none run =
+    let P : List Response → Type 0 = λ x. Session s start all x in
+    subst P (append-nil sofar) (run [] (no_more s e rest none))

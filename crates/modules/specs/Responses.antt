@@ -1,0 +1,64 @@
+-- What the outcomes of a session say, as the definitions see them.
+use Rattle.std.specs.Prelude.{◌≡◌, ℕ, ◌+◌, List, [], ◌∷◌, ◌++◌, map, Result, Ok, Err}
+use Rattle.environment.specs.Texts.{Text}
+use Rattle.environment.specs.Environment.{Environment}
+use Rattle.modulerecords.specs.Moves.{Move, made}
+use Rattle.reversal.specs.Ways.{Way}
+use Rattle.reversal.specs.Standing.{IsStart}
+use Rattle.reversal.specs.Runs.{live_after}
+use Rattle.reversal.specs.Laws.{Holds}
+use Rattle.requests.specs.Sessions as sessions
+use Rattle.requests.specs.Sessions.{Response, accepted, refused, given_up, env_after, session_moves}
+use Rattle.requests.specs.Returning.{AreNew, AreFitting}
+use Rattle.modulesteps.specs.Answers.{Cause, memory, device, because, cause_of}
+use Rattle.modulesteps.specs.Views.{done_view, move_view}
+use Rattle.modulesteps.specs.declared.done.Done.{Done}
+use Rattle.modules.specs.declared.sessions.Outcome.{Outcome}
+use Rattle.modules.specs.declared.sessions.Outcome.TheVariants.{Accepted, Refused}
+
+-- the environment that the moves of a request lead to
+abbrev pub accepted_in : {R : Type 0} → Environment → Result Environment R → Environment
+accepted_in e (Ok new) = new
+accepted_in e (Err reason) = e
+
+abbrev pub led_to : Environment → Done → Environment
+led_to e done = accepted_in e (made (map move_view done.moves.items) e)
+
+-- a refusal as a response: given up where its cause is no reason of the step
+abbrev pub by_cause : Cause → Response
+by_cause memory = given_up 31
+by_cause device = given_up 43
+by_cause (because reason) = refused reason
+
+-- what an outcome says, in the environment in which it came
+abbrev pub response_of : Environment → Outcome → Response
+response_of e (Accepted done) = accepted (done_view done (led_to e done))
+response_of e (Refused refusal) = by_cause (cause_of refusal)
+
+-- what outcomes say, one after another
+abbrev pub responses : Environment → List Outcome → List Response
+responses e [] = []
+responses e (o ∷ os) = response_of e o ∷ responses (env_after e (response_of e o)) os
+
+-- how many were refused since the device failed
+abbrev pub count_cause : Cause → ℕ
+count_cause memory = 0
+count_cause device = 1
+count_cause (because reason) = 0
+
+abbrev pub count_one : Outcome → ℕ
+count_one (Accepted done) = 0
+count_one (Refused refusal) = count_cause (cause_of refusal)
+
+abbrev pub count_failed : List Outcome → ℕ
+count_failed [] = 0
+count_failed (o ∷ os) = count_one o + count_failed os
+
+-- Where the start is in order, and the moves are of new modules that are reversible and apart: after each beginning of the
+-- session the environment is in order and stands over the start with the modules that are live there. With none it is the
+-- start.
+abbrev pub Returns : Environment → List Response → Type 0
+Returns start os =
+    (ways : Text → Way) → IsStart ways start → AreNew start (session_moves os)
+    → AreFitting ways [] (session_moves os) → (before after : List Response) → os ≡ before ++ after
+    → Holds ways start (live_after [] (session_moves before)) (sessions.left_by start before)

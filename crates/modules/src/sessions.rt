@@ -1,0 +1,107 @@
+//! Requests one after another.
+ghost use Rattle.std.specs.Prelude.{◌≡◌, ◌<◌, ◌≤◌, ◌+◌, [], ◌∷◌, map, IfOk, OnErr};
+ghost use Rattle.lookup.specs.Agreement.{Narrows, Shows};
+ghost use Rattle.shells.specs.declared.shell.Shell.{Shell};
+ghost use Rattle.requests.specs.RequestViews.{asked_view, request_view};
+ghost use Rattle.requests.specs.Sessions.{Session, IsResponse, env_after, left_by};
+ghost use Rattle.requests.specs.Steps.{Step};
+ghost use Rattle.modulesteps.specs.Answers.{Tells};
+ghost use Rattle.modulesteps.specs.Views.{done_view};
+ghost use Rattle.modules.specs.Replies.{site_in};
+ghost use Rattle.modules.specs.Responses.{response_of, responses, count_failed, Returns};
+
+use crate::running::run_changes;
+use environment::{Env, Vars};
+use lookup::Tree;
+use modulesteps::{Done, Refusal};
+use requests::Request;
+use std::alloc::{AllocError, Global};
+use tclrules::Limits;
+
+/// What came of a request.
+#[derive(Debug, Drop)]
+pub enum Outcome {
+    /// It was accepted, and its changes were made.
+    Accepted(Done),
+    /// It was refused, and nothing was changed.
+    Refused(Refusal),
+}
+
+/// Runs a request and makes its changes: all of them, or none where it is refused.
+fn change<T: Tree>(
+    alloc: Global,
+    request: &Request,
+    env: &mut Env,
+    tree: &mut T,
+    limits: Limits,
+) -> Result<Done, Refusal>
+    ensures before { Narrows (T.agrees tree.old) (T.agrees tree.new) }
+    ensures later { T.failures tree.old ≤ T.failures tree.new }
+    ensures answer { Tells (T.agrees tree.new) (T.failures tree.old < T.failures tree.new)
+        (λ done. done_view done env.new) result
+        (λ files listings. Step (site_in limits request.now.shell files listings) env.old
+        (asked_view request.now.action)) }
+    ensures kept { OnErr result (env.new ≡ env.old) }
+{
+    let changed = run_changes(alloc, request, env, tree, limits)?;
+    env.apply(changed.changes)?;
+    Ok(changed.done)
+}
+
+/// What comes of a request, whose changes are made where it is accepted.
+fn respond<T: Tree>(
+    alloc: Global,
+    request: &Request,
+    env: &mut Env,
+    tree: &mut T,
+    limits: Limits,
+) -> Outcome
+    ensures before { Narrows (T.agrees tree.old) (T.agrees tree.new) }
+    ensures failures { T.failures tree.old + count_failed (result ∷ []) ≤ T.failures tree.new }
+    ensures answer { Shows (T.agrees tree.new) (λ files listings.
+        IsResponse (site_in limits request.now.shell files listings) env.old (asked_view request.now.action)
+        (response_of env.old result)) }
+    ensures left { Shows (T.agrees tree.new) (λ files listings. env.new ≡ env_after env.old (response_of env.old result)) }
+{
+    requests::outcomes();
+    match change(alloc, request, env, tree, limits) {
+        Ok(done) => Outcome::Accepted(done),
+        Err(refusal) => Outcome::Refused(refusal),
+    }
+}
+
+/// Runs requests one after another over an environment and a tree of modulefiles, and answers what they leave, with one
+/// outcome for each. A refused request leaves the environment, and the next is run.
+///
+/// For every pair of maps that agrees with the tree, the outcomes are those of a session. No more of them are refused by
+/// 43 than the device failed. Where the environment is in order, and only new modules that are reversible and apart are
+/// loaded, each environment on the way is in order and stands over it, and with none of them loaded it is the same again.
+///
+/// Errors: want of memory for the list of outcomes.
+pub fn session<T: Tree>(
+    alloc: Global,
+    requests: &[Request],
+    env: Env,
+    tree: &mut T,
+    limits: Limits,
+) -> Result<(Env, Vec<Outcome>), AllocError>
+    ensures before { Narrows (T.agrees tree.old) (T.agrees tree.new) }
+    ensures failures { IfOk result (λ p. T.failures tree.old + count_failed p.1.items ≤ T.failures tree.new) }
+    ensures ran { IfOk result (λ p. Shows (T.agrees tree.new) (λ files listings. (shell : Shell)
+        → Session (site_in limits shell files listings) env (map request_view requests.now) (responses env p.1.items))) }
+    ensures left { IfOk result (λ p. Shows (T.agrees tree.new) (λ files listings.
+        p.0 ≡ left_by env (responses env p.1.items))) }
+    ensures returns { IfOk result (λ p. Shows (T.agrees tree.new) (λ files listings.
+        Returns env (responses env p.1.items))) }
+{
+    requests::session_returns();
+    let mut after = env;
+    let mut outcomes = Vec::new(alloc);
+    let mut rest = requests;
+    while let [request, later @ ..] = rest {
+        let outcome = respond(alloc, request, &mut after, tree, limits);
+        outcomes.push(outcome)?;
+        rest = later;
+    }
+    Ok((after, outcomes))
+}
