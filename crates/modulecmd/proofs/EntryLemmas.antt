@@ -7,8 +7,8 @@ use Rattle.std.proofs.lemmas.Str.{IsUtf8-from_is_utf8, is_utf8-from_IsUtf8}
 use Rattle.std.specs.Prelude.{nat_lt, if◌then◌else◌, Result, Ok, Err, OnOk, ◌==◌}
 use Rattle.std.specs.List.{position_or_len, after_first}
 use Rattle.std.specs.Str.{IsUtf8, is_utf8}
-use Rattle.envstate.specs.Texts.{Text}
-use Rattle.envstate.specs.Environment.{Environment, with_value}
+use Rattle.environment.specs.Texts.{Text}
+use Rattle.environment.specs.Environment.{Environment, with_value}
 use Rattle.modulecmd.specs.Given.{is_equals, name_of, readable, with_entry, with_entries}
 
 pub unreadable : (value : Text) → (IsUtf8 value → ⊥) → readable value ≡ None

@@ -1,8 +1,9 @@
 -- What command lines ask for, written out by hand.
 use Rattle.std.proofs.Common.{◌≡◌, [], ◌∷◌, Ok, Err, codes, refl}
-use Rattle.shells.specs.declared.shell.Shell.TheVariants.{Sh, Zsh, Tcsh}
-use Rattle.modules.specs.Reasons.{bad_arguments, unknown_subcommand}
-use Rattle.modules.specs.Requests.{load, unload}
+use Rattle.shells.specs.declared.shell.Shell.TheVariants.{Sh, Bash, Zsh, Csh, Tcsh, Fish}
+use Rattle.std.specs.Prelude.{Some, None}
+use Rattle.requests.specs.Reasons.{bad_arguments, unknown_subcommand}
+use Rattle.requests.specs.Requests.{load, unload, switch, purge, avail}
 use Rattle.modulecmd.specs.Command.{command_of, unknown_shell, because}
 
 loads : command_of (codes "sh" ∷ codes "load" ∷ codes "foo/1.0" ∷ []) ≡ Ok (Sh, load (codes "foo/1.0" ∷ []))
@@ -10,6 +11,18 @@ loads = refl
 
 removes : command_of (codes "zsh" ∷ codes "rm" ∷ codes "foo" ∷ []) ≡ Ok (Zsh, unload (codes "foo" ∷ []))
 removes = refl
+
+switches : command_of (codes "fish" ∷ codes "swap" ∷ codes "gcc/9" ∷ codes "gcc/10" ∷ []) ≡ Ok (Fish, switch (Some (codes "gcc/9")) (codes "gcc/10"))
+switches = refl
+
+purges : command_of (codes "csh" ∷ codes "purge" ∷ []) ≡ Ok (Csh, purge)
+purges = refl
+
+no_name_for_purge : command_of (codes "csh" ∷ codes "purge" ∷ codes "x" ∷ []) ≡ Err (because bad_arguments)
+no_name_for_purge = refl
+
+lists_all : command_of (codes "bash" ∷ codes "avail" ∷ []) ≡ Ok (Bash, avail [])
+lists_all = refl
 
 no_words : command_of [] ≡ Err (because bad_arguments)
 no_words = refl

@@ -1,15 +1,18 @@
 -- What is left where an answer is written.
-use Rattle.std.proofs.Common.{◌⊎◌, Option, Result, Ok, Err, subst, inl, inr}
+use Rattle.std.proofs.Common.{◌≡◌, ◌⊎◌, ◌++◌, List, [], ◌∷◌, map, string_bytes, Option, Result, Ok, Err, subst, sym, ap, refl, inl, inr}
+use Rattle.std.specs.List.{flat_map}
 use Rattle.std.specs.Io.KnownBytes.{Keeps, Appends}
 use Rattle.lookup.specs.Agreement.{Files, Listings, Shows}
-use Rattle.envstate.specs.Texts.{Text}
-use Rattle.envstate.specs.Environment.{Environment}
+use Rattle.environment.specs.Texts.{Text}
+use Rattle.environment.specs.Environment.{Environment}
 use Rattle.modulecmd.specs.declared.ends.Exit.{Exit}
 use Rattle.modulecmd.specs.declared.ends.Exit.TheVariants.{Success, Told, CutShort}
 use Rattle.modulecmd.specs.declared.refuse.CommandFault.{CommandFault}
 use Rattle.modulecmd.specs.declared.refuse.CommandFault.TheVariants.{WriteFailed}
-use Rattle.modulecmd.specs.Command.{Effect, CommandReason}
-use Rattle.modulecmd.specs.Output.{Accepts, BreaksOff, Breaks, Ends, Finishes, IsAnswer, IsRefused, Refuses, Tells}
+use Rattle.modulecmd.specs.declared.command.Answer.{Answer}
+use Rattle.modulecmd.specs.Command.{Effect}
+use Rattle.modulecmd.specs.Output.{BreaksOff, Ends, Finishes, IsAnswer, Outcomes, Tells, said}
+use Rattle.modulecmd.specs.Words.{effect_in, words_of}
 use Rattle.modulecmd.specs.Writing.{AppendsPart}
 
 -- what is left where an answer's write failed
@@ -27,36 +30,17 @@ finishes Success words text out out' err err' h = absurd (no_success words text 
 finishes Told words text out out' err err' h = h
 finishes CutShort words text out out' err err' h = h
 
-accepts : (e : Environment) (r : Result Effect CommandReason) (words text : Text) (out out' err err' : Option Text)
-    → IsAnswer e r words text → Finishes Success words text out out' err err' → Accepts e r out out' err err'
-accepts e (Err o) words text out out' err err' a h = absurd a
-accepts e (Ok f) words text out out' err err' a h =
-    let P : Text → Type 0 = λ w. Appends err err' w in
-    ((text, a.1, h.0), subst P a.0 h.1)
+pub flat_map_map : {X Y Z : Type 0} (f : Y → List Z) (g : X → Y) (xs : List X) → flat_map (λ x. f (g x)) xs ≡ flat_map f (map g xs)
+flat_map_map f g [] = refl
+flat_map_map f g (x ∷ xs) = ap (λ zs. f (g x) ++ zs) (flat_map_map f g xs)
 
-breaks : (exit : Exit) (e : Environment) (r : Result Effect CommandReason) (words text : Text) (out out' err err' : Option Text)
-    → IsAnswer e r words text → Half exit words text out out' err err' → Breaks exit e r out out' err err'
-breaks exit e (Err o) words text out out' err err' a h = absurd a
-breaks exit e (Ok f) words text out out' err err' a (inl h) =
-    let P : Text → Type 0 = λ w. BreaksOff exit err err' w in
-    inl (h.0, subst P a.0 h.1)
-breaks exit e (Ok f) words text out out' err err' a (inr h) =
-    let P : Text → Type 0 = λ w. Tells exit err err' w WriteFailed in
-    inr ((text, a.1, h.0), subst P a.0 h.1)
+-- what the program writes is what is to be said
+pub words_said : (e : Environment) (a : Answer) → words_of a ≡ said (effect_in e a).1
+words_said e a = ap (λ zs. zs ++ string_bytes a.changed.done.report) (flat_map_map (λ message. message) string_bytes a.changed.done.messages.items)
 
 -- the end of a command whose answer was written
-pub answered : (exit : Exit) (agrees : Files → Listings → Type 0) (failed : Type 0) (e : Environment) (does : Files → Result Effect CommandReason) (words text : Text) (out out' err err' : Option Text)
-    → Shows agrees (λ files listings. IsAnswer e (does files) words text) → Finishes exit words text out out' err err' → Ends exit agrees failed e does out out' err err'
-answered Success agrees failed e does words text out out' err err' a h =
-    λ files listings agree. accepts e (does files) words text out out' err err' (a files listings agree) h
-answered Told agrees failed e does words text out out' err err' a h =
-    inl (λ files listings agree. breaks Told e (does files) words text out out' err err' (a files listings agree) h)
-answered CutShort agrees failed e does words text out out' err err' a h =
-    inl (λ files listings agree. breaks CutShort e (does files) words text out out' err err' (a files listings agree) h)
-
--- the end of a command that is refused
-pub refused : (exit : Exit) (agrees : Files → Listings → Type 0) (failed : Type 0) (e : Environment) (does : Files → Result Effect CommandReason) (fault : CommandFault) (out out' err err' : Option Text)
-    → IsRefused agrees failed e does fault → Refuses exit fault out out' err err' → Ends exit agrees failed e does out out' err err'
-refused Success agrees failed e does fault out out' err err' reason h = absurd h.1
-refused Told agrees failed e does fault out out' err err' reason h = inr (fault, reason, h)
-refused CutShort agrees failed e does fault out out' err err' reason h = inr (fault, reason, h)
+pub answered : (exit : Exit) (agrees : Files → Listings → Type 0) (failed : Type 0) (e : Environment) (Does : Outcomes) (a : Answer) (out out' err err' : Option Text)
+    → IsAnswer agrees e Does (effect_in e a) (string_bytes a.text) → Finishes exit (words_of a) (string_bytes a.text) out out' err err' → Ends exit agrees failed e Does out out' err err'
+answered exit agrees failed e Does a out out' err err' is h =
+    let P : Text → Type 0 = λ words. Finishes exit words (string_bytes a.text) out out' err err' in
+    inl (effect_in e a, (string_bytes a.text, (is, subst P (words_said e a) h)))

@@ -3,8 +3,8 @@ use Rattle.std.specs.Prelude.{ℕ, Bool, List, [], ◌∷◌, ◌&&◌, ◌==◌
 use Rattle.std.specs.List.{position_or_len, before_first, after_first, slice_split}
 use Rattle.std.specs.Str.{is_utf8}
 use Rattle.std.specs.FinMap as finite
-use Rattle.envstate.specs.Texts.{Text}
-use Rattle.envstate.specs.Environment.{Environment, with_value}
+use Rattle.environment.specs.Texts.{Text}
+use Rattle.environment.specs.Environment.{Environment, with_value}
 
 abbrev pub is_equals : ℕ → Bool
 is_equals b = b == 61

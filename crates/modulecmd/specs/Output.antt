@@ -1,36 +1,53 @@
 -- What a command leaves in its two writers.
-use Rattle.std.specs.Prelude.{◌≡◌, ◌⊎◌, ◌<◌, ℕ, [], ◌++◌, take, length, Option, Result, Ok, Err}
+use Rattle.std.specs.Prelude.{◌⊎◌, ◌<◌, ℕ, List, [], ◌++◌, take, length, Option, Result, Ok, Err}
+use Rattle.std.specs.List.{flat_map}
 use Rattle.std.specs.Io.KnownBytes.{Keeps, Appends}
-use Rattle.envstate.specs.Texts.{Text}
-use Rattle.envstate.specs.Environment.{Environment}
-use Rattle.modules.specs.Steps.{Done}
+use Rattle.environment.specs.Texts.{Text}
+use Rattle.environment.specs.Environment.{Environment}
+use Rattle.modulerecords.specs.Moves.{Module}
+use Rattle.reversal.specs.Ways.{Way}
+use Rattle.reversal.specs.Standing.{IsInOrder, IsStart, Stands}
+use Rattle.reversal.specs.Runs.{live_after, AreFit}
+use Rattle.reversal.specs.Laws.{Holds}
+use Rattle.requests.specs.Steps.{Done}
+use Rattle.requests.specs.Returning.{AreNew, AreFitting}
+use Rattle.lookup.specs.Agreement.{Files, Listings, Shows}
+use Rattle.shelltext.specs.Reading.{MakesOf, SaysDifference}
 use Rattle.modulecmd.specs.declared.refuse.CommandFault.{CommandFault}
 use Rattle.modulecmd.specs.declared.refuse.CommandFault.TheVariants.{WriteFailed}
-use Rattle.shelltext.specs.Reading.{SaysDifference}
-use Rattle.lookup.specs.Agreement.{Files, Listings, Shows}
 use Rattle.modulecmd.specs.Writing.{AppendsPart}
-use Rattle.modulecmd.specs.Command.{Effect, CommandReason, HasReason, IsUnsaid}
+use Rattle.modulecmd.specs.Command.{Effect, CommandReason, HasReason, LacksText}
 use Rattle.modulecmd.specs.declared.ends.Exit.{Exit}
 use Rattle.modulecmd.specs.declared.ends.Exit.TheVariants.{Success, Told, CutShort}
 use Rattle.modulecmd.specs.Lines.{line_of}
 
+-- what a command may come to, over the files and folders of a tree
+abbrev pub Outcomes : Type 1
+Outcomes = Files → Listings → Result Effect CommandReason → Type 0
+
+-- it comes to this in each pair of maps that agrees with the tree
+abbrev pub ComesTo : (Files → Listings → Type 0) → Outcomes → Result Effect CommandReason → Type 0
+ComesTo agrees Does o = Shows agrees (λ files listings. Does files listings o)
+
 -- what goes to standard error: the messages, and then the report
 abbrev pub said : Done → Text
-said done = done.messages ++ done.report
+said done = flat_map (λ message. message) done.messages ++ done.report
 
--- what an accepted command is to write: this to standard error, and to standard output a text that says the difference
--- between the environment and what the command makes of it
-abbrev pub IsAnswer : Environment → Result Effect CommandReason → Text → Text → Type 0
-IsAnswer e (Err reason) words text = ⊥
-IsAnswer e (Ok f) words text = (words ≡ said f.1) × SaysDifference f.0 text e f.1.env
+-- Where the environment is in order and stands over a start in order with live modules that fit, and the command unloads no
+-- module of that start and moves what fits: what a shell makes of the environment that runs the text is in order and
+-- stands over the start with the modules that are live then, which fit. With none it is the start.
+abbrev pub LeadsBack : Environment → Effect → Text → Type 0
+LeadsBack e f text =
+    (ways : Text → Way) (start new : Environment) (live : List Module)
+    → IsStart ways start → IsInOrder ways e → Stands ways start live e → AreFit ways live
+    → AreNew start f.1.moves → AreFitting ways live f.1.moves → MakesOf f.0 text e new
+    → Holds ways start (live_after live f.1.moves) new × AreFit ways (live_after live f.1.moves)
 
--- What an accepted command leaves: messages and report on standard error, and on standard output a text that says the
--- difference between the environment and what the command makes of it.
-abbrev pub Accepts : Environment → Result Effect CommandReason → Option Text → Option Text → Option Text → Option Text
-    → Type 0
-Accepts e (Err reason) out out' err err' = ⊥
-Accepts e (Ok f) out out' err err' =
-    ((text : Text) × SaysDifference f.0 text e f.1.env × Appends out out' text) × Appends err err' (said f.1)
+-- What an accepted command answers: it comes to the effect, the text says exactly the difference that the effect makes of
+-- the environment, and it leads back.
+abbrev pub IsAnswer : (Files → Listings → Type 0) → Environment → Outcomes → Effect → Text → Type 0
+IsAnswer agrees e Does f text =
+    ComesTo agrees Does (Ok f) × SaysDifference f.0 text e f.1.env × Shows agrees (λ files listings. LeadsBack e f text)
 
 -- What is left where a fault is told behind a text: the whole line, or else a beginning that is not the whole of it.
 abbrev pub Tells : Exit → Option Text → Option Text → Text → CommandFault → Type 0
@@ -43,50 +60,41 @@ Tells CutShort err err' text fault =
 abbrev pub BreaksOff : Exit → Option Text → Option Text → Text → Type 0
 BreaksOff exit err err' words = (k : ℕ) × (k < length words) × Tells exit err err' (take k words) WriteFailed
 
--- What the writing of an answer leaves: all of it; or where a write failed, on standard error before all the words were
--- there, and then nothing is on standard output; or there, and then a beginning of the text is.
+-- What the writing of an answer leaves: the words on standard error, and the text on standard output; or where a write
+-- failed, on standard error before all the words were there, and then nothing is on standard output; or there, and then
+-- a beginning of the text is.
 abbrev pub Finishes : Exit → Text → Text → Option Text → Option Text → Option Text → Option Text → Type 0
 Finishes Success words text out out' err err' = Appends out out' text × Appends err err' words
 Finishes exit words text out out' err err' =
     (Keeps out out' × BreaksOff exit err err' words)
     ⊎ (AppendsPart out out' text × Tells exit err err' words WriteFailed)
 
--- What a command leaves whose write failed, after it was accepted.
-abbrev pub Breaks : Exit → Environment → Result Effect CommandReason → Option Text → Option Text → Option Text
+-- What an accepted command leaves: its messages and its report, and its text; or as much as a failed write left of them.
+abbrev pub Accepts : Exit → (Files → Listings → Type 0) → Environment → Outcomes → Option Text → Option Text → Option Text
     → Option Text → Type 0
-Breaks exit e (Err reason) out out' err err' = ⊥
-Breaks exit e (Ok f) out out' err err' =
-    (Keeps out out' × BreaksOff exit err err' (said f.1))
-    ⊎ (((text : Text) × SaysDifference f.0 text e f.1.env × AppendsPart out out' text)
-    × Tells exit err err' (said f.1) WriteFailed)
+Accepts exit agrees e Does out out' err err' =
+    (f : Effect) × (text : Text) × IsAnswer agrees e Does f text × Finishes exit (said f.1) text out out' err err'
 
 -- What a refused command leaves: nothing on standard output, and the line that tells why on standard error.
 abbrev pub Refuses : Exit → CommandFault → Option Text → Option Text → Option Text → Option Text → Type 0
 Refuses exit fault out out' err err' = Keeps out out' × Tells exit err err' [] fault
 
+-- It comes to an effect whose changes have no text in the shell.
+abbrev pub IsUnsaid : (Files → Listings → Type 0) → Environment → Outcomes → Text → Type 0
+IsUnsaid agrees e Does name = (f : Effect) × ComesTo agrees Does (Ok f) × LacksText f.0 e f.1.env name
+
 -- A fault refuses a command over a tree: memory is wanting, the device has failed, and any other is the command's own
 -- in each pair of maps that agrees with the tree.
-abbrev pub IsRefused : (Files → Listings → Type 0) → Type 0 → Environment → (Files → Result Effect CommandReason)
-    → CommandFault → Type 0
-IsRefused agrees failed e does fault =
-    HasReason fault
-    (λ reason. Shows agrees (λ files listings. does files ≡ Err reason))
-    (λ name. Shows agrees (λ files listings. IsUnsaid e (does files) name))
-    failed
+abbrev pub IsRefused : (Files → Listings → Type 0) → Type 0 → Environment → Outcomes → CommandFault → Type 0
+IsRefused agrees failed e Does fault =
+    HasReason fault (λ reason. ComesTo agrees Does (Err reason)) (IsUnsaid agrees e Does) failed
 
--- What a command leaves that was not done: a write failed after it was accepted, or it is refused.
-abbrev pub NotDone : Exit → (Files → Listings → Type 0) → Type 0 → Environment → (Files → Result Effect CommandReason)
-    → Option Text → Option Text → Option Text → Option Text → Type 0
-NotDone exit agrees failed e does out out' err err' =
-    (Shows agrees (λ files listings. Breaks exit e (does files) out out' err err'))
-    ⊎ ((fault : CommandFault) × IsRefused agrees failed e does fault × Refuses exit fault out out' err err')
-
--- What a command leaves by how it ends, in each pair of maps that agrees with the tree.
-abbrev pub Ends : Exit → (Files → Listings → Type 0) → Type 0 → Environment → (Files → Result Effect CommandReason)
-    → Option Text → Option Text → Option Text → Option Text → Type 0
-Ends Success agrees failed e does out out' err err' =
-    Shows agrees (λ files listings. Accepts e (does files) out out' err err')
-Ends exit agrees failed e does out out' err err' = NotDone exit agrees failed e does out out' err err'
+-- What a command leaves by how it ends: it is accepted, or refused by a fault.
+abbrev pub Ends : Exit → (Files → Listings → Type 0) → Type 0 → Environment → Outcomes → Option Text → Option Text
+    → Option Text → Option Text → Type 0
+Ends exit agrees failed e Does out out' err err' =
+    Accepts exit agrees e Does out out' err err'
+    ⊎ ((fault : CommandFault) × IsRefused agrees failed e Does fault × Refuses exit fault out out' err err')
 
 -- the status of the process
 abbrev pub status_of : Exit → ℕ

@@ -1,8 +1,17 @@
--- What an answer says on standard error.
+-- What an answer stands for.
 use Rattle.std.specs.Prelude.{◌++◌, string_bytes}
-use Rattle.envstate.specs.Texts.{Text}
+use Rattle.std.specs.List.{flat_map}
+use Rattle.environment.specs.Environment.{Environment}
+use Rattle.environment.specs.Texts.{Text}
+use Rattle.modules.specs.Replies.{changed_view}
 use Rattle.modulecmd.specs.declared.command.Answer.{Answer}
+use Rattle.modulecmd.specs.Command.{Effect}
 
--- the messages of modulefiles, and then the report
+-- what was done in the environment
+abbrev pub effect_in : Environment → Answer → Effect
+effect_in e answer = (answer.shell, changed_view e answer.changed)
+
+-- what it says on standard error: the messages of modulefiles, and then the report
 abbrev pub words_of : Answer → Text
-words_of answer = string_bytes answer.messages ++ string_bytes answer.report
+words_of answer =
+    flat_map (λ message. string_bytes message) answer.changed.done.messages.items ++ string_bytes answer.changed.done.report

@@ -1,7 +1,7 @@
 -- What a writer holds after something was written to it.
 use Rattle.std.specs.Prelude.{ℕ, ◌<◌, take, length, Option}
 use Rattle.std.specs.Io.KnownBytes.{Appends}
-use Rattle.envstate.specs.Texts.{Text}
+use Rattle.environment.specs.Texts.{Text}
 
 -- known bytes grow by a beginning of the text that is not the whole of it
 abbrev pub AppendsPart : Option Text → Option Text → Text → Type 0

@@ -1,12 +1,12 @@
 //! The environment that a block of entries says.
 ghost use Rattle.std.specs.Prelude.{◌≡◌, map, length, Some, None, IfOk, IfErr, OnOk, OnErr, nat_lt, if◌then◌else◌};
 ghost use Rattle.std.specs.List.{position_or_len};
-ghost use Rattle.envstate.specs.Environment.{with_value};
+ghost use Rattle.environment.specs.Environment.{with_value};
 ghost use Rattle.environment.specs.declared.fault.EnvFault.TheVariants.{OutOfMemory};
 ghost use Rattle.modulecmd.specs.Given as given;
 ghost use Rattle.modulecmd.specs.Given.{with_entry, entries_of, is_equals, readable};
 
-use envstate::{Env, EnvFault};
+use environment::{Env, EnvFault};
 use std::alloc::{AllocError, Global};
 use std::str;
 

@@ -1,22 +1,22 @@
 //! One command: the words in, the text and the messages out.
-ghost use Rattle.std.specs.Prelude.{◌≡◌, ◌<◌, ◌≤◌, ◌⊎◌, [], map, Ok, Err, IfOk, IfErr, OnOk, OnErr, string_bytes};
+ghost use Rattle.std.specs.Prelude.{◌≡◌, ◌<◌, ◌≤◌, ◌⊎◌, ◌++◌, [], map, Ok, Err, IfOk, IfErr, OnOk, OnErr, string_bytes};
 ghost use Rattle.std.specs.Io.KnownBytes.{Keeps, Appends};
-ghost use Rattle.lookup.specs.Agreement.{Shows, Narrows};
-ghost use Rattle.shelltext.specs.Reading.{SaysDifference};
-ghost use Rattle.modules.specs.Requests.{asked};
+ghost use Rattle.lookup.specs.Agreement.{Narrows};
+ghost use Rattle.requests.specs.RequestViews.{request_view};
+ghost use Rattle.modulesteps.specs.Views.{done_view};
 ghost use Rattle.modulecmd.specs.declared.ends.Exit.{Exit};
 ghost use Rattle.modulecmd.specs.Command as spec;
-ghost use Rattle.modulecmd.specs.Command.{effect, HasReason, LacksText};
-ghost use Rattle.modulecmd.specs.Output.{Ends, Finishes, IsAnswer, IsRefused, Tells, status_of};
-ghost use Rattle.modulecmd.specs.Words.{words_of};
+ghost use Rattle.modulecmd.specs.Command.{Does, HasReason};
+ghost use Rattle.modulecmd.specs.Output.{Ends, Finishes, IsAnswer, IsRefused, Tells, said, status_of};
+ghost use Rattle.modulecmd.specs.Words.{effect_in, words_of};
 ghost use Rattle.modulecmd.specs.Writing.{AppendsPart};
 
 use crate::ends::Exit;
 use crate::refuse::{CommandFault, write_refusal};
-use crate::writers::{WriteFault, write_bytes, write_parts};
-use envstate::{Env, changes};
+use crate::writers::{WriteFault, write_bytes, write_texts};
+use environment::Env;
 use lookup::Tree;
-use modules::{Limits, Refusal, Request, request, run};
+use modules::{Changed, Limits, Refusal, Request, RequestFault, request, run_changes};
 use shells::Shell;
 use shelltext::print_changes;
 use std::alloc::Global;
@@ -29,22 +29,22 @@ const STANDARD: Limits = Limits {
     value_bytes: 1_048_576,
 };
 
-/// What an accepted command writes.
+/// What an accepted command has done, and the text that says its changes.
 #[derive(Drop)]
 struct Answer {
-    messages: String,
-    report: String,
+    shell: Shell,
+    changed: Changed,
     text: String,
 }
 
 /// The request that the arguments make: the name of a shell, and then the words of the request.
 fn command_of(alloc: Global, args: &[String]) -> Result<Request, CommandFault>
-    ensures made { IfOk result (λ r. spec.command_of (map string_bytes args.now) ≡ Ok (r.shell, asked r.action)) }
+    ensures made { IfOk result (λ r. spec.command_of (map string_bytes args.now) ≡ Ok (request_view r)) }
     ensures refused { IfErr result (λ fault.
         HasReason fault (λ o. spec.command_of (map string_bytes args.now) ≡ Err o) (λ name. ⊥) ⊥) }
 {
     let [word, words @ ..] = args else {
-        return Err(CommandFault::Refused(Refusal::BadArguments));
+        return Err(CommandFault::from(RequestFault::BadArguments));
     };
     match Shell::named(word.as_str()) {
         None => Err(CommandFault::UnknownShell(word.clone()?)),
@@ -52,16 +52,7 @@ fn command_of(alloc: Global, args: &[String]) -> Result<Request, CommandFault>
     }
 }
 
-/// The text that says the difference between the old environment and the new one.
-fn text_for(alloc: Global, shell: Shell, old: &Env, new: &Env) -> Result<String, CommandFault>
-    ensures text { IfOk result (λ text. SaysDifference shell (string_bytes text) old.now new.now) }
-    ensures refused { IfErr result (λ fault. HasReason fault (λ o. ⊥) (LacksText shell old.now new.now) ⊥) }
-{
-    let changes = changes(alloc, old, new)?;
-    Ok(print_changes(alloc, shell, changes.as_slice())?)
-}
-
-/// What the command with these arguments writes, before anything is written.
+/// What the command with these arguments has done and is to write, before anything is written.
 fn answer_of<T: Tree>(
     alloc: Global,
     args: &[String],
@@ -70,17 +61,21 @@ fn answer_of<T: Tree>(
 ) -> Result<Answer, CommandFault>
     ensures before { Narrows (T.agrees tree.old) (T.agrees tree.new) }
     ensures later { T.failures tree.old ≤ T.failures tree.new }
-    ensures answered { IfOk result (λ a. Shows (T.agrees tree.new) (λ files listings.
-        IsAnswer env.now (effect (map string_bytes args.now) env.now files) (words_of a) (string_bytes a.text))) }
+    ensures answered { IfOk result (λ a.
+        IsAnswer (T.agrees tree.new) env.now (Does (map string_bytes args.now) env.now) (effect_in env.now a)
+        (string_bytes a.text)) }
     ensures refused { IfErr result (IsRefused (T.agrees tree.new) (T.failures tree.old < T.failures tree.new)
-        env.now (effect (map string_bytes args.now) env.now)) }
+        env.now (Does (map string_bytes args.now) env.now)) }
 {
+    requests::command_returns();
+    shelltext::laws::one_effect();
+    shelltext::laws::difference_makes();
     let request = command_of(alloc, args)?;
-    let reply = run(alloc, &request, env, tree, STANDARD)?;
-    let text = text_for(alloc, request.shell, env, &reply.env)?;
+    let changed = run_changes(alloc, &request, env, tree, STANDARD)?;
+    let text = print_changes(alloc, request.shell, changed.changes.as_slice())?;
     Ok(Answer {
-        messages: reply.messages,
-        report: reply.report,
+        shell: request.shell,
+        changed,
         text,
     })
 }
@@ -99,7 +94,8 @@ fn write_answer<W: Write, E: Write>(
         ⊎ (AppendsPart (W.contents out.old) (W.contents out.new) (string_bytes answer.now.text)
         × Appends (E.contents err.old) (E.contents err.new) (words_of answer.now))) }
 {
-    write_parts(err, &[answer.messages.as_str(), answer.report.as_str()])?;
+    write_texts(err, answer.changed.done.messages.as_slice())?;
+    write_bytes(err, answer.changed.done.report.as_str().as_bytes())?;
     write_bytes(out, answer.text.as_str().as_bytes())
 }
 
@@ -129,13 +125,15 @@ fn finish<W: Write, E: Write>(answer: &Answer, out: &mut W, err: &mut E) -> Exit
 /// The arguments are the name of a shell and the words of a request. An accepted command writes the messages of
 /// modulefiles and its report to standard error, and then the text for the shell to standard output. That text says, as
 /// the shell reads it, each variable that the request's step changes, once, in the order of bytes, and nothing else: it
-/// makes of the environment what the step makes of it.
+/// makes of the environment what the step makes of it. Where the environment is in order and stands over a start in
+/// order, and the modules that are loaded beyond that start are reversible and apart, so it is afterwards: with none of
+/// them loaded it is the start.
 ///
 /// A refused command writes nothing but the line that tells why, to standard error. It is refused as the arguments or
-/// the step are, or by 1, 31, 41 or 61 for want of memory, by 43 where the device failed in this call, or by 62 where
-/// the changes have no text in the shell. Where a write fails, 64, on standard error a beginning of the messages and
-/// the report is there, not all, and nothing has gone to standard output; or on standard output a beginning of the text
-/// is there, not all. Then the line that tells of it follows on standard error.
+/// the step are, or for want of memory, by 43 where the device failed in this call, or by 62 where the changes have no
+/// text in the shell. Where a write fails, 64, on standard error a beginning of the messages and the report is there,
+/// not all, and nothing has gone to standard output; or on standard output a beginning of the text is there, not all.
+/// Then the line that tells of it follows on standard error.
 pub fn run_command<T: Tree, W: Write, E: Write>(
     alloc: Global,
     args: &[String],
@@ -147,7 +145,7 @@ pub fn run_command<T: Tree, W: Write, E: Write>(
     ensures before { Narrows (T.agrees tree.old) (T.agrees tree.new) }
     ensures later { T.failures tree.old ≤ T.failures tree.new }
     ensures ended { Ends result (T.agrees tree.new) (T.failures tree.old < T.failures tree.new)
-        env (effect (map string_bytes args.now) env)
+        env (Does (map string_bytes args.now) env)
         (W.contents out.old) (W.contents out.new) (E.contents err.old) (E.contents err.new) }
 {
     match answer_of(alloc, args, &env, tree) {
@@ -169,7 +167,7 @@ pub fn modulecmd<T: Tree, W: Write, E: Write>(
     ensures later { T.failures tree.old ≤ T.failures tree.new }
     ensures ended { (exit : Exit) × (result ≡ status_of exit)
         × Ends exit (T.agrees tree.new) (T.failures tree.old < T.failures tree.new)
-        env (effect (map string_bytes args.now) env)
+        env (Does (map string_bytes args.now) env)
         (W.contents out.old) (W.contents out.new) (E.contents err.old) (E.contents err.new) }
 {
     run_command(alloc, args, env, tree, out, err).status()

@@ -11,9 +11,12 @@ mod writers;
 pub use block::environment_of;
 pub use command::{modulecmd, run_command};
 pub use ends::Exit;
-pub use envstate::{Change, Env, EnvFault, changes};
+pub use environment::{Change, Env, EnvFault};
 pub use lookup::{DiskTree, MemoryTree, Tree, TreeFault};
-pub use modules::{Action, Limits, Refusal, Reply, Request, request, run};
+pub use modules::{
+    Action, Changed, Done, Limits, Module, Move, Refusal, Request, RequestFault, request,
+    run_changes,
+};
 pub use refuse::{CommandFault, write_refusal};
 pub use shells::Shell;
 pub use shelltext::{PrintFault, print_changes};

@@ -1,5 +1,5 @@
 //! Writing until a write fails.
-ghost use Rattle.std.specs.Prelude.{OnOk, OnErr};
+ghost use Rattle.std.specs.Prelude.{OnOk, OnErr, string_bytes};
 ghost use Rattle.std.specs.List.{flat_map};
 ghost use Rattle.std.specs.Io.KnownBytes.{Appends};
 ghost use Rattle.modulecmd.specs.Writing.{AppendsPart};
@@ -37,6 +37,19 @@ pub fn write_parts<W: Write>(to: &mut W, parts: &[&str]) -> Result<(), WriteFaul
 {
     for part in parts {
         write_bytes(to, part.as_bytes())?;
+    }
+    Ok(())
+}
+
+/// Writes the texts one after another, as `write_parts` does.
+pub fn write_texts<W: Write>(to: &mut W, texts: &[String]) -> Result<(), WriteFault>
+    ensures whole { OnOk result (Appends (W.contents to.old) (W.contents to.new)
+        (flat_map (λ text. string_bytes text) texts.now)) }
+    ensures cut { OnErr result (AppendsPart (W.contents to.old) (W.contents to.new)
+        (flat_map (λ text. string_bytes text) texts.now)) }
+{
+    for text in texts {
+        write_bytes(to, text.as_str().as_bytes())?;
     }
     Ok(())
 }

@@ -1,0 +1,57 @@
+-- What a command comes to, from its request and the step of that.
+use Rattle.std.proofs.Common.{◌≡◌, List, Result, Ok, Err, subst, sym, refl}
+use Rattle.environment.specs.Texts.{Text}
+use Rattle.environment.specs.Environment.{Environment}
+use Rattle.lookup.specs.Agreement.{Files, Listings}
+use Rattle.shelltext.specs.Reading.{OneEffect, DifferenceMakes, SaysDifference}
+use Rattle.shelltext.specs.declared.print.PrintFault.TheVariants as prints
+use Rattle.reversal.specs.Laws.{Holds}
+use Rattle.reversal.specs.Runs.{live_after, AreFit}
+use Rattle.requests.specs.Laws.{CommandsReturn}
+use Rattle.requests.specs.Reasons.{RequestReason}
+use Rattle.requests.specs.Requests.{Asked, Request}
+use Rattle.requests.specs.Steps.{Site, Done, Step}
+use Rattle.modulesteps.specs.Answers.{Cause, memory, device, because, cause_of, Stands}
+use Rattle.modules.specs.Replies.{site_in}
+use Rattle.modulecmd.specs.declared.refuse.CommandFault.{CommandFault}
+use Rattle.modulecmd.specs.declared.refuse.CommandFault.TheVariants.{Refused, Unprinted, UnknownShell, WriteFailed}
+use Rattle.modulecmd.specs.Command as command
+use Rattle.modulecmd.specs.Command.{CommandReason, Effect, Does, HasReason, command_of, standard, with_shell}
+use Rattle.modulecmd.specs.Output.{LeadsBack}
+
+pub does : (arguments : List Text) (e : Environment) (files : Files) (listings : Listings) (r : Request) (o : Result Done RequestReason)
+    → command_of arguments ≡ Ok r → Step (site_in standard r.0 files listings) e r.1 o → Does arguments e files listings (with_shell r.0 o)
+does arguments e files listings r o made step = (Ok r, (sym made, (o, (step, refl))))
+
+pub makes_none : (arguments : List Text) (e : Environment) (files : Files) (listings : Listings) (reason : CommandReason)
+    → command_of arguments ≡ Err reason → Does arguments e files listings (Err reason)
+makes_none arguments e files listings reason made = (Err reason, (sym made, refl))
+
+stands_so : (c : Cause) (Is Is' : RequestReason → Type 0) (failed failed' : Type 0) → ((r : RequestReason) → Is r → Is' r) → (failed → failed') → Stands c failed Is → Stands c failed' Is'
+stands_so memory Is Is' failed failed' more fails h = tt
+stands_so device Is Is' failed failed' more fails h = fails h
+stands_so (because r) Is Is' failed failed' more fails h = more r h
+
+-- what is behind a fault, where each reason gives another
+pub has_reason : (fault : CommandFault) (Is Is' : CommandReason → Type 0) (Lacks Lacks' : Text → Type 0) (failed failed' : Type 0)
+    → ((r : CommandReason) → Is r → Is' r) → ((name : Text) → Lacks name → Lacks' name) → (failed → failed')
+    → HasReason fault Is Lacks failed → HasReason fault Is' Lacks' failed'
+has_reason (Refused refusal) Is Is' Lacks Lacks' failed failed' more lacks fails h =
+    stands_so (cause_of refusal) (λ r. Is (command.because r)) (λ r. Is' (command.because r)) failed failed' (λ r. more (command.because r)) fails h
+has_reason (UnknownShell word) Is Is' Lacks Lacks' failed failed' more lacks fails h = more _ h
+has_reason (Unprinted prints.OutOfMemory) Is Is' Lacks Lacks' failed failed' more lacks fails h = tt
+has_reason (Unprinted (prints.NotSayable name)) Is Is' Lacks Lacks' failed failed' more lacks fails h = lacks _ h
+has_reason WriteFailed Is Is' Lacks Lacks' failed failed' more lacks fails h = absurd h
+
+-- what is behind a refusal, as a fault of the command
+pub because_of : (c : Cause) (Is : RequestReason → Type 0) (Is' : RequestReason → Type 0) (failed : Type 0) → ((r : RequestReason) → Is r → Is' r) → Stands c failed Is → Stands c failed Is'
+because_of c Is Is' failed more h = stands_so c Is Is' failed failed more (λ f. f) h
+
+-- the text of a step leads back as the step does
+pub leads_back : CommandsReturn → OneEffect → DifferenceMakes → (s : Site) (e : Environment) (asked : Asked) (f : Effect) (text : Text)
+    → Step s e asked (Ok f.1) → SaysDifference f.0 text e f.1.env → LeadsBack e f text
+leads_back returns one makes s e asked f text step says =
+    λ ways start new live is_start in_order stands fit is_new fitting made.
+    let P : Environment → Type 0 = λ x. Holds ways start (live_after live f.1.moves) x × AreFit ways (live_after live f.1.moves) in
+    subst P (one f.0 text e f.1.env new (makes f.0 text e f.1.env says) made)
+    (returns ways s start e live asked f.1 is_start in_order stands fit step is_new fitting)
