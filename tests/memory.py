@@ -15,10 +15,27 @@ def answers_or_refuses(folder, words, env):
     refuses_each(refuser(folder.path), run, (b"", b"ERROR: Out of memory\n", 1).__eq__, words)
 
 
+# What a file of many kinds of commands says.
+MANY = """set i 0
+while {$i < 2} {incr i}
+foreach {x y} {1 2 3} {lappend all $x-$y}
+proc tell {a {b 2} args} {return $a$b[llength $args]}
+if {[catch {error no} m] == 1 && [string match n* $m]} {puts stderr "$m [tell 1]"}
+switch -glob [getenv HOME] {/h* {set h [string map {h g} $env(HOME)]} default {set h none}}
+module-whatis {many kinds} of commands
+setenv H $h
+append-path --delim {;} P {a:b;c} $h
+pushenv CC [join [lrange $all 0 end] :]
+unsetenv LANG C
+if {![is-loaded]} {conflict [lindex [split [module-info name] /] 0]x}
+"""
+
+
 @case
 def a_load_with_too_little_memory(folder):
     folder.module("foo/1.0", FOO)
-    answers_or_refuses(folder, ["sh", "load", "foo/1.0"], folder.environment(PATH="/usr/bin:/bin"))
+    for shell in ("sh", "csh", "fish"):
+        answers_or_refuses(folder, [shell, "load", "foo"], folder.environment(PATH="/usr/bin:/bin"))
 
 
 @case
@@ -36,21 +53,64 @@ def an_unload_with_too_little_memory(folder):
 
 
 @case
+def a_stack_with_too_little_memory(folder):
+    folder.module("a/1", "pushenv CC gcc\n")
+    folder.module("b/1", "pushenv CC clang\n")
+    answers_or_refuses(folder, ["sh", "load", "a"], folder.environment(CC="cc"))
+    one = loaded(folder, "a/1", CC="gcc", __MODULES_PUSHENV_CC="a/1&gcc:&cc")
+    answers_or_refuses(folder, ["sh", "load", "b"], one)
+    both = loaded(folder, "a/1", "b/1", CC="clang", __MODULES_PUSHENV_CC="b/1&clang:a/1&gcc:&cc")
+    answers_or_refuses(folder, ["sh", "unload", "a"], both)
+    rest = loaded(folder, "b/1", CC="clang", __MODULES_PUSHENV_CC="b/1&clang:&cc")
+    answers_or_refuses(folder, ["sh", "unload", "b"], rest)
+
+
+@case
+def two_modules_with_too_little_memory(folder):
+    folder.module("gcc/9", "setenv GCC 9\n")
+    folder.module("gcc/10", "setenv GCC 10\n")
+    folder.module("mpi/1", "prereq gcc\nsetenv MPI 1\n")
+    answers_or_refuses(folder, ["sh", "load", "gcc/9", "mpi"], folder.environment())
+    env = loaded(folder, "gcc/9", "mpi/1", GCC="9", MPI="1", __MODULES_LMPREREQ="mpi/1&gcc")
+    for words in (["switch", "gcc/10"], ["unload", "gcc", "mpi"], ["purge"], ["unload", "gcc"], ["list"]):
+        answers_or_refuses(folder, ["sh", *words], env)
+
+
+@case
+def a_search_with_too_little_memory(folder):
+    for version in ("1.9", "1.10", "1.10-rc"):
+        folder.module(f"ver/{version}", f"setenv V {version}\nmodule-whatis {{version {version}}}\n")
+    folder.file("ver/.version", '#%Module\nset ModulesVersion "1.9"\n')
+    folder.file("other/.modulerc", "#%Module\nerror x\n")
+    folder.module("other/1", "")
+    for words in (["load", "ver"], ["avail"], ["show", "ver"], ["whatis", "ver", "ver/1.10"], ["load", "other"]):
+        answers_or_refuses(folder, ["sh", *words], folder.environment())
+
+
+@case
+def many_kinds_of_commands_with_too_little_memory(folder):
+    folder.module("many/1", MANY)
+    answers_or_refuses(folder, ["sh", "load", "many"], folder.environment(HOME="/home/me", LANG="C"))
+
+
+@case
 def refusals_with_too_little_memory(folder):
     folder.module("foo/1.0", FOO)
     folder.module("left/1", "puts hello\n")
-    folder.module("mark/1", "setenv A $b\n")
+    folder.module("mark/1", "catch {setenv A $b} m\nerror $m\n")
     folder.module("bytes/1", b"\xff")
     folder.module("line/1", "setenv A {\n}\n")
+    folder.module("against/1", "conflict foo\n")
     for words in (
         ["sh", "load", "nope"],
         ["sh", "load", ".."],
         ["sh", "load", "left/1"],
         ["sh", "load", "mark/1"],
         ["sh", "load", "bytes/1"],
+        ["sh", "load", "foo", "against"],
         ["elvish", "load", "foo/1.0"],
         ["csh", "load", "line/1"],
-        ["sh", "avail"],
+        ["sh", "frobnicate"],
     ):
         answers_or_refuses(folder, words, folder.environment())
     answers_or_refuses(folder, ["sh", "load", "foo/1.0"], encoded({"LOADEDMODULES": "foo/1.0"}))

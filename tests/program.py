@@ -199,8 +199,11 @@ def ill_spelled_names(folder):
     names = ["", "..", ".", ".a", "a/..", "a/../b", "a/.b", "a//b", "/a", "a/", "a/b/c/d/e"]
     names += ["a" + sign + "b" for sign in " \t\n\v\f\r:&|\\@"]
     for name in names:
-        for word in ("load", "unload"):
-            folder.refuses(["sh", word, name], f"Bad module name '{name}'")
+        for words in (["load"], ["unload"], ["show"], ["whatis"], ["switch", "z/1"], ["load", "z/1"]):
+            folder.module("z/1", "puts stderr z\n")
+            folder.refuses(["sh", *words, name], f"Bad module name '{name}'")
+    for name, said in (("/a", ""), (".a/b", ".a"), ("", ""), ("a//b", "a//b")):
+        folder.refuses(["sh", "switch", name], f"Bad module name '{said}'")
 
 
 @case
@@ -336,6 +339,129 @@ def the_recorded_file_of_an_unload(folder):
     folder.refuses(["sh", "unload", "foo/1"], "Reading failed", env=env)
 
 
+# Several names, switch and purge.
+
+
+@case
+def a_command_of_several_names_is_all_or_nothing(folder):
+    for name in ("a/1", "b/1", "c/1"):
+        folder.module(name, f"puts stderr {name}\nsetenv {name[0].upper()} on\n")
+    folder.module("bad/1", "puts stderr bad\nerror no\n")
+    folder.refuses(["sh", "load", "a", "bad", "b"], "no (line 3)")
+    folder.refuses(["sh", "load", "a", "b", "nope"], "Unable to locate a modulefile for 'nope'")
+    paths = b":".join(os.path.join(folder.modules, name) for name in (b"a/1", b"c/1", b"b/1"))
+    out = b"A='on'; export A;\nB='on'; export B;\nC='on'; export C;\n"
+    out += b"LOADEDMODULES='a/1:c/1:b/1'; export LOADEDMODULES;\n_LMFILES_='" + paths + b"'; export _LMFILES_;\n"
+    folder.answers(["sh", "load", "a", "c", "a/1", "b", "c"], out, b"a/1\nc/1\nb/1\n", 0)
+    env = loaded(folder, "a/1", "gone/1", "b/1", A="on", B="on")
+    gone = os.path.join(folder.modules, b"gone/1")
+    for words in (["purge"], ["unload", "a", "gone"], ["unload", "gone", "nope"]):
+        folder.refuses(["sh", *words], b"No file at '" + gone + b"'", env=env)
+    folder.refuses(["sh", "switch", "a", "nope"], "Unable to locate a modulefile for 'nope'", env=env)
+    folder.answers(["sh", "unload", "nope"], b"", b"", 0, env=env)
+
+
+@case
+def an_unload_of_one_name_twice(folder):
+    first = folder.module("foo/1", "setenv A one\n")
+    for number in (2, 3):
+        folder.module(f"foo/{number}", f"setenv A{number} on\n")
+    env = loaded(folder, "foo/1", "foo/2", "foo/3", A="one", A2="on", A3="on")
+    out = b"unset A2;\nunset A3;\nLOADEDMODULES='foo/1'; export LOADEDMODULES;\n"
+    folder.accepts(["sh", "unload", "foo", "foo"], out + b"_LMFILES_='" + first + b"'; export _LMFILES_;\n", env=env)
+
+
+@case
+def what_a_file_is_told_in_a_switch(folder):
+    says = "puts stderr [module-info name],[module-info specified],[module-info mode],[module-info mode switch]\n"
+    folder.module("foo/1", says)
+    folder.module("foo/2", says)
+    lists = b"LOADEDMODULES='foo/2'; export LOADEDMODULES;\n"
+    lists += b"_LMFILES_='" + os.path.join(folder.modules, b"foo/2") + b"'; export _LMFILES_;\n"
+    env = loaded(folder, "foo/1")
+    for words, said in (
+        (["switch", "foo"], "foo/1,foo,unload,1\nfoo/2,foo,load,1\n"),
+        (["swap", "foo/2"], "foo/1,foo,unload,1\nfoo/2,foo/2,load,1\n"),
+        (["switch", "foo/1", "foo/2"], "foo/1,foo/1,unload,1\nfoo/2,foo/2,load,1\n"),
+    ):
+        folder.answers(["sh", *words], lists, said, 0, env=env)
+    out = b"unset LOADEDMODULES;\nunset _LMFILES_;\n"
+    folder.answers(["sh", "purge"], out, "foo/1,foo/1,unload,0\n", 0, env=env)
+    folder.answers(["sh", "unload", "foo"], out, "foo/1,foo,unload,0\n", 0, env=env)
+
+
+@case
+def what_modules_need_of_one_another(folder):
+    for name in ("gcc/9", "gcc/10", "icc/1"):
+        folder.module(name, "")
+    folder.module("mpi/1", "prereq gcc icc\n")
+    folder.module("top/1", "prereq mpi\nprereq gcc/9\n")
+    needs = {"__MODULES_LMPREREQ": "mpi/1&gcc|icc:top/1&mpi&gcc/9"}
+    env = loaded(folder, "gcc/9", "mpi/1", "top/1", **needs)
+    for words, name in (
+        (["unload", "gcc"], "mpi/1"),
+        (["unload", "mpi"], "top/1"),
+        (["switch", "gcc", "gcc/10"], "top/1"),
+        (["unload", "mpi", "gcc"], "top/1"),
+    ):
+        folder.refuses(["sh", *words], f"Still needed by '{name}'", env=env)
+    for words in (["purge"], ["unload", "gcc", "mpi", "top"], ["switch", "icc", "icc"], ["switch", "gcc", "gcc/9"]):
+        done = folder.run("sh", *words, env=env)
+        same((done.stderr, done.returncode), (b"", 0), f"the end of {words}")
+    folder.refuses(["sh", "load", "mpi"], "Missing one of 'gcc icc'")
+    folder.refuses(["sh", "load", "mpi", "gcc"], "Missing one of 'gcc icc'")
+    # A need that didn't hold before isn't asked for.
+    broken = loaded(folder, "gcc/9", "mpi/1", "top/1", __MODULES_LMPREREQ="top/1&nope&gcc")
+    same(folder.run("sh", "unload", "mpi", env=broken).returncode, 0, "an unload beside a need that didn't hold")
+
+
+# Reports.
+
+
+@case
+def reports_of_several_names(folder):
+    one = folder.module("a/1", "puts stderr one\nmodule-whatis {the first}\nmodule-whatis two  words\nsetenv A {b c}\n")
+    two = folder.module("a/2", "puts stderr two\nremove-path P x\npushenv CC {}\nunsetenv L\nconflict a b\n")
+    report = b"two\none\n" + two + b":\nremove-path P x\npushenv CC {}\nunsetenv L\nconflict a b\n"
+    report += one + b":\nmodule-whatis {the first}\nmodule-whatis {two words}\nsetenv A {b c}\n"
+    for word in ("show", "display"):
+        folder.answers(["sh", word, "a", "a/1"], b"", report, 0)
+    folder.answers(["sh", "whatis", "a/1", "a/2"], b"", b"one\ntwo\na/1: the first\na/1: two words\n", 0)
+    folder.refuses(["sh", "show", "a/1", "nope"], "Unable to locate a modulefile for 'nope'")
+    folder.refuses(["sh", "whatis", "nope", "a"], "Unable to locate a modulefile for 'nope'")
+
+
+@case
+def a_list_in_the_order_of_loading(folder):
+    said = b"Currently Loaded Modulefiles:\nz/1\na/1\nm/1\n"
+    folder.answers(["sh", "list"], b"", said, 0, env=loaded(folder, "z/1", "a/1", "m/1"))
+    for shell in ("bash", "ksh", "zsh", "csh", "tcsh", "fish"):
+        folder.answers([shell, "list"], b"", b"No Modulefiles Currently Loaded.\n", 0)
+
+
+@case
+def everything_that_can_be_loaded(folder):
+    for name in ("b/10", "b/9", "b/9a", "b/c/d", "b/.hidden", "top", "a.b/1", "deep/1/2/3/4", "bad name/1", "é/1"):
+        folder.module(name, "")
+    folder.file("b/README", "no module\n")
+    folder.file("b/.version", "#%Module\nset ModulesVersion 9\n")
+    folder.file("b/c/.modulerc", "#%Module\nerror x\n")
+    os.makedirs(folder.at("empty/1"))
+    other = os.path.join(folder.path, b"n")
+    os.makedirs(os.path.join(other, b"only"))
+    with open(os.path.join(other, b"only/1"), "wb") as file:
+        file.write(b"#%Module\n")
+    names = "a.b/1\nb/9(default)\nb/9a\nb/10\nb/c/d\ntop\né/1\n".encode()
+    env = encoded({"MODULEPATH": b"/nowhere:" + other + b"::" + folder.modules})
+    folder.answers(["sh", "avail"], b"", other + b":\nonly/1\n" + folder.modules + b":\n" + names, 0, env=env)
+    report = other + b":\nonly/1\n" + folder.modules + b":\nb/9(default)\nb/9a\n"
+    folder.answers(["sh", "avail", "only", "b/9", "nope", "ly"], b"", report, 0, env=env)
+    folder.answers(["sh", "avail", "x:|& @"], b"", b"", 0, env=env)
+    folder.answers(["sh", "avail"], b"", b"", 0, env={})
+    os.chmod(os.path.join(folder.modules, b"empty"), 0)
+    folder.refuses(["sh", "avail"], "Reading failed", env=env, user=NOBODY)
+
+
 # What the environment holds.
 
 
@@ -367,36 +493,53 @@ def lists_set_to_the_empty_text(folder):
 
 
 @case
-def recorded_conflicts_and_prereqs_wait_for_later(folder):
-    folder.module("foo/1.0", FOO)
+def recorded_conflicts_and_needs_of_no_module(folder):
+    """What names no loaded module goes with the next writing."""
+    folder.module("foo/1", "setenv A b\n")
+    lists = new_lists(folder, "foo/1")
     for name in ("__MODULES_LMCONFLICT", "__MODULES_LMPREREQ"):
         for text in ("a/1&b", ""):
-            for word in ("load", "unload"):
-                folder.refuses(["sh", word, "foo/1.0"], "Bad arguments", env=folder.environment(**{name: text}))
-                env = folder.environment(LOADEDMODULES="a/1", **{name: text})
-                folder.refuses(["sh", word, ".."], "Bad arguments", env=env)
+            env = folder.environment(**{name: text})
+            out = b"A='b'; export A;\n" + lists[0] + lists[1] + b"unset " + name.encode() + b";\n"
+            folder.accepts(["sh", "load", "foo/1"], out, env=env)
+            folder.accepts(["sh", "unload", "foo/1"], b"", env=env)
+
+
+@case
+def recorded_conflicts_of_loaded_modules(folder):
+    folder.module("foo/1", "setenv A b\n")
+    env = loaded(folder, "a/1", "b/1", __MODULES_LMCONFLICT="b/1&foo:a/1&x&foo/1:a/1&y")
+    folder.refuses(["sh", "load", "foo/1"], "Conflict with 'a/1'", env=env)
+    env[b"__MODULES_LMCONFLICT"] = b"b/1&foo"
+    folder.refuses(["sh", "load", "foo"], "Conflict with 'b/1'", env=env)
+    env[b"__MODULES_LMCONFLICT"] = b"b/1&fo&oo&foo/11"
+    done = folder.run("sh", "load", "foo/1", env=env)
+    same((done.stderr, done.returncode), (b"", 0), "a load beside conflicts with other names")
 
 
 @case
 def an_element_that_is_in_the_list(folder):
-    folder.module("foo/1.0", FOO)
+    folder.module("foo/1", "prepend-path PATH /opt/foo/bin\n")
+    lists = new_lists(folder, "foo/1")
     env = folder.environment(PATH="/bin:/opt/foo/bin")
-    folder.refuses(["sh", "load", "foo/1.0"], "Bad arguments", env=env)
+    out = lists[0] + lists[1] + b"__MODULES_SHARE_PATH='/opt/foo/bin:2'; export __MODULES_SHARE_PATH;\n"
+    folder.accepts(["sh", "load", "foo/1"], out, env=env)
     folder.module("bad/1", "prepend-path 1P /x\n")
-    folder.refuses(["sh", "load", "bad/1"], "Bad variable name '1P'")
-    folder.refuses(["sh", "load", "bad/1"], "Bad arguments", env=folder.environment(**{"1P": "/y:/x"}))
+    folder.refuses(["sh", "load", "bad/1"], "Bad variable name '1P'", env=folder.environment(**{"1P": "/y:/x"}))
     folder.module("kept/1", "prepend-path LOADEDMODULES z/1\n")
     folder.module("z/1", "")
     folder.refuses(["sh", "load", "kept/1"], "Variable 'LOADEDMODULES' is kept by the tool")
-    folder.refuses(["sh", "load", "kept/1"], "Bad arguments", env=loaded(folder, "z/1"))
+    folder.refuses(["sh", "load", "kept/1"], "Variable 'LOADEDMODULES' is kept by the tool", env=loaded(folder, "z/1"))
 
 
 @case
-def counters_wait_for_later(folder):
-    folder.module("foo/1.0", FOO)
+def counters_of_elements_that_are_not_there(folder):
+    folder.module("foo/1", "prepend-path PATH /opt/foo/bin\n")
+    lists = new_lists(folder, "foo/1")
     for text in ("/opt/foo/bin:2", ""):
         env = folder.environment(PATH="/bin", __MODULES_SHARE_PATH=text)
-        folder.refuses(["sh", "load", "foo/1.0"], "Bad arguments", env=env)
+        out = lists[0] + b"PATH='/opt/foo/bin:/bin'; export PATH;\n" + lists[1] + b"unset __MODULES_SHARE_PATH;\n"
+        folder.accepts(["sh", "load", "foo/1"], out, env=env)
 
 
 @case
@@ -427,27 +570,93 @@ def commands_that_are_refused(folder):
     for number, (text, said) in enumerate(
         (
             ("puts hello\n", "'puts' is left out"),
-            ("setenv A b\nappend-path P /x\n", "'append-path' is left out"),
+            ("setenv A b\nset-alias x y\n", "'set-alias' is left out"),
+            ("catch {module load x}\n", "'module' is left out"),
+            ("catch {regexp a b}\n", "'regexp' is left out"),
+            ("set env(A) b\n", "'env' is left out"),
+            ("set a(1) b\n", "'array' is left out"),
+            ("set ::a::b c\n", "'namespace' is left out"),
+            ("module-info flags\n", "'module-info flags' is left out"),
+            ("string toupper a\n", "'string toupper' is left out"),
+            ("module-version foo/1 default\n", 'invalid command name "module-version" (line 2)'),
             ("setenv A\n", "Bad arguments"),
             ("setenv A b c\n", "Bad arguments"),
             ("setenv -x A b\n", "Bad arguments"),
+            ("catch {setenv A}\n", "Bad arguments"),
+            ("unsetenv A b c\n", "Bad arguments"),
+            ("pushenv A\n", "Bad arguments"),
+            ("conflict\n", "Bad arguments"),
+            ("prereq -x\n", "Bad arguments"),
+            ("module-whatis\n", "Bad arguments"),
+            ("module-info\n", "Bad arguments"),
+            ("module-info name x\n", "Bad arguments"),
+            ("getenv\n", "Bad arguments"),
             ("prepend-path P\n", "Bad arguments"),
-            ("prepend-path P /a /b\n", "Bad arguments"),
-            ("prepend-path P /a:/b\n", "Bad arguments"),
             ("prepend-path --delim x\n", "Bad arguments"),
+            ("prepend-path -dx P a\n", "Bad arguments"),
+            ("prepend-path --duplicates P a\n", "Bad arguments"),
+            ("append-path --delim= P a\n", "Bad arguments"),
+            ("prepend-path -d x -d y P\n", "Bad variable name '-d'"),
             ("setenv 1A b\n", "Bad variable name '1A'"),
             ("setenv A-B b\n", "Bad variable name 'A-B'"),
             ("setenv É b\n", "Bad variable name 'É'"),
+            ("getenv A-B\n", "Bad variable name 'A-B'"),
             ("setenv LOADEDMODULES b\n", "Variable 'LOADEDMODULES' is kept by the tool"),
             ("setenv _LMFILES_ b\n", "Variable '_LMFILES_' is kept by the tool"),
-            ("setenv __MODULES_X b\n", "Variable '__MODULES_X' is kept by the tool"),
+            ("remove-path __MODULES_X b\n", "Variable '__MODULES_X' is kept by the tool"),
             ("setenv A b\0c\n", "Bad value of 'A'"),
             ("prepend-path P b\0c\n", "Bad value of 'P'"),
+            ("conflict a .b/c\n", "Bad module name '.b/c'"),
+            ("prereq a//b\n", "Bad module name 'a//b'"),
         )
     ):
         name = f"refused/{number}"
         folder.module(name, text)
         folder.refuses(["sh", "load", name], said)
+
+
+@case
+def errors_of_tcl_and_where_they_began(folder):
+    for number, (text, said) in enumerate(
+        (
+            ("error {out of luck}\n", "out of luck (line 2)"),
+            ("\n\nsetenv A [expr {1/0}]\n", "divide by zero (line 4)"),
+            ("if 1 {\n\n  nope\n}\n", 'invalid command name "nope" (line 2)'),
+            ("proc p {} {\n  return $x\n}\n\np\n", 'can\'t read "x": no such variable (line 6)'),
+            ("setenv A $env(NONE)\n", 'can\'t read "env(NONE)": no such variable (line 2)'),
+            ("set a {x y}\nlindex $a z\n", 'bad index "z" (line 3)'),
+            ("string length\n", 'wrong # args for "string" (line 2)'),
+            ("if maybe {}\n", 'expected boolean value but got "maybe" (line 2)'),
+            ("expr {1.5 + 1}\n", "A number with a fraction is not computed"),
+            ("expr {9223372036854775807 + 1}\n", "A number is too large"),
+            ("expr {1 +}\n", "Bad expression at byte 3"),
+            ("if 1 {setenv A {b}\n", "Missing close-brace at byte 14"),
+            ('if 1 {setenv A "b}\n', "Missing close-quote at byte 9"),
+            ("exit\n", "Stopped by the modulefile"),
+            ("catch {exit 1}\n", "Stopped by the modulefile"),
+            ("break\n", "Stopped by the modulefile"),
+        )
+    ):
+        name = f"error/{number}"
+        folder.module(name, text)
+        folder.refuses(["sh", "load", name], said)
+
+
+@case
+def files_that_end_early(folder):
+    for number, text in enumerate(
+        (
+            "setenv A b\nreturn\nnope\n",
+            "setenv A b\ncontinue\nnope\n",
+            "while 1 {if {[getenv A] eq {b}} {return}\nsetenv A b}\nnope\n",
+            "if {[catch {error x} m]} {setenv A b; return}\nnope\n",
+            "proc p {} {setenv A b; return; nope}\np\n",
+        )
+    ):
+        name = f"end/{number}"
+        folder.module(name, text)
+        lists = new_lists(folder, name)
+        folder.accepts(["sh", "load", name], b"A='b'; export A;\n" + lists[0] + lists[1])
 
 
 @case
@@ -475,21 +684,29 @@ def faults_of_scripts(folder):
 
 
 @case
-def substitutions_that_come_later(folder):
-    for number, (text, word) in enumerate(
+def words_that_are_substituted(folder):
+    for number, (text, value) in enumerate(
         (
-            ("setenv A $b\n", "setenv"),
-            ("setenv A $b(c)\n", "setenv"),
-            ("setenv A ${b c}\n", "setenv"),
-            ('"setenv" A "b [c]"\n', '"setenv"'),
-            ("{setenv} A {*}{b}\n", "{setenv}"),
-            ("$setenv A b\n", "$setenv"),
-            ("[" * 200 + "]" * 200, "[" * 200 + "]" * 200),
+            ("set b x\nsetenv A $b\n", b"x"),
+            ("set {b c} x\nsetenv A ${b c}y\n", b"xy"),
+            ('set b x\nsetenv A "b [string repeat $b 3] $env(HERE)"\n', b"b xxx there"),
+            ("setenv {*}{A b}\n", b"b"),
+            ("set c setenv\n$c A {$b}\n", b"$b"),
+            ("foreach v {1 2 3} {lappend l [expr {$v * $v}]}\nsetenv A [join $l :]\n", b"1:4:9"),
+            ("set root /opt/foo\nset v 1.10\nsetenv A $root/$v/bin\n", b"/opt/foo/1.10/bin"),
+            ("setenv A [lindex [split $ModulesCurrentModulefile /] end]\n", b"7"),
+            ("setenv A [module-info name],[module-info specified],[module-info mode]\n", b"w/8,w/8,load"),
+            ("if {![info exists env(NONE)]} {setenv A [getenv NONE none]}\n", b"none"),
+            ("switch -glob [getenv HERE] {a* {setenv A 1} t* - x {setenv A 2}}\n", b"2"),
         )
     ):
-        name = f"later/{number}"
+        name = f"w/{number}"
         folder.module(name, text)
-        folder.refuses(["sh", "load", name], f"'{word}' is left out")
+        lists = new_lists(folder, name)
+        out = b"A='" + value + b"'; export A;\n" + lists[0] + lists[1]
+        folder.accepts(["sh", "load", name], out, env=folder.environment(HERE="there"))
+    folder.module("deep/1", "[" * 200 + "]" * 200)
+    folder.refuses(["sh", "load", "deep/1"], "Too many nested evaluations")
 
 
 @case
@@ -556,11 +773,17 @@ def words_that_are_refused(folder):
         (["sh"], "Bad arguments"),
         (["sh", "load"], "Bad arguments"),
         (["sh", "unload"], "Bad arguments"),
-        (["sh", "load", "foo/1.0", "foo/1.0"], "Bad arguments"),
-        (["sh", "unload", "foo/1.0", "foo/1.0"], "Bad arguments"),
-        (["sh", "switch", "foo/1.0"], "Unknown subcommand 'switch'"),
-        (["sh", "avail"], "Unknown subcommand 'avail'"),
-        (["sh", "frobnicate"], "Unknown subcommand 'frobnicate'"),
+        (["sh", "show"], "Bad arguments"),
+        (["sh", "whatis"], "Bad arguments"),
+        (["sh", "switch"], "Bad arguments"),
+        (["sh", "swap", "foo", "foo", "foo"], "Bad arguments"),
+        (["sh", "purge", "foo"], "Bad arguments"),
+        (["sh", "list", "foo"], "Bad arguments"),
+        (["sh", "del", "foo"], "Unknown subcommand 'del'"),
+        (["sh", "help"], "Unknown subcommand 'help'"),
+        (["sh", "use", "/m"], "Unknown subcommand 'use'"),
+        (["sh", "Load", "foo"], "Unknown subcommand 'Load'"),
+        (["sh", "--version"], "Unknown subcommand '--version'"),
         (["sh", ""], "Unknown subcommand ''"),
         (["elvish", "load", "foo/1.0"], "Unknown shell 'elvish'"),
         (["rc"], "Unknown shell 'rc'"),
@@ -570,9 +793,14 @@ def words_that_are_refused(folder):
         ([b"\xff", "load", "foo/1.0"], "Bad arguments"),
         (["sh", b"\xff", "foo/1.0"], "Bad arguments"),
         (["sh", "load", b"foo\xff"], "Bad arguments"),
-        (["csh", "load", b"foo\xff"], "Bad arguments"),
+        (["csh", "load", "foo/1.0", b"foo\xff"], "Bad arguments"),
     ):
         folder.refuses(words, said)
+    for word in ("list", "purge", "load", "unload", "show", "whatis", "switch"):
+        names = ["nope"] if word not in ("list", "purge") else []
+        env = folder.environment(LOADEDMODULES="a/1")
+        folder.refuses(["sh", word, *names], "Loaded modules are inconsistent", env=env)
+    folder.answers(["sh", "avail"], b"", b"%s:\nfoo/1.0\n" % folder.modules, 0, env=folder.environment(LOADEDMODULES="a/1"))
 
 
 # Standard output and standard error.
@@ -615,9 +843,16 @@ def a_standard_error_that_takes_nothing(folder):
     same((done.stdout, done.returncode), (loads_foo(folder), 0), "an accepted load, standard error closed")
     done = folder.run("sh", "load", "nope", env=env, close=(2,))
     same((done.stdout, done.returncode), (b"", 1), "a refused load, standard error closed")
+    folder.module("says/1", "puts stderr hi\n")
+    for words in (["load", "says"], ["list"], ["avail"], ["show", "foo"], ["whatis", "says"]):
+        done = folder.run("sh", *words, env=env, close=(2,))
+        same((done.stdout, done.returncode), (b"", 1), f"{words}, standard error closed")
     for name, stream, close in broken_streams():
         done = folder.run("sh", "load", "foo/1.0", env=env, stderr=stream)
         same((done.stdout, done.returncode), (loads_foo(folder), 0), f"an accepted load, standard error {name}")
+        for words in (["load", "foo", "says"], ["list"]):
+            done = folder.run("sh", *words, env=env, stderr=stream)
+            same((done.stdout, done.returncode), (b"", 1), f"{words}, standard error {name}")
         done = folder.run("sh", "load", "nope", env=env, stderr=stream)
         same((done.stdout, done.returncode), (b"", 1), f"a refused load, standard error {name}")
         close()

@@ -26,9 +26,13 @@ PROGRAMS = {
     "envstate_rows": ("envstate_rows", "envstate_rows"),
 }
 
-# The tests outside the gate: a script, and what it is given.
+# The tests outside the gate: a script, the program that it is given, and further words.
 SUITES = (
     ("program.py", "modulecmd"),
+    ("rows.py", "modulecmd"),
+    ("sentence.py", "modulecmd", "300", "0", "sh"),
+    ("sentence.py", "modulecmd", "40", "0", "tcsh"),
+    ("sentence.py", "modulecmd", "40", "0", "fish"),
     ("memory.py", "modulecmd"),
     ("search.py", "modulesearch_cases"),
     ("shells/run.py", "modulecmd"),
@@ -85,10 +89,10 @@ def main():
     with Sampler(os.getpid()) as sampler:
         passed, failed = gate()
     spent = {"rt ci": children_seconds() - start}
-    for script, program in SUITES:
+    for script, program, *words in SUITES:
         before = children_seconds()
-        more = counted([sys.executable, "-B", os.path.join(HERE, script), os.path.join(BUILT, program)])
-        spent[script] = children_seconds() - before
+        more = counted([sys.executable, "-B", os.path.join(HERE, script), os.path.join(BUILT, program), *words])
+        spent[" ".join([script, *words])] = children_seconds() - before
         passed += more[0]
         failed += more[1]
     print(table(sampler.crates(), spent))
