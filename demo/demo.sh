@@ -1,39 +1,48 @@
 #!/bin/sh
-# Shows a load and an unload over the modulefiles beside this file, in this shell, with the product that is installed
-# below the directory that is named.
+# Shows loads, a switch and unloads over the modulefiles beside this file, in this shell, with the product that is
+# installed below the directory that is named.
 set -eu
 
 PRODUCT=$(cd "$1" && pwd)
 MODULEPATH=$(cd "$(dirname "$0")" && pwd)/modulefiles
 MANPATH=/usr/share/man
-export MODULEPATH MANPATH
+GREETING='good day'
+export MODULEPATH MANPATH GREETING
 unset LOADEDMODULES _LMFILES_ || true
 
 # What a login shell's profile would have.
 # shellcheck source=init/sh
 . "$PRODUCT/init/sh"
 
-# The variables that the modulefiles name, with the two lists of the loaded modules.
+# The variables that the modulefiles name, and what the program keeps.
 show() {
     echo "--- $1"
-    env | grep -E '^(MODULEPATH|MANPATH|HELLO|LOADEDMODULES|_LMFILES_)=' | sort || true
+    env | grep -E '^(MODULEPATH|MANPATH|INFOPATH|HELLO|GREETING|LOADEDMODULES|_LMFILES_|__MODULES_[A-Z_]*)=' | sort
+    echo
+}
+
+# Runs a command and shows it, with what it says.
+run() {
+    echo "\$ $*"
+    "$@" 2>&1 || echo "refused, with status $?"
     echo
 }
 
 show 'before'
+run module avail
+run module show hello/2.0
+run module load greet
 
-echo '$ modulecmd sh load hello/1.0'
-"$PRODUCT/bin/modulecmd" sh load hello/1.0
+echo '$ modulecmd sh load hello greet'
+"$PRODUCT/bin/modulecmd" sh load hello greet
 echo
-module load hello/1.0
-show 'after module load hello/1.0'
+run module load hello greet
+show 'after module load hello greet'
 
-echo '$ module load nothing/1.0'
-module load nothing/1.0 2>&1 || echo "refused, with status $?"
-echo
+run module unload hello
+run module switch hello/2.0
+run module list
+show 'after module switch hello/2.0'
 
-echo '$ modulecmd sh unload hello'
-"$PRODUCT/bin/modulecmd" sh unload hello
-echo
-module unload hello
-show 'after module unload hello'
+run module unload hello greet
+show 'after module unload hello greet'

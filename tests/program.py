@@ -626,7 +626,7 @@ def errors_of_tcl_and_where_they_began(folder):
             ("setenv A $env(NONE)\n", 'can\'t read "env(NONE)": no such variable (line 2)'),
             ("set a {x y}\nlindex $a z\n", 'bad index "z" (line 3)'),
             ("string length\n", 'wrong # args for "string" (line 2)'),
-            ("if maybe {}\n", 'expected boolean value but got "maybe" (line 2)'),
+            ("if {{maybe}} {}\n", 'expected boolean value but got "maybe" (line 2)'),
             ("expr {1.5 + 1}\n", "A number with a fraction is not computed"),
             ("expr {9223372036854775807 + 1}\n", "A number is too large"),
             ("expr {1 +}\n", "Bad expression at byte 3"),

@@ -5,7 +5,7 @@ import re
 import shutil
 import subprocess
 
-from harness import case, same, true
+from harness import case, loaded, same, true
 from sessions import REFUSAL
 from shells import SHELLS, content
 
@@ -47,7 +47,11 @@ SCRIPTS = (
     ".ci/run",
 )
 
-SUBCOMMAND = re.compile(r"^  ([a-z][a-z, ]*?)(?: [A-Z\[]|  )", re.MULTILINE)
+SUBCOMMAND = re.compile(r"^  ([a-z][a-z, ]*?)(?: [A-Z\[]|  |$)", re.MULTILINE)
+SUBCOMMANDS = ("load", "add", "unload", "rm", "switch", "swap", "purge", "list", "avail", "show", "display", "whatis")
+
+# The words that the functions of the shells replace.
+OF_FUNCTIONS = ("del", "remove", "help")
 
 
 def make(*words):
@@ -122,19 +126,24 @@ def install_refuses_a_prefix_that_shells_would_misread(folder):
 
 @case
 def the_usage_tells_what_the_program_does(folder):
-    """Each sub-command of the first part is known, and none of the second."""
+    """Each sub-command is known, and none is missing."""
     usage = ["sh", os.path.join(TOP, "libexec", "usage")]
     text = subprocess.run(usage, capture_output=True, check=True).stdout.decode()
-    there, waits = text.split("Sub-commands:\n")[1].split("Not there yet")
-    for part, known in ((there, True), (waits.split("\n", 1)[1].split('"module')[0], False)):
-        names = [name for found in SUBCOMMAND.findall(part) for name in found.split(", ")]
-        true(len(names) >= 4, f"the names of {part!r}")
-        for name in names:
-            done = folder.run("sh", name, "foo")
-            unknown = f"ERROR: Unknown subcommand '{name}'\n".encode()
-            # These two are the function's.
-            if name not in ("del", "remove"):
-                same(done.stderr != unknown, known, f"the program knows {name}")
+    names = [name for found in SUBCOMMAND.findall(text.split("Sub-commands:\n")[1]) for name in found.split(", ")]
+    same(sorted(names), sorted([*SUBCOMMANDS, "del", "remove"]), "the names of the usage")
+    for name in SUBCOMMANDS:
+        done = folder.run("sh", name, "a b")
+        true(b"Unknown subcommand" not in done.stderr, f"the program knows {name}")
+    for name in OF_FUNCTIONS:
+        folder.refuses(["sh", name], f"Unknown subcommand '{name}'")
+
+
+@case
+def completion_offers_what_the_program_does(folder):
+    names = subprocess.run(
+        ["sh", os.path.join(TOP, "libexec", "names"), "subcommands"], capture_output=True, check=True
+    )
+    same(names.stdout.decode().split(), sorted([*SUBCOMMANDS, *OF_FUNCTIONS]), "the names for completion")
 
 
 @case
@@ -152,36 +161,80 @@ def the_pages_are_well_formed(folder):
 
 
 @case
-def the_pages_tell_what_waits(folder):
-    """What the page says to be refused is refused."""
+def the_page_has_each_sub_command(folder):
     page = content(os.path.join(TOP, "man", "module.1")).decode()
-    waits = page.split(".Ss What waits for a later version")[1].split(".Sh SHELLS")[0]
-    for name in ("switch", "swap", "purge", "list", "avail", "show", "display", "whatis"):
-        true(name in waits, f"the page says that {name} waits")
-        folder.refuses(["sh", name, "foo"], f"Unknown subcommand '{name}'")
-    folder.module("foo/1.0", "setenv FOO on\n")
-    folder.refuses(["sh", "load", "foo/1.0", "bar"], "Bad arguments")
-    folder.refuses(["sh", "load", "foo"], "Unable to locate a modulefile for 'foo'")
+    there = page.split(".Sh DESCRIPTION")[1].split(".Ss Names and versions")[0]
+    for name in (*SUBCOMMANDS, *OF_FUNCTIONS):
+        true(re.search(rf"Cm {name}\b", there), f"the page has {name}")
+
+
+def refusals():
+    """The numbers and texts of the table of refusals."""
+    text = content(os.path.join(TOP, "docs", "REFUSALS.md")).decode()
+    return re.findall(r"^\| `\w+`[^|]*\| ([0-9, ]+) \| `?([^|`]*)`? \|", text, re.MULTILINE)
 
 
 @case
-def the_modulefile_page_tells_what_waits(folder):
+def the_page_has_each_refusal(folder):
+    page = content(os.path.join(TOP, "man", "module.1")).decode()
+    rows = refusals()
+    wanted = [*range(1, 10), *range(11, 22), *range(31, 38), *range(41, 47), *range(51, 58), *range(61, 65)]
+    same(sorted(int(n) for numbers, _ in rows for n in numbers.split(",")), wanted, "the numbers of the table")
+    for numbers, text in rows:
+        shown = text if text.startswith(tuple("ABCDEFGHIJKLMNOPQRSTUVWXYZ'")) else f"({text})"
+        true(f'.It "{numbers}  {shown}"\n' in page, f"the page has {numbers}, {text}")
+
+
+# A line for each command of modulefiles, and for each core command of Tcl.
+LINES = {
+    "setenv": "setenv A b", "unsetenv": "unsetenv A b", "prepend-path": "prepend-path -d , A b,c d",
+    "append-path": "append-path A b", "remove-path": "remove-path A b", "pushenv": "pushenv A b",
+    "conflict": "conflict a", "prereq": "prereq gcc a", "module-whatis": "module-whatis a b", "getenv": "getenv A b",
+    "is-loaded": "is-loaded a", "module-info": "module-info shelltype csh",
+    "set": "set a b", "unset": "unset -nocomplain a", "append": "append a b", "incr": "incr a",
+    "global": "global a", "info": "info exists a", "if": "if 0 {}", "while": "while 0 {}", "for": "for {} 0 {} {}",
+    "foreach": "foreach a b {}", "switch": "switch a {a {}}", "proc": "proc a b {}", "return": "return",
+    "continue": "continue", "break": "while 1 {break}", "error": "catch {error a}", "catch": "catch {nope}",
+    "exit": "if 0 {exit}", "expr": "expr {1 + 1}", "list": "list a", "llength": "llength a", "lindex": "lindex a 0",
+    "lrange": "lrange a 0 end", "lappend": "lappend a b", "split": "split a", "join": "join a", "concat": "concat a",
+    "string": "string length a", "puts": "puts -nonewline stderr {}",
+}  # fmt: skip
+
+# What the page says to be left out, apart from the two lists of names.
+LEFT_OUT = ("puts hello", "set env(A) b", "set a(b) c", "module-info x", "string toupper a", "expr {2 ** 3}", "expr {sin(1)}")
+
+
+def left_out_names(page):
+    """The commands that the page says to be left out."""
+    start = page.split(".Ql \\(aqX\\(aq is left out :\n")[1].split(".It\n")[0]
+    rest = page.split("doesn't hide that:\n")[1].split(".It\n")[0]
+    lines = [line[4:] for line in (start + rest).split("\n") if line.startswith(".Ic ")]
+    return [name for line in lines for name in line.split() if name not in (",", ".")]
+
+
+@case
+def the_modulefile_page_has_each_command(folder):
     page = content(os.path.join(TOP, "man", "modulefile.5")).decode()
-    waits = page.split(".Sh WHAT WAITS FOR A LATER VERSION")[1].split(".Sh EXAMPLES")[0]
-    lines = {
-        "set": "set a b", "if": "if 1 {}", "foreach": "foreach a b {}", "expr": "expr 1", "proc": "proc a b {}",
-        "puts": "puts stderr a", "catch": "catch a", "append-path": "append-path A b", "remove-path": "remove-path A b",
-        "pushenv": "pushenv A b", "unsetenv": "unsetenv A", "conflict": "conflict a", "prereq": "prereq a",
-        "is-loaded": "is-loaded a", "getenv": "getenv A", "module-info": "module-info mode",
-        "module-whatis": "module-whatis a",
-    }  # fmt: skip
-    for name, line in lines.items():
-        true(re.search(rf"\b{name}\b", waits), f"the page says that {name} waits")
+    there = page.split(".Ss Commands that change the environment")[1].split(".Ss What a file has to keep to")[0]
+    env = loaded(folder, "gcc/9", A="b")
+    for name, line in LINES.items():
+        true(re.search(rf"(Ic|,) {name}\b", there), f"the page has {name}")
         folder.module("foo/1", line + "\n")
-        folder.refuses(["sh", "load", "foo/1"], f"'{name}' is left out")
-    for line in ("setenv A $b", "setenv A [b]", "setenv {*}{A b}"):
+        done = folder.run("sh", "load", "foo", env=env)
+        same((done.stderr, done.returncode), (b"", 0), f"the load of {line}")
+    for line in ("break", "exit", "catch exit"):
         folder.module("foo/1", line + "\n")
-        folder.refuses(["sh", "load", "foo/1"], "'setenv' is left out")
+        folder.refuses(["sh", "load", "foo"], "Stopped by the modulefile")
+
+
+@case
+def the_modulefile_page_has_what_is_left_out(folder):
+    names = left_out_names(content(os.path.join(TOP, "man", "modulefile.5")).decode())
+    true(len(names) > 80, f"the names {names}")
+    for line in [*LEFT_OUT, *names]:
+        folder.module("foo/1", f"catch {{{line}}}\n")
+        done = folder.run("sh", "load", "foo")
+        true(done.stderr.endswith(b"' is left out\n") and done.returncode == 1, f"{line} is left out: {done.stderr!r}")
 
 
 @case
@@ -189,14 +242,22 @@ def the_example_of_the_modulefile_page_loads(folder):
     page = content(os.path.join(TOP, "man", "modulefile.5")).decode()
     text = page.split(".Sh EXAMPLES\n.Bd -literal -offset indent\n")[1].split(".Ed")[0]
     path = folder.file("foo/1.0", text)
+    gcc = folder.module("gcc/9", "")
     wanted = (
-        b"FOO_HOME='/opt/foo 1.0'; export FOO_HOME;\n"
-        b"LOADEDMODULES='foo/1.0'; export LOADEDMODULES;\n"
-        b"MANPATH='/opt/foo/share/man'; export MANPATH;\n"
-        b"PATH='/opt/foo/bin:/bin'; export PATH;\n"
-        b"_LMFILES_='" + path + b"'; export _LMFILES_;\n"
+        b"CC='/opt/foo/1.0/bin/foocc'; export CC;\n"
+        b"FOO_HOME='/opt/foo/1.0'; export FOO_HOME;\n"
+        b"LOADEDMODULES='gcc/9:foo/1.0'; export LOADEDMODULES;\n"
+        b"MANPATH='/opt/foo/1.0/share/man'; export MANPATH;\n"
+        b"PATH='/opt/foo/1.0/bin:/bin'; export PATH;\n"
+        b"_LMFILES_='" + gcc + b":" + path + b"'; export _LMFILES_;\n"
+        b"__MODULES_LMCONFLICT='foo/1.0&foo'; export __MODULES_LMCONFLICT;\n"
+        b"__MODULES_LMPREREQ='foo/1.0&gcc|icc'; export __MODULES_LMPREREQ;\n"
+        b"__MODULES_PUSHENV_CC='foo/1.0&/opt/foo/1.0/bin/foocc:&cc'; export __MODULES_PUSHENV_CC;\n"
     )
-    folder.accepts(["sh", "load", "foo/1.0"], wanted, env=folder.environment(PATH="/bin"))
+    said = "foo 1.0 is there; see /opt/foo/1.0/README\n"
+    env = loaded(folder, "gcc/9", PATH="/bin", CC="cc")
+    folder.answers(["sh", "load", "foo/1.0"], wanted, said, 0, env=env)
+    folder.answers(["sh", "whatis", "foo"], b"", "foo/1.0: the tools of foo\n", 0, env=env)
 
 
 @case
@@ -232,11 +293,14 @@ def add_demo(prefixes):
                 )
                 same((done.stderr, done.returncode), (b"", 0), "standard error and status")
                 shown = [part.split(b"\n\n")[0].split(b"\n") for part in done.stdout.split(b"--- ")[1:]]
-                titles = [b"before", b"after module load hello/1.0", b"after module unload hello"]
-                same([part[0] for part in shown], titles, "the parts")
-                same(shown[2][1:], shown[0][1:], "the environment after")
-                true(b"HELLO=world" in shown[1] and b"LOADEDMODULES=hello/1.0" in shown[1], "the environment between")
-                true(b"refused, with status 1\n" in done.stdout, "a refusal is shown")
+                titles = [b"before", b"after module load hello greet", b"after module switch hello/2.0"]
+                same([part[0] for part in shown], [*titles, b"after module unload hello greet"], "the parts")
+                same(shown[3][1:], shown[0][1:], "the environment after")
+                between = [b"GREETING=hi", b"HELLO=world", b"LOADEDMODULES=hello/1.0:greet/1"]
+                same([line for line in between if line not in shown[1]], [], "the environment between")
+                true(b"LOADEDMODULES=greet/1:hello/2.0" in shown[2], "the environment behind the switch")
+                same(done.stdout.count(b"refused, with status 1\n"), 2, "the refusals that are shown")
+                true(b"hello/1.0(default)\n" in done.stdout, "what can be loaded is shown")
 
             demonstrates.__name__ = f"{shell.title} runs the demonstration"
             case(demonstrates)

@@ -7,7 +7,7 @@ case ${2-} in
         if test -e "$STAND_IN/avail"; then
             exec /bin/cat "$STAND_IN/avail" >&2
         fi
-        echo "ERROR: Unknown subcommand 'avail'" >&2
+        echo "ERROR: Reading failed" >&2
         exit 1
         ;;
 esac
