@@ -239,8 +239,58 @@ def add(shell, prefixes, by_program):
         same_environment(between, wanted, "the environment between")
         same_environment(after, before, "the environment after")
 
+    def requests_of_program(folder):
+        """Several names, an unload out of order, a switch, the reports, a refusal and a purge."""
+        odd = "a:b\\c'd"
+        session = Session(shell, folder, prefixes, {}, True, {"CC": odd})
+        modules = {
+            "gcc/9": "setenv GCC 9\n",
+            "gcc/10": "setenv GCC 10\n",
+            "mpi/1": "module-whatis {message passing}\nprereq gcc\nsetenv MPI 1\n",
+            "a/1": "pushenv CC gcc\n",
+            "b/1": "pushenv CC clang\n",
+            "y/1": "append-path P /s\n",
+            "z/1": "append-path P /s\n",
+        }
+        paths = {name: folder.module(name, text).decode() for name, text in modules.items()}
+
+        def lists(*names):
+            return {"LOADEDMODULES": ":".join(names), "_LMFILES_": ":".join(paths[name] for name in names)}
+
+        said = (
+            "ERROR: Still needed by 'mpi/1'\n"
+            "Currently Loaded Modulefiles:\nmpi/1\nb/1\nz/1\ngcc/10\n"
+            f"{folder.modules.decode()}:\ngcc/9\ngcc/10\n"
+            f"{paths['mpi/1']}:\nmodule-whatis {{message passing}}\nprereq gcc\nsetenv MPI 1\n"
+            "mpi/1: message passing\n"
+        )
+        changes = ["module load gcc/9 mpi a b y z", "show", "module unload a y", "show", "module switch gcc/10", "show"]
+        reports = ["module list", "module avail gcc", "module show mpi", "module whatis mpi", "status"]
+        lines = ["show", *changes, "module unload gcc", "status", *reports, "module purge", "status", "show"]
+        kept = session.keeps(lines, err=said.encode())
+        same(kept.statuses, ["1", "0", "0"], "the statuses")
+        before, loaded, unloaded, switched, after = kept.shown
+        all_six = {
+            "CC": "clang",
+            "GCC": "9",
+            "MPI": "1",
+            "P": "/s",
+            "__MODULES_LMPREREQ": "mpi/1&gcc",
+            "__MODULES_PUSHENV_CC": "b/1&clang:a/1&gcc:&a\\:b\\\\c'd",
+            "__MODULES_SHARE_P": "/s:2",
+            **lists("gcc/9", "mpi/1", "a/1", "b/1", "y/1", "z/1"),
+        }
+        same_environment(loaded, changed(before, all_six), "the environment with six modules")
+        rest = {"__MODULES_PUSHENV_CC": "b/1&clang:&a\\:b\\\\c'd", "__MODULES_SHARE_P": None}
+        rest.update(lists("gcc/9", "mpi/1", "b/1", "z/1"))
+        same_environment(unloaded, changed(loaded, rest), "the environment with four modules")
+        other = {"GCC": "10", **lists("mpi/1", "b/1", "z/1", "gcc/10")}
+        same_environment(switched, changed(unloaded, other), "the environment behind the switch")
+        same_environment(after, before, "the environment behind the purge")
+
     if by_program:
         named("prepends to path variables", paths_of_program)
+        named("switches, reports and purges", requests_of_program)
     named("finds programs by PATH", search_path)
     for name, values in values_of(shell):
         named(name, of_values(values))
