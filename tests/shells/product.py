@@ -306,9 +306,44 @@ def add_demo(prefixes):
             case(demonstrates)
 
 
+def add_names(prefixes):
+    """Adds what completion is told over the program."""
+
+    @case
+    def completion_offers_what_can_be_loaded_and_what_is(folder):
+        for name in ("foo/1.0", "foo/2.0", "bar/1"):
+            folder.module(name, "")
+        folder.file("foo/.version", "#%Module\nset ModulesVersion 1.0\n")
+        env = loaded(folder, "foo/1.0", "baz/3", PATH=os.environ["PATH"])
+
+        def names(*words, line=""):
+            command = ["sh", os.path.join(prefixes.program, "libexec", "names"), *words]
+            done = subprocess.run(command, env={**env, b"COMMAND_LINE": line.encode()}, capture_output=True, check=False)
+            same((done.stderr, done.returncode), (b"", 0), f"standard error and status of names {words}")
+            return done.stdout.decode().split("\n")[:-1]
+
+        same(names("avail"), ["bar/1", "foo/1.0", "foo/2.0"], "what can be loaded")
+        same(names("avail", "fo"), ["foo/1.0", "foo/2.0"], "what can be loaded and begins so")
+        same(names("loaded"), ["foo/1.0", "baz/3"], "what is loaded")
+        for line, wanted in (
+            ("module load fo", ["foo/1.0", "foo/2.0"]),
+            ("module show b", ["bar/1"]),
+            ("module whatis ", ["bar/1", "foo/1.0", "foo/2.0"]),
+            ("module unload f", ["foo/1.0", "baz/3"]),
+            ("module switch b", ["foo/1.0", "baz/3", "bar/1"]),
+            ("module switch foo b", ["bar/1"]),
+            ("module purge ", []),
+            ("ml -b", ["-foo/1.0", "-baz/3"]),
+        ):
+            same(names("line", line=line), wanted, f"what can stand at the end of {line!r}")
+        env[b"MODULEPATH"] = folder.program
+        same(names("avail"), [], "what can be loaded from no directory")
+
+
 def add(prefixes):
     """Adds the blocks of the README, each run as it stands by the shells that it is for."""
     add_demo(prefixes)
+    add_names(prefixes)
     for number, (language, block) in enumerate(readme_blocks()):
         is_function = "module() {" in block
         is_session = "/init/" in block and "module load" in block

@@ -288,9 +288,55 @@ def add(shell, prefixes, by_program):
         same_environment(switched, changed(unloaded, other), "the environment behind the switch")
         same_environment(after, before, "the environment behind the purge")
 
+    def versions_of_program(folder):
+        """A default file, the greatest version, and a conflict between two names of one command."""
+        session = Session(shell, folder, prefixes, {}, True)
+        for version in ("1.9", "1.10", "1.10-rc"):
+            folder.module(f"ver/{version}", f"setenv V {version}\n")
+        folder.module("k/1", "setenv K 1\n")
+        folder.module("n/1", "conflict k\n")
+        default = folder.file("ver/.version", '#%Module\nset ModulesVersion "1.9"\n').decode()
+        said = (
+            "ERROR: Conflict with 'k/1'\n"
+            f"{folder.modules.decode()}:\nver/1.9(default)\nver/1.10\nver/1.10-rc\n"
+            "No Modulefiles Currently Loaded.\n"
+        )
+        first = ["module load k n", "status", "show", "module avail ver", "module load ver", "show", "module unload ver"]
+        second = ["module list", f"/bin/rm '{default}'", "module load ver", "show", "module purge", "show"]
+        kept = session.keeps(["show", *first, *second], err=said.encode())
+        same(kept.statuses, ["1"], "the status of the refused load")
+        before, refused, named_one, greatest, after = kept.shown
+        same_environment(refused, before, "the environment behind the refusal")
+        for environment, version in ((named_one, "1.9"), (greatest, "1.10-rc")):
+            path = os.path.join(folder.modules, f"ver/{version}".encode()).decode()
+            lists = {"LOADEDMODULES": f"ver/{version}", "_LMFILES_": path}
+            same_environment(environment, changed(before, {"V": version, **lists}), f"the environment with {version}")
+        same_environment(after, before, "the environment after")
+
+    def newlines_of_program(folder):
+        """csh has no text for a newline: neither to set one, nor to give one back."""
+        session = Session(shell, folder, prefixes, {}, True, {"CC": "a\nb"})
+        folder.module("nl/1", 'setenv MSG "a\\nb"\n')
+        path = folder.module("push/1", "pushenv CC gcc\n").decode()
+        said = "ERROR: Value of '{}' can't be said in this shell\n"
+        stack = {"CC": "gcc", "__MODULES_PUSHENV_CC": "push/1&gcc:&a\nb"}
+        lines = ["show", "module load nl", "status", "show", "module load push", "status", "show"]
+        kept = session.keeps(lines, err=(said.format("MSG") + said.format("__MODULES_PUSHENV_CC")).encode())
+        same(kept.statuses, ["1", "1"], "the statuses of the refused loads")
+        same_environment(kept.shown[1], kept.shown[0], "the environment behind the first refusal")
+        same_environment(kept.shown[2], kept.shown[0], "the environment behind the second refusal")
+        variables = {**stack, "LOADEDMODULES": "push/1", "_LMFILES_": path}
+        session.env.update({name.encode(): value.encode() for name, value in variables.items()})
+        kept = session.keeps(["show", "module unload push", "status", "show"], err=said.format("CC").encode())
+        same(kept.statuses, ["1"], "the status of the refused unload")
+        same_environment(kept.shown[1], kept.shown[0], "the environment behind the refused unload")
+
     if by_program:
         named("prepends to path variables", paths_of_program)
         named("switches, reports and purges", requests_of_program)
+        named("chooses versions, and refuses a conflict", versions_of_program)
+        if not shell.has_newlines:
+            named("refuses to set a newline and to give one back", newlines_of_program)
     named("finds programs by PATH", search_path)
     for name, values in values_of(shell):
         named(name, of_values(values))
