@@ -12,6 +12,8 @@ import resource
 import subprocess
 import sys
 
+from tools import Tool
+
 COLLECTED = re.compile(rb"Collected *: *(\d+)")
 
 
@@ -36,6 +38,34 @@ def module(folder, name, text):
     with open(path, "w") as file:
         file.write("#%Module\n" + text)
     return path
+
+
+def names(count):
+    return [f"m{number}/1.0" for number in range(count)]
+
+
+def print_requests(folder, program):
+    """What loads of several names, unloads and reports cost beside one load."""
+    env = environment(folder)
+    for name in names(20):
+        module(folder, name, f"setenv {name[:-4].upper()} on\nprepend-path PATH /opt/{name}/bin\n")
+    tool = Tool("modulecmd", [program, "bash"])
+
+    def counted(words, env):
+        return instructions(folder, [program, "sh", *words], env)
+
+    sizes = (1, 5, 20)
+    growth("names of one load", [(count, counted(["load", *names(count)], env)) for count in sizes])
+    loaded = [(count, tool.run(["load", *names(count)], env)) for count in sizes]
+    growth("modules of one purge", [(count, counted(["purge"], after)) for count, after in loaded])
+    growth("modules of one list", [(count, counted(["list"], after)) for count, after in loaded])
+    growth("modules beside an unload of one", [(count, counted(["unload", "m0"], after)) for count, after in loaded])
+    rows = []
+    for count in (200, 2000, 20000):
+        for number in range(count):
+            module(folder, f"{count}/name{number // 5}/{number % 5}.0", "")
+        rows.append((count, counted(["avail"], {**env, "MODULEPATH": os.path.join(folder, "m", str(count))})))
+    growth("files of one avail", rows)
 
 
 def environment(folder, variables=0, entries=0, counter=1):
@@ -106,3 +136,4 @@ def print_instructions(folder, null, program):
             module(folder, name, "".join(form.format(number) for number in range(count)))
             rows.append((count, load(name, environment(folder))))
         growth(title, rows)
+    print_requests(folder, program)

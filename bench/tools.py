@@ -36,10 +36,11 @@ class Null:
 class Tool:
     """A program that prints text for a shell."""
 
-    def __init__(self, title, words, cannot="fails"):
+    cannot = "fails"
+
+    def __init__(self, title, words):
         self.title = title
         self.words = words
-        self.cannot = cannot
         self.starts = {}
 
     def command(self, row):
@@ -93,7 +94,7 @@ def first(*patterns):
 
 def find_tools(program):
     """This program, and those that are installed or unpacked."""
-    found = [Tool("modulecmd", [program, "bash"], "not yet")]
+    found = [Tool("modulecmd", [program, "bash"])]
     modules = first(
         "/usr/lib/*/modulecmd.tcl",
         "/usr/share/Modules/libexec/modulecmd.tcl",
