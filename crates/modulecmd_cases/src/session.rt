@@ -1,11 +1,27 @@
 //! Calls over one tree and one environment.
+use crate::failing::{Failing, Poor};
+use crate::shown::{
+    differences, exit_name, held, marked, shown_done, shown_outcome, shown_refusal, variables,
+};
 use crate::words::{meant, number, parted, words};
 use crate::writers::{Limited, kind};
 use anyhow::Result;
-use lookup::{MemoryTree, locate};
-use modulecmd::{Env, Exit, environment_of, modulecmd, run_command};
-use modules::{Limits, Refusal, Reply, Shell, request, run};
-use std::alloc::{AllocError, Global};
+use environment::{Vars, changes};
+use lookup::{MemoryTree, Tree};
+use modulecmd::{
+    CommandFault, environment_of, modulecmd, print_changes, run_command, write_refusal,
+};
+use modules::{Changed, Env, Limits, Refusal, Request, Shell, request, run, run_changes, session};
+use std::alloc::Global;
+
+const STANDARD: Limits = Limits {
+    commands: 100_000,
+    depth: 200,
+    value_bytes: 1_048_576,
+};
+
+/// How many reads and listings a command of the rows makes at most.
+const MOST_CALLS: u64 = 100;
 
 /// What calls share.
 #[derive(Drop)]
@@ -16,30 +32,61 @@ pub(crate) struct Session {
     limits: Limits,
 }
 
-/// The variables of an environment, a line each, in the order of their names.
-fn variables(alloc: Global, env: &Env) -> Result<String> {
+/// What a command wrote, and its status.
+#[derive(Drop)]
+struct Written {
+    out: String,
+    err: String,
+    status: u8,
+}
+
+impl Written {
+    fn shown(&self, alloc: Global) -> Result<String> {
+        let err = marked(alloc, "! ", self.err.as_str())?;
+        let out = self.out.as_str();
+        let status = self.status;
+        Ok(format!(in alloc; "{out}{err}= {status}\n")?)
+    }
+}
+
+/// Runs a command over a tree.
+fn command<T: Tree>(alloc: Global, args: &[String], env: &Env, tree: &mut T) -> Result<Written> {
+    let mut out = Vec::new(alloc);
+    let mut err = Vec::new(alloc);
+    let status = modulecmd(alloc, args, env.copy()?, tree, &mut out, &mut err);
+    Ok(Written {
+        out: held(alloc, out.as_slice())?,
+        err: held(alloc, err.as_slice())?,
+        status,
+    })
+}
+
+/// The requests of a line, parted by commas, for sh.
+fn requests(alloc: Global, line: &str) -> Result<Vec<Request>> {
+    let mut requests = Vec::new(alloc);
+    for part in line.split(',') {
+        let words = words(alloc, part)?;
+        requests.push(request(alloc, Shell::Sh, words.as_slice())?)?;
+    }
+    Ok(requests)
+}
+
+/// Runs requests one after another, and shows what came of each, and the difference of what they leave.
+fn shown_session<T: Tree>(alloc: Global, line: &str, env: &Env, tree: &mut T) -> Result<String> {
+    let requests = requests(alloc, line)?;
+    let (after, outcomes) = session(alloc, requests.as_slice(), env.copy()?, tree, STANDARD)?;
     let mut text = String::new(alloc);
-    for name in &env.names()? {
-        let value = env.get(name.as_str()).unwrap_or("");
-        text.push_str(name.as_str())?;
-        text.push('=')?;
-        text.push_str(value)?;
-        text.push('\n')?;
+    for outcome in &outcomes {
+        text.push_str(shown_outcome(alloc, outcome)?.as_str())?;
+    }
+    let difference = changes(alloc, env, &after)?;
+    if difference.is_empty() {
+        text.push_str("the start\n")?;
+    } else {
+        text.push_str("in the end\n")?;
+        text.push_str(differences(alloc, difference.as_slice())?.as_str())?;
     }
     Ok(text)
-}
-
-/// What a writer holds.
-fn shown(alloc: Global, held: &[u8]) -> Result<String, AllocError> {
-    String::from_str(alloc, str::from_utf8(held).unwrap_or("not UTF-8"))
-}
-
-fn exit_name(exit: Exit) -> &'static str {
-    match exit {
-        Exit::Success => "success",
-        Exit::Told => "told",
-        Exit::CutShort => "cut short",
-    }
 }
 
 impl Session {
@@ -48,11 +95,7 @@ impl Session {
             alloc,
             tree: MemoryTree::new(alloc),
             env: Env::new(alloc),
-            limits: Limits {
-                commands: 100_000,
-                depth: 200,
-                value_bytes: 1_048_576,
-            },
+            limits: STANDARD,
         }
     }
 
@@ -60,29 +103,55 @@ impl Session {
     pub(crate) fn answer(&mut self, line: &str) -> Result<String> {
         let (verb, rest) = parted(line);
         match verb {
-            "file" => self.put(rest, b""),
-            "bytes" => self.put(rest, b"\xc3"),
+            "new" => self.clear(),
+            "module" => self.put("#%Module\n", rest, b"\n"),
+            "file" => self.put("", rest, b""),
+            "bytes" => self.put("", rest, b"\xc3"),
+            "dir" => self.put_directory(rest),
             "from" => self.begin(rest),
             "limits" => self.limit(rest),
+            "vars" => variables(self.alloc, &self.env),
             "run" => self.run(rest),
+            "go" => self.go(rest),
             "ask" => self.ask(rest),
+            "session" => shown_session(self.alloc, rest, &self.env, &mut self.tree),
+            "poor" => self.poor(rest),
             "write" => self.write(rest),
-            "find" => self.find(rest),
-            _ => Ok(String::from_str(self.alloc, "no such call")?),
+            "failing" => self.failing(rest),
+            "refused" => self.refused(rest),
+            _ => Ok(String::from_str(self.alloc, "no such call\n")?),
         }
     }
 
-    fn put(&mut self, rest: &str, behind: &[u8]) -> Result<String> {
+    fn clear(&mut self) -> Result<String> {
+        self.tree = MemoryTree::new(self.alloc);
+        Ok(String::new(self.alloc))
+    }
+
+    fn put(&mut self, before: &str, rest: &str, behind: &[u8]) -> Result<String> {
         let (path, text) = parted(rest);
-        let mut bytes = meant(self.alloc, text)?.into_bytes();
+        let mut bytes = Vec::from_slice(self.alloc, before.as_bytes())?;
+        bytes.extend_from_slice(meant(self.alloc, text)?.as_bytes())?;
         bytes.extend_from_slice(behind)?;
-        self.tree.put_file(path, bytes.as_slice())?;
+        let path = meant(self.alloc, path)?;
+        self.tree.put_file(path.as_str(), bytes.as_slice())?;
+        Ok(String::new(self.alloc))
+    }
+
+    fn put_directory(&mut self, rest: &str) -> Result<String> {
+        let (path, rest) = parted(rest);
+        let names = words(self.alloc, rest)?;
+        let mut texts = Vec::new(self.alloc);
+        for name in &names {
+            texts.push(name.as_str())?;
+        }
+        self.tree.put_directory(path, texts.as_slice())?;
         Ok(String::new(self.alloc))
     }
 
     fn begin(&mut self, rest: &str) -> Result<String> {
         let mut block = Vec::new(self.alloc);
-        for entry in rest.split(' ') {
+        for entry in &words(self.alloc, rest)? {
             block.extend_from_slice(entry.as_bytes())?;
             block.push(0)?;
         }
@@ -94,44 +163,78 @@ impl Session {
         let (commands, rest) = parted(rest);
         let (depth, bytes) = parted(rest);
         self.limits = Limits {
-            commands: commands.parse::<u64>().unwrap_or(0),
-            depth: depth.parse::<u32>().unwrap_or(0),
-            value_bytes: number(bytes),
+            commands: number(commands),
+            depth: u32::try_from(number(depth)).unwrap_or(0),
+            value_bytes: usize::try_from(number(bytes)).unwrap_or(0),
         };
         Ok(String::new(self.alloc))
     }
 
     fn run(&mut self, rest: &str) -> Result<String> {
         let args = words(self.alloc, rest)?;
-        let mut out = Vec::new(self.alloc);
-        let mut err = Vec::new(self.alloc);
-        let status = modulecmd(
-            self.alloc,
-            args.as_slice(),
-            self.env.copy()?,
-            &mut self.tree,
-            &mut out,
-            &mut err,
-        );
-        let out = shown(self.alloc, out.as_slice())?;
-        let err = shown(self.alloc, err.as_slice())?;
-        Ok(format!(in self.alloc; "{out}{err}= {status}")?)
+        command(self.alloc, args.as_slice(), &self.env, &mut self.tree)?.shown(self.alloc)
     }
 
-    fn reply(&mut self, rest: &str) -> Result<Reply, Refusal> {
+    fn go(&mut self, rest: &str) -> Result<String> {
+        let args = words(self.alloc, rest)?;
+        let written = command(self.alloc, args.as_slice(), &self.env, &mut self.tree)?;
+        let mut text = written.shown(self.alloc)?;
+        if written.status == 0 {
+            text.push_str(self.follow(args.as_slice(), written.out.as_str())?)?;
+        }
+        Ok(text)
+    }
+
+    /// Goes on from what an accepted command makes of the variables, and says what differs between the calls that run it.
+    fn follow(&mut self, args: &[String], out: &str) -> Result<&'static str> {
+        let [word, words @ ..] = args else {
+            return Ok("no shell\n");
+        };
+        let Some(shell) = Shell::named(word.as_str()) else {
+            return Ok("no shell\n");
+        };
+        let request = request(self.alloc, shell, words)?;
+        let changed = run_changes(self.alloc, &request, &self.env, &mut self.tree, STANDARD)?;
+        let reply = run(self.alloc, &request, &self.env, &mut self.tree, STANDARD)?;
+        let said = print_changes(self.alloc, shell, changed.changes.as_slice())?;
+        let difference = changes(self.alloc, &self.env, &reply.env)?;
+        let by_difference = print_changes(self.alloc, shell, difference.as_slice())?;
+        self.env.apply(changed.changes)?;
+        let left = changes(self.alloc, &self.env, &reply.env)?;
+        if said.as_str() != out {
+            return Ok("run_changes says another text\n");
+        }
+        if by_difference.as_str() != out || !left.is_empty() {
+            return Ok("run leaves another environment\n");
+        }
+        Ok("")
+    }
+
+    /// What a request for sh changes.
+    fn changed(&mut self, rest: &str) -> Result<Changed, Refusal> {
         let args = words(self.alloc, rest)?;
         let request = request(self.alloc, Shell::Sh, args.as_slice())?;
-        run(self.alloc, &request, &self.env, &mut self.tree, self.limits)
+        run_changes(self.alloc, &request, &self.env, &mut self.tree, self.limits)
     }
 
     fn ask(&mut self, rest: &str) -> Result<String> {
-        match self.reply(rest) {
-            Ok(reply) => variables(self.alloc, &reply.env),
-            Err(refusal) => {
-                let number = refusal.number();
-                Ok(format!(in self.alloc; "{number} {refusal}")?)
+        match self.changed(rest) {
+            Ok(changed) => {
+                let mut text = differences(self.alloc, changed.changes.as_slice())?;
+                text.push_str(shown_done(self.alloc, &changed.done)?.as_str())?;
+                Ok(text)
             }
+            Err(refusal) => Ok(shown_refusal(self.alloc, &refusal)?),
         }
+    }
+
+    fn poor(&mut self, rest: &str) -> Result<String> {
+        let (path, rest) = parted(rest);
+        let mut tree = Poor {
+            tree: &mut self.tree,
+            path,
+        };
+        shown_session(self.alloc, rest, &self.env, &mut tree)
     }
 
     fn write(&mut self, rest: &str) -> Result<String> {
@@ -149,24 +252,51 @@ impl Session {
             &mut out,
             &mut err,
         );
-        let out = shown(self.alloc, out.held.as_slice())?;
-        let err = shown(self.alloc, err.held.as_slice())?;
+        let out = held(self.alloc, out.held.as_slice())?;
+        let err = held(self.alloc, err.held.as_slice())?;
         let how = exit_name(exit);
-        Ok(format!(in self.alloc; "{how} [{out}] [{err}]")?)
+        let status = exit.status();
+        Ok(format!(in self.alloc; "{how} {status} [{out}] [{err}]\n")?)
     }
 
-    fn find(&mut self, rest: &str) -> Result<String> {
-        let (modulepath, name) = parted(rest);
-        match locate(self.alloc, &mut self.tree, modulepath, name) {
-            Ok(found) => {
-                let name = found.name.as_str();
-                let path = found.path.as_str();
-                Ok(format!(in self.alloc; "{name} at {path}")?)
+    /// Runs a command while each call of its tree in turn fails, up to the first that no call is left for.
+    fn failing(&mut self, rest: &str) -> Result<String> {
+        let args = words(self.alloc, rest)?;
+        let mut text = String::new(self.alloc);
+        let mut last = String::new(self.alloc);
+        for left in 0..MOST_CALLS {
+            let mut tree = Failing {
+                tree: &mut self.tree,
+                left,
+                has_failed: false,
+            };
+            let written = command(self.alloc, args.as_slice(), &self.env, &mut tree)?;
+            let has_failed = tree.has_failed;
+            let shown = written.shown(self.alloc)?;
+            if shown.as_str() != last.as_str() {
+                text.push_str(shown.as_str())?;
             }
-            Err(fault) => {
-                let number = fault.number();
-                Ok(format!(in self.alloc; "{number} {fault}")?)
+            last = shown;
+            if !has_failed {
+                return Ok(text);
             }
         }
+        text.push_str("too many calls\n")?;
+        Ok(text)
+    }
+
+    fn refused(&mut self, rest: &str) -> Result<String> {
+        let (kind, word) = parted(rest);
+        let word = meant(self.alloc, word)?;
+        let fault = match kind {
+            "shell" => CommandFault::UnknownShell(word),
+            "write" => CommandFault::WriteFailed,
+            _ => CommandFault::Refused(Refusal::OutOfMemory),
+        };
+        let mut err = Vec::new(self.alloc);
+        let is_whole = write_refusal(&fault, &mut err).is_ok();
+        let number = fault.number();
+        let line = held(self.alloc, err.as_slice())?;
+        Ok(format!(in self.alloc; "{number} {is_whole} {line}")?)
     }
 }

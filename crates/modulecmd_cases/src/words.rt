@@ -1,27 +1,50 @@
 //! The words of calls.
 use std::alloc::{AllocError, Global};
 
-/// The words of a line, parted by blanks; `''` is empty.
+/// The words of a line, parted by blanks, as they are meant; `''` is empty. A line without a text has none.
 pub(crate) fn words(alloc: Global, line: &str) -> Result<Vec<String>, AllocError> {
     let mut words = Vec::new(alloc);
     for word in line.split(' ') {
-        let word = if word == "''" { "" } else { word };
-        words.push(String::from_str(alloc, word)?)?;
+        match word {
+            "" => {}
+            "''" => words.push(String::new(alloc))?,
+            word => words.push(meant(alloc, word)?)?,
+        }
     }
     Ok(words)
 }
 
+/// The character that is meant by this one behind a backslash.
+fn meant_by(c: char) -> char {
+    match c {
+        'n' => '\n',
+        't' => '\t',
+        's' => ' ',
+        'z' => '\0',
+        other => other,
+    }
+}
+
 /// A text as it is meant.
 pub(crate) fn meant(alloc: Global, text: &str) -> Result<String, AllocError> {
-    let text = text.replace(alloc, "\\\\", "\0")?;
-    let text = text.replace(alloc, "\\n", "\n")?;
-    let text = text.replace(alloc, "\\t", "\t")?;
-    text.replace(alloc, "\0", "\\")
+    let mut out = String::new(alloc);
+    let mut is_behind = false;
+    for c in text.chars() {
+        if is_behind {
+            out.push(meant_by(c))?;
+            is_behind = false;
+        } else if c == '\\' {
+            is_behind = true;
+        } else {
+            out.push(c)?;
+        }
+    }
+    Ok(out)
 }
 
 /// The number that a word spells, or 0.
-pub(crate) fn number(word: &str) -> usize {
-    word.parse::<usize>().unwrap_or(0)
+pub(crate) fn number(word: &str) -> u64 {
+    word.parse::<u64>().unwrap_or(0)
 }
 
 /// The first word and the text behind it.

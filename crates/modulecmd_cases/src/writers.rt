@@ -9,12 +9,12 @@ use std::io::{ErrorKind, Write};
 #[derive(Drop)]
 pub(crate) struct Limited {
     pub(crate) held: Vec<u8>,
-    room: usize,
+    room: u64,
     fails_with: ErrorKind,
 }
 
 impl Limited {
-    pub(crate) fn new(alloc: Global, room: usize, fails_with: ErrorKind) -> Limited {
+    pub(crate) fn new(alloc: Global, room: u64, fails_with: ErrorKind) -> Limited {
         Limited {
             held: Vec::new(alloc),
             room,
@@ -27,8 +27,9 @@ impl Write for Limited {
     ghost contents = { λ w. Some w.held.items };
 
     fn write(&mut self, buf: &[u8]) -> io::Result<usize> {
-        let left = self.room.saturating_sub(self.held.len());
-        let n = buf.len().min(3).min(left);
+        let held = self.held.len() as u64;
+        let left = self.room.saturating_sub(held).min(3) as usize;
+        let n = buf.len().min(left);
         if n == 0 {
             if self.fails_with == ErrorKind::WriteZero {
                 return Ok(0);

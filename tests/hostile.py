@@ -1,0 +1,651 @@
+"""What the built program does with hostile folders, files, names, variables and scripts.
+
+    python3 -B tests/hostile.py PROGRAM
+
+The expected texts are typed by hand from the rules of the program. Whatever is there, a command ends in time: by status
+0, or by status 1 with one line `ERROR: ` and nothing on standard output.
+"""
+
+import os
+import random
+import resource
+import socket
+import subprocess
+import sys
+import time
+
+from harness import FOO, NOBODY, case, encoded, run_all, same, true
+
+SECONDS = 20
+MOST_BYTES = 1_048_576
+COOKIE = b"#%Module\n"
+
+
+def within(folder, words, env, cwd=None, user=None):
+    """Runs the program, which has to end by itself."""
+    options = {"user": user, "group": user, "extra_groups": []} if user is not None and os.geteuid() == 0 else {}
+    return subprocess.run(
+        [folder.program, *[os.fsencode(word) for word in words]],
+        env=env,
+        cwd=cwd,
+        stdin=subprocess.DEVNULL,
+        capture_output=True,
+        timeout=SECONDS,
+        check=False,
+        **options,
+    )
+
+
+def ends_well(folder, words, env, what):
+    """The program is accepted or refuses, and says so as it should."""
+    done = within(folder, words, env)
+    true(done.returncode in (0, 1), f"{what}: status {done.returncode}")
+    if done.returncode == 1:
+        same(done.stdout, b"", f"standard output of {what}")
+        true(done.stderr.startswith(b"ERROR: ") and done.stderr.endswith(b"\n"), f"{what}: {done.stderr!r}")
+    return done
+
+
+def path_of(*folders):
+    """An environment with this MODULEPATH alone."""
+    return encoded({"MODULEPATH": b":".join(os.fsencode(folder) for folder in folders)})
+
+
+def lists_of(name, path):
+    """The two lines of a load of the first module."""
+    return (
+        b"LOADEDMODULES='" + name + b"'; export LOADEDMODULES;\n",
+        b"_LMFILES_='" + path + b"'; export _LMFILES_;\n",
+    )
+
+
+def loads(folder, typed, name, path, env, more=b"", cwd=None):
+    """The module is found there, and its load prints the lists, behind what is more."""
+    done = within(folder, ["sh", "load", typed], env, cwd=cwd)
+    name = name if isinstance(name, bytes) else os.fsencode(name)
+    names, paths = lists_of(name, path)
+    same(done.stderr, b"", f"standard error of load {typed!r}")
+    same(done.stdout, names + more + paths, f"standard output of load {typed!r}")
+    same(done.returncode, 0, f"status of load {typed!r}")
+
+
+def reports(folder, words, text, env, cwd=None):
+    """The command reports exactly this, and prints no change."""
+    done = within(folder, words, env, cwd=cwd)
+    same(done.stdout, b"", f"standard output of {words}")
+    same(done.stderr, text if isinstance(text, bytes) else text.encode(), f"standard error of {words}")
+    same(done.returncode, 0, f"status of {words}")
+
+
+# Links.
+
+
+@case
+def a_ring_of_links_in_modulepath(folder):
+    ring = os.path.join(folder.path, b"ring")
+    os.symlink(b"gnir", ring)
+    os.symlink(b"ring", os.path.join(folder.path, b"gnir"))
+    folder.module("foo/1", "setenv A b\n")
+    for env in (path_of(ring), path_of(ring, folder.modules), path_of(os.path.join(ring, b"x"), folder.modules)):
+        folder.refuses(["sh", "load", "foo/1"], "Reading failed", env=env)
+        folder.refuses(["sh", "avail"], "Reading failed", env=env)
+    names, paths = lists_of(b"foo/1", folder.at("foo/1"))
+    env = path_of(folder.modules, ring)
+    folder.accepts(["sh", "load", "foo/1"], b"A='b'; export A;\n" + names + paths, env=env)
+
+
+@case
+def a_ring_of_links_among_versions(folder):
+    folder.module("d/1", "setenv A b\n")
+    os.symlink("3", folder.at("d/2"))
+    os.symlink("2", folder.at("d/3"))
+    folder.refuses(["sh", "load", "d"], "Reading failed")
+    folder.refuses(["sh", "load", "d/2"], "Reading failed")
+    folder.refuses(["sh", "avail"], "Reading failed")
+    loads(folder, "d/1", "d/1", folder.at("d/1"), folder.environment(A="b"))
+
+
+@case
+def a_ring_of_links_as_default_file(folder):
+    folder.module("d/1", "")
+    os.symlink(".modulerc", folder.at("d/.modulerc"))
+    folder.refuses(["sh", "load", "d"], "Reading failed")
+    loads(folder, "d/1", "d/1", folder.at("d/1"), folder.environment())
+
+
+@case
+def a_folder_that_links_to_itself(folder):
+    folder.module("loop/a", "")
+    os.symlink(".", folder.at("loop/loop"))
+    text = folder.modules + b":\nloop/a\nloop/loop/a\nloop/loop/loop/a\n"
+    reports(folder, ["sh", "avail"], text, folder.environment())
+    loads(folder, "loop", "loop/a", folder.at("loop/a"), folder.environment())
+    loads(folder, "loop/loop", "loop/loop/a", folder.modules + b"/loop/loop/a", folder.environment())
+
+
+@case
+def dangling_links(folder):
+    os.symlink("nothing", folder.at("d/2"))
+    os.symlink("nothing", folder.at("d/.modulerc"))
+    folder.refuses(["sh", "load", "d"], "Unable to locate a modulefile for 'd'")
+    reports(folder, ["sh", "avail"], "", folder.environment())
+    folder.module("d/1", "")
+    loads(folder, "d", "d/1", folder.at("d/1"), folder.environment())
+    reports(folder, ["sh", "avail"], folder.modules + b":\nd/1\n", folder.environment())
+
+
+# Other things than files and folders.
+
+
+@case
+def a_folder_where_a_file_should_be(folder):
+    folder.module("d/1/x", "setenv A b\n")
+    folder.module("e/9/y", "")
+    os.makedirs(folder.at("f/1"))
+    folder.refuses(["sh", "load", "d"], "Unable to locate a modulefile for 'd'")
+    folder.refuses(["sh", "load", "f/1"], "Unable to locate a modulefile for 'f/1'")
+    env = folder.environment(A="b")
+    loads(folder, "d/1", "d/1/x", folder.at("d/1/x"), env)
+    os.makedirs(folder.at("d/.modulerc"))
+    os.makedirs(folder.at("d/1/.version"))
+    loads(folder, "d/1", "d/1/x", folder.at("d/1/x"), env)
+    reports(folder, ["sh", "avail"], folder.modules + b":\nd/1/x\ne/9/y\n", env)
+    held = folder.environment(LOADEDMODULES="d/1", _LMFILES_=folder.at("d/1"))
+    folder.refuses(["sh", "unload", "d"], b"No file at '" + folder.at("d/1") + b"'", env=held)
+
+
+@case
+def a_file_where_a_folder_should_be(folder):
+    path = folder.module("foo/1", FOO)
+    for name in ("foo/1/x", "foo/1/x/y"):
+        folder.refuses(["sh", "load", name], f"Unable to locate a modulefile for '{name}'")
+    env = path_of(path, os.path.join(path, b"below"), b"/dev/null", b"/nowhere")
+    folder.refuses(["sh", "load", "foo/1"], "Unable to locate a modulefile for 'foo/1'", env=env)
+    reports(folder, ["sh", "avail"], "", env)
+
+
+@case
+def things_that_would_not_end(folder):
+    os.mkfifo(folder.at("d/9"))
+    os.symlink("/dev/zero", folder.at("d/8"))
+    os.symlink("/dev/tty", folder.at("d/7"))
+    listener = socket.socket(socket.AF_UNIX)
+    here = os.getcwd()
+    os.chdir(os.path.dirname(folder.at("d/6")))
+    listener.bind("6")
+    os.chdir(here)
+    os.mkfifo(folder.at("d/.modulerc"))
+    os.mkfifo(folder.at("d/.version"))
+    for version in ("9", "8", "7", "6"):
+        folder.refuses(["sh", "load", f"d/{version}"], f"Unable to locate a modulefile for 'd/{version}'")
+        path = folder.at(f"d/{version}")
+        env = folder.environment(LOADEDMODULES=f"d/{version}", _LMFILES_=path)
+        folder.refuses(["sh", "unload", "d"], b"No file at '" + path + b"'", env=env)
+    folder.refuses(["sh", "load", "d"], "Unable to locate a modulefile for 'd'")
+    folder.module("d/1", "")
+    loads(folder, "d", "d/1", folder.at("d/1"), folder.environment())
+    reports(folder, ["sh", "avail"], folder.modules + b":\nd/1\n", folder.environment())
+    fifo = path_of(folder.at("d/9"), folder.modules)
+    loads(folder, "d", "d/1", folder.at("d/1"), fifo)
+    listener.close()
+
+
+# What may not be read.
+
+
+@case
+def files_and_folders_that_may_not_be_read(folder):
+    folder.module("d/1", "")
+    os.chmod(folder.module("d/2", ""), 0)
+    folder.module("e/1", "")
+    os.chmod(folder.module("e/.modulerc", "module-version e/1 default\n"), 0)
+    folder.module("f/1", "")
+    os.chmod(os.path.dirname(folder.at("f/1")), 0o111)
+    folder.module("g/1", "")
+    os.chmod(os.path.dirname(folder.at("g/1")), 0)
+    env = folder.environment()
+    for name in ("d", "d/2", "e", "f", "g", "g/1"):
+        folder.refuses(["sh", "load", name], "Reading failed", env=env, user=NOBODY)
+    for name in ("d/1", "e/1", "f/1"):
+        done = folder.run("sh", "load", name, env=env, user=NOBODY)
+        same((done.stderr, done.returncode), (b"", 0), f"load {name}")
+    folder.refuses(["sh", "avail"], "Reading failed", env=env, user=NOBODY)
+    held = folder.environment(LOADEDMODULES="d/2", _LMFILES_=folder.at("d/2"))
+    folder.refuses(["sh", "unload", "d"], "Reading failed", env=held, user=NOBODY)
+    os.chmod(folder.modules, 0)
+    folder.refuses(["sh", "load", "d/1"], "Reading failed", env=env, user=NOBODY)
+    os.chmod(folder.modules, 0o755)
+    for name in ("f", "g"):
+        os.chmod(os.path.join(folder.modules, name.encode()), 0o755)
+
+
+# Names.
+
+
+@case
+def names_as_long_as_the_system_takes(folder):
+    name = "a" * 255
+    deep = "/".join(["b" * 255] * 4)
+    folder.module(name, "")
+    folder.module(deep, "")
+    loads(folder, name, name, folder.at(name), folder.environment())
+    loads(folder, deep, deep, folder.at(deep), folder.environment())
+    loads(folder, "b" * 255 + "/" + "b" * 255 + "/" + "b" * 255, deep, folder.at(deep), folder.environment())
+    text = folder.modules + b":\n" + name.encode() + b"\n" + deep.encode() + b"\n"
+    reports(folder, ["sh", "avail"], text, folder.environment())
+    for count in (256, 4096, 100_000):
+        folder.refuses(["sh", "load", "a" * count], "Reading failed")
+    long = "/".join(["a" * 255] * 5)
+    folder.refuses(["sh", "load", long], f"Bad module name '{long}'")
+
+
+@case
+def paths_longer_than_the_system_takes(folder):
+    folder.module("foo/1", "")
+    long = b"/x" * 2500
+    for env in (path_of(long), path_of(long, folder.modules)):
+        folder.refuses(["sh", "load", "foo/1"], "Reading failed", env=env)
+        folder.refuses(["sh", "avail"], "Reading failed", env=env)
+    loads(folder, "foo/1", "foo/1", folder.at("foo/1"), path_of(folder.modules, long))
+    long = folder.modules + b"/." * 1500
+    loads(folder, "foo", "foo/1", long + b"/foo/1", path_of(long))
+
+
+@case
+def ill_spelled_names_of_each_request(folder):
+    folder.module("foo/1", "")
+    names = ["..", "../foo", "foo/..", "foo/../foo/1", "/foo", "foo/", "foo//1", "/", "//", ".", "./foo", "foo/."]
+    names += ["", " ", "\n", "foo\n", "a b", "foo:foo", "foo&x", "a|b", "a\\b", "foo@1", "a/b/c/d/e", "\t", "foo\r"]
+    names += ["a\v", "a\f", "~/.x", ".x"]
+    for name in names:
+        for word in ("load", "unload", "show", "whatis", "add", "rm", "display"):
+            folder.refuses(["sh", word, name], f"Bad module name '{name}'")
+        folder.refuses(["sh", "swap", "foo", name], f"Bad module name '{name}'")
+        folder.refuses(["sh", "switch", name, "foo"], f"Bad module name '{name}'")
+        done = within(folder, ["sh", "avail", name], folder.environment())
+        same((done.stdout, done.returncode), (b"", 0), f"avail {name!r}")
+
+
+@case
+def odd_names_that_are_well_spelled(folder):
+    names = ["it's/$(x)", "-f/--help", "*/?", '"q"/{}', "a;b/#c", "é/€𝄞", "x/\u00a0", "x/\u2028", "\x01/\x7f"]
+    for name in [*names, "%/!", "~/^"]:
+        folder.module(name, "")
+        shown = name.encode().replace(b"'", b"'\\''")
+        loads(folder, name, shown, folder.modules.replace(b"'", b"'\\''") + b"/" + shown, folder.environment())
+        missing = name + "0"
+        folder.refuses(["sh", "load", missing], f"Unable to locate a modulefile for '{missing}'")
+
+
+@case
+def a_module_named_like_an_option(folder):
+    folder.module("-f", "")
+    folder.module("foo/--force", "")
+    loads(folder, "-f", "-f", folder.at("-f"), folder.environment())
+    loads(folder, "foo", "foo/--force", folder.at("foo/--force"), folder.environment())
+    folder.refuses(["sh", "load", "--force"], "Unable to locate a modulefile for '--force'")
+    folder.refuses(["sh", "load", "-"], "Unable to locate a modulefile for '-'")
+    folder.refuses(["sh", "load", "--", "-f"], "Unable to locate a modulefile for '--'")
+    folder.refuses(["sh", "-f", "load"], "Unknown subcommand '-f'")
+    folder.refuses(["--version"], "Unknown shell '--version'")
+    env = folder.environment(LOADEDMODULES="-f", _LMFILES_=folder.at("-f"))
+    folder.accepts(["sh", "unload", "-f"], b"unset LOADEDMODULES;\nunset _LMFILES_;\n", env=env)
+    reports(folder, ["sh", "list"], "Currently Loaded Modulefiles:\n-f\n", env)
+    reports(folder, ["sh", "avail", "-"], folder.modules + b":\n-f\n", folder.environment())
+    folder.module("c/1", "conflict -f\n")
+    folder.refuses(["sh", "load", "c/1"], "Bad arguments")
+
+
+@case
+def words_that_are_not_utf8(folder):
+    folder.module("foo/1", "")
+    for words in (
+        [b"sh", b"load", b"\xff"],
+        [b"sh", b"\xff"],
+        [b"\xff"],
+        [b"\xff", b"load"],
+        [b"sh", b"avail", b"\xc3"],
+        [b"sh", b"load", b"foo/1", b"\xed\xa0\x80"],
+        [b"sh", b"purge", b"\xff"],
+        [b"elvish", b"load", b"\xff"],
+    ):
+        folder.refuses(words, "Bad arguments")
+
+
+@case
+def entries_of_folders_that_are_passed_over(folder):
+    folder.module("d/1", "setenv A b\n")
+    for name in ("9 9", "9:9", "9&9", "9|9", "9\\9", "9@9", ".9", "9\n", "9\t"):
+        folder.module("d/" + name, "error x\n")
+    folder.module("a b/1", "")
+    folder.module(".git/1", "")
+    loads(folder, "d", "d/1", folder.at("d/1"), folder.environment(A="b"))
+    reports(folder, ["sh", "avail"], folder.modules + b":\nd/1\n", folder.environment())
+
+
+@case
+def entries_that_are_not_utf8(folder):
+    folder.module("d/1", "")
+    folder.module(b"d/\xff", b"")
+    folder.refuses(["sh", "load", "d"], "Reading failed")
+    folder.refuses(["sh", "avail"], "Reading failed")
+    loads(folder, "d/1", "d/1", folder.at("d/1"), folder.environment())
+
+
+# MODULEPATH.
+
+
+@case
+def no_modulepath(folder):
+    for env in ({}, encoded({"MODULEPATH": ""}), encoded({"MODULEPATH": ":::"}), encoded({"MODULEPATH": b"\xff"})):
+        folder.refuses(["sh", "load", "foo"], "Unable to locate a modulefile for 'foo'", env=env)
+        folder.refuses(["sh", "show", "foo"], "Unable to locate a modulefile for 'foo'", env=env)
+        reports(folder, ["sh", "avail"], "", env)
+        reports(folder, ["sh", "list"], "No Modulefiles Currently Loaded.\n", env)
+        reports(folder, ["sh", "purge"], "", env)
+        reports(folder, ["sh", "unload", "foo"], "", env)
+
+
+@case
+def repeated_entries(folder):
+    folder.module("foo/1", "")
+    env = path_of(folder.modules, folder.modules, folder.modules + b"/", folder.modules)
+    loads(folder, "foo", "foo/1", folder.at("foo/1"), env)
+    one = b":\nfoo/1\n"
+    text = (folder.modules + one) * 2 + folder.modules + b"/" + one + folder.modules + one
+    reports(folder, ["sh", "avail"], text, env)
+    loads(folder, "foo", "foo/1", folder.modules + b"//foo/1", path_of(folder.modules + b"/"))
+
+
+@case
+def relative_entries(folder):
+    folder.module("foo/1", "setenv A b\n")
+    env = encoded({"MODULEPATH": "m", "A": "b"})
+    loads(folder, "foo", "foo/1", b"m/foo/1", env, cwd=folder.path)
+    loads(folder, "foo", "foo/1", b"./foo/1", encoded({"MODULEPATH": ".", "A": "b"}), cwd=folder.modules)
+    loads(folder, "foo", "foo/1", b"../m/foo/1", encoded({"MODULEPATH": "../m", "A": "b"}), cwd=folder.modules)
+    reports(folder, ["sh", "avail"], "m:\nfoo/1\n", env, cwd=folder.path)
+    held = encoded({"A": "b", "LOADEDMODULES": "foo/1", "_LMFILES_": "m/foo/1"})
+    done = within(folder, ["sh", "unload", "foo"], held, cwd=folder.path)
+    same((done.stdout, done.stderr), (b"unset A;\nunset LOADEDMODULES;\nunset _LMFILES_;\n", b""), "an unload there")
+    done = within(folder, ["sh", "unload", "foo"], held, cwd=b"/")
+    same((done.stdout, done.stderr), (b"", b"ERROR: No file at 'm/foo/1'\n"), "an unload elsewhere")
+
+
+@case
+def a_modulepath_of_many_folders(folder):
+    folder.module("foo/1", "")
+    entries = [b"/nowhere/%d" % number for number in range(5000)]
+    loads(folder, "foo", "foo/1", folder.at("foo/1"), path_of(*entries, folder.modules))
+    reports(folder, ["sh", "avail"], folder.modules + b":\nfoo/1\n", path_of(*entries, folder.modules))
+
+
+# Large files and folders.
+
+
+@case
+def files_that_are_too_large(folder):
+    folder.module("big/1", b"#" * 2_000_000 + b"\n")
+    folder.refuses(["sh", "load", "big"], "Text is too long")
+    folder.refuses(["sh", "show", "big/1"], "Text is too long")
+    held = folder.environment(LOADEDMODULES="big/1", _LMFILES_=folder.at("big/1"))
+    folder.refuses(["sh", "unload", "big"], "Text is too long", env=held)
+    folder.file("plain/1", b"#" * 2_000_000)
+    folder.refuses(["sh", "load", "plain/1"], "Unable to locate a modulefile for 'plain/1'")
+    folder.module("d/1", "")
+    folder.module("d/.version", b"#" * 2_000_000 + b"\n")
+    folder.refuses(["sh", "load", "d"], b"Bad default file '" + folder.at("d/.version") + b"'")
+    loads(folder, "d/1", "d/1", folder.at("d/1"), folder.environment())
+    text = folder.modules + b":\nbig/1\nd/1\n"
+    reports(folder, ["sh", "avail"], text, folder.environment())
+
+
+@case
+def a_file_of_many_commands(folder):
+    count = 30_000
+    folder.module("many/1", "".join(f"setenv A{number} {number}\n" for number in range(count)))
+    done = within(folder, ["sh", "load", "many"], folder.environment())
+    same((done.stderr, done.returncode, done.stdout.count(b"\n")), (b"", 0, count + 2), "many commands")
+    folder.module("more/1", "set a b\n" * 100_001)
+    folder.refuses(["sh", "load", "more"], "Too many commands")
+    folder.module("full/1", "set a b\n" * 100_000)
+    loads(folder, "full", "full/1", folder.at("full/1"), folder.environment())
+
+
+@case
+def ten_thousand_versions(folder):
+    for number in range(10_000):
+        folder.module(f"many/{number}", "")
+    loads(folder, "many", "many/9999", folder.at("many/9999"), folder.environment())
+    text = folder.modules + b":\n" + b"".join(b"many/%d\n" % number for number in range(10_000))
+    reports(folder, ["sh", "avail"], text, folder.environment())
+    text = folder.modules + b":\nmany/999\n" + b"".join(b"many/999%d\n" % number for number in range(10))
+    reports(folder, ["sh", "avail", "many/999"], text, folder.environment())
+
+
+@case
+def folders_deeper_than_names(folder):
+    folder.module("a/b/c/d", "")
+    folder.module("e/f/g/h/i", "")
+    folder.module("/".join("p" * 60), "")
+    reports(folder, ["sh", "avail"], folder.modules + b":\na/b/c/d\n", folder.environment())
+    loads(folder, "a/b/c", "a/b/c/d", folder.at("a/b/c/d"), folder.environment())
+    for name in ("e/f/g/h", "e/f/g", "p/p/p/p"):
+        folder.refuses(["sh", "load", name], f"Unable to locate a modulefile for '{name}'")
+    folder.refuses(["sh", "load", "e/f/g/h/i"], "Bad module name 'e/f/g/h/i'")
+
+
+@case
+def many_names_in_one_command(folder):
+    count = 300
+    names = [f"m{number}/1" for number in range(count)]
+    for name in names:
+        folder.module(name, "prepend-path P /s\n")
+    done = within(folder, ["sh", "load", *names], folder.environment())
+    same((done.stderr, done.returncode), (b"", 0), "a load of many")
+    lines = done.stdout.split(b"\n")
+    same(lines[0], b"LOADEDMODULES='" + ":".join(names).encode() + b"'; export LOADEDMODULES;", "the list of many")
+    same(lines[1], b"P='/s'; export P;", "the path of many")
+    same(lines[3], b"__MODULES_SHARE_P='/s:%d'; export __MODULES_SHARE_P;" % count, "the counter of many")
+    held = folder.environment(
+        LOADEDMODULES=":".join(names),
+        _LMFILES_=b":".join(folder.at(name) for name in names),
+        P="/s",
+        __MODULES_SHARE_P=f"/s:{count}",
+    )
+    text = b"unset LOADEDMODULES;\nunset P;\nunset _LMFILES_;\nunset __MODULES_SHARE_P;\n"
+    for words in (["purge"], ["unload", *names], ["unload", *reversed(names)]):
+        folder.accepts(["sh", *words], text, env=held)
+
+
+# Default files.
+
+
+@case
+def default_files_without_end(folder):
+    folder.module("d/1", "")
+    folder.module("d/2", "")
+    path = folder.at("d/.modulerc")
+    for text in (
+        "while 1 {}\n",
+        "catch {while 1 {}}\n",
+        "proc f {} {f}\nf\n",
+        "catch {proc f {} {f}; f}\nmodule-version d/1 default\n",
+        "set s xx\nwhile 1 {append s $s}\n",
+        "[" * 300 + "]" * 300,
+        "exit\n",
+        "break\n",
+        "catch {exit}\nmodule-version d/1 default\n",
+        "setenv A b\n",
+        "module-version\n",
+        "module-version d/1\n",
+        "module-alias x d/1\n",
+        "module-tag x d/1\n",
+        "exec true\n",
+        b"\xff\n",
+        "set a {b",
+    ):
+        folder.module("d/.modulerc", text)
+        folder.refuses(["sh", "load", "d"], b"Bad default file '" + path + b"'")
+        loads(folder, "d/1", "d/1", folder.at("d/1"), folder.environment())
+        reports(folder, ["sh", "avail"], folder.modules + b":\nd/1\nd/2\n", folder.environment())
+    named = "module-version d/7 default\n"
+    for text in ("return\n", "continue\n", "puts stderr hi\n", named, "module-version e/1 default\n"):
+        folder.module("d/.modulerc", text)
+        loads(folder, "d", "d/2", folder.at("d/2"), folder.environment())
+    named = "module-version d/1 default\nreturn\n"
+    for text in (named, "module-version /1 default\n", "module-version ./1 x default y\n"):
+        folder.module("d/.modulerc", text)
+        loads(folder, "d", "d/1", folder.at("d/1"), folder.environment())
+        reports(folder, ["sh", "avail"], folder.modules + b":\nd/1(default)\nd/2\n", folder.environment())
+
+
+# Scripts.
+
+
+@case
+def scripts_that_nest(folder):
+    deep = "set s {}\nfor {set i 0} {$i < 300} {incr i} {set s [list if 1 $s]}\n"
+    rows = (
+        ("[" * 100, "Missing close-bracket at byte 108"),
+        ("[" * 201 + "]" * 201, "Text is nested too deeply"),
+        ("setenv A [expr {" + "-" * 201 + "1}]\n", "Text is nested too deeply"),
+        ("setenv A [expr {" + "(" * 201 + "1" + ")" * 201 + "}]\n", "Text is nested too deeply"),
+        ("setenv A [expr {" + "1+" * 201 + "1}]\n", "Text is nested too deeply"),
+        ("proc f {} {catch {f}; f}\nf\n", "Too many nested evaluations"),
+        ("proc f {n} {foreach i {1 2} {if 1 {switch a {a {f $n}}}}}\nf 1\n", "Too many nested evaluations"),
+        (deep + "eval $s\n", "'eval' is left out"),
+        (deep + "if 1 $s\n", "Too many nested evaluations"),
+        ("set s xx\nwhile 1 {append s $s}\n", "A value is too long"),
+        ("setenv A [string repeat x 1048577]\n", "A value is too long"),
+        ("setenv A [string repeat xyz 9223372036854775807]\n", "A value is too long"),
+        ("setenv A [string repeat x 9223372036854775808]\n", "A number is too large"),
+        ("catch {while 1 {}}\n", "Too many commands"),
+        ("catch {for {} 1 {} {}}\n", "Too many commands"),
+        ("setenv A [expr {9223372036854775807 * 2}]\n", "A number is too large"),
+        ("setenv A [expr {1 << 64}]\n", "A number is too large"),
+        ("{" * 500_000, "Missing close-brace at byte 9"),
+        ("setenv A " + "$a(" * 100 + "\n", "Bad character at byte 317"),
+    )
+    for number, (text, said) in enumerate(rows):
+        folder.module(f"nest/{number}", text)
+        folder.refuses(["sh", "load", f"nest/{number}"], said)
+    folder.module("nest/a", "setenv A [string repeat x 1048576]\n")
+    done = within(folder, ["sh", "load", "nest/a"], folder.environment())
+    same((done.stderr, done.returncode), (b"", 0), "the longest value")
+    true(done.stdout.startswith(b"A='" + b"x" * MOST_BYTES + b"'; export A;\n"), "the longest value is printed")
+    folder.module("nest/b", "setenv A [expr {" + "-" * 200 + "1}]\n")
+    loads(folder, "nest/b", "nest/b", folder.at("nest/b"), folder.environment(A="1"))
+
+
+@case
+def files_in_other_writings(folder):
+    folder.file("crlf/1", b"#%Module1.0\r\nsetenv A b\r\nprepend-path P /x\r\n")
+    more = b"P='/x'; export P;\n"
+    loads(folder, "crlf", "crlf/1", folder.at("crlf/1"), folder.environment(A="b"), more=more)
+    folder.file("bom/1", b"\xef\xbb\xbf" + COOKIE)
+    folder.file("utf16/1", COOKIE.decode().encode("utf-16"))
+    for name in ("bom/1", "utf16/1"):
+        folder.refuses(["sh", "load", name], f"Unable to locate a modulefile for '{name}'")
+    folder.file("only/1", b"#%Module")
+    folder.file("joined/1", b"#%Modulefile setenv A x\n")
+    folder.file("folded/1", b"#%Module \\\nsetenv A x\nsetenv A b\n")
+    for name in ("only/1", "joined/1", "folded/1"):
+        loads(folder, name, name, folder.at(name), folder.environment(A="b"))
+    folder.module("nul/1", b"setenv A b\0c\n")
+    folder.refuses(["sh", "load", "nul/1"], "Bad value of 'A'")
+    folder.module("nul/2", b"# \0\nset \0 b\nsetenv A ${\0}\n")
+    loads(folder, "nul/2", "nul/2", folder.at("nul/2"), folder.environment(A="b"))
+
+
+# Junk.
+
+
+PIECES = """setenv A P prepend-path append-path pushenv unsetenv remove-path conflict prereq { } [ ] " $ $A $env( ( ) ;
+\\ \\u {*} # if while 1 0 proc f catch foreach switch -- - -d : & expr + ** 9223372036854775808 1.5 string repeat list
+set env(HOME) a(b) ::x module module-info mode getenv é puts stderr""".split()
+PIECES += ["\n", "\n", " ", " ", "\\\n"]
+
+
+@case
+def files_of_junk(folder):
+    rng = random.Random(15)
+    for number in range(250):
+        text = "".join(rng.choice(PIECES) + rng.choice(["", " ", " "]) for _ in range(rng.randrange(1, 60)))
+        folder.module("junk/1", text)
+        word = rng.choice(["load", "show", "whatis", "load"])
+        ends_well(folder, ["sh", word, "junk"], folder.environment(), f"{word} of {text!r}, {number}")
+    for number in range(50):
+        text = bytes(rng.randrange(1, 256) for _ in range(rng.randrange(1, 200)))
+        folder.module("junk/1", text)
+        done = ends_well(folder, ["sh", "load", "junk"], folder.environment(), f"a load of {text!r}, {number}")
+        try:
+            text.decode()
+        except UnicodeDecodeError:
+            same(done.stderr, b"ERROR: Not UTF-8: '" + folder.at("junk/1") + b"'\n", f"a load of {text!r}")
+
+
+FIELDS = [*": :: & | \\ \\: a/1 b/1 /x /m/a/1 2 01 4294967296 a/1&b é .".split(), "", "x y"]
+REQUESTS = [["load", "b"], ["unload", "a"], ["load", "b", "a"], ["switch", "a", "b"], ["purge"], ["list"], ["avail"]]
+
+
+@case
+def variables_of_junk(folder):
+    folder.module("a/1", "prepend-path P /x\npushenv CC v\nsetenv A b\nconflict q\nprereq b\n")
+    folder.module("b/1", "append-path P /x /y\n")
+    rng = random.Random(16)
+    names = ["LOADEDMODULES", "_LMFILES_", "__MODULES_LMCONFLICT", "__MODULES_LMPREREQ", "P", "__MODULES_SHARE_P", "CC"]
+    names += ["__MODULES_PUSHENV_CC", "MODULEPATH", "A"]
+    for number in range(250):
+        env = folder.environment()
+        for name in names:
+            if rng.random() < 0.5:
+                env[name.encode()] = "".join(rng.choice(FIELDS) for _ in range(rng.randrange(6))).encode()
+        if rng.random() < 0.5:
+            env[b"LOADEDMODULES"], env[b"_LMFILES_"] = b"a/1:b/1", folder.at("a/1") + b":" + folder.at("b/1")
+        words = rng.choice(REQUESTS)
+        ends_well(folder, [rng.choice(["sh", "csh", "fish"]), *words], env, f"{words} in {env}, {number}")
+    for text in (b"\xff", b"a/1:\xff", bytes(range(1, 256))):
+        for name in names:
+            env = folder.environment()
+            env[name.encode()] = text
+            ends_well(folder, ["sh", "load", "b"], env, f"a load with {name} as {text!r}")
+    done = within(folder, ["sh", "load", "b/1"], {b"MODULEPATH": folder.modules, b"": b"x", b"P": b"\xff"})
+    same((done.stderr, done.returncode), (b"", 0), "a load beside odd entries")
+
+
+# The beginnings of files.
+
+FILES = (
+    "setenv FOO on\nprepend-path PATH /opt/foo/bin\n",
+    "prepend-path P /a:/b\n",
+    'append-path MANPATH ""\n',
+    "pushenv CC gcc\n",
+    "conflict k\n",
+    "prereq gcc\nsetenv MPI 1\n",
+    "if {[module-info mode load]} {setenv X 1}\n",
+    "setenv A {b",
+    'setenv MSG "a\\nb"\n',
+    'setenv Q "it\'s!"\n',
+)
+
+
+@case
+def beginnings_of_files(folder):
+    for number, text in enumerate(FILES):
+        whole = COOKIE + text.encode()
+        for end in range(len(whole)):
+            folder.file(f"part/{number}", whole[:end])
+            what = f"a load of {whole[:end]!r}"
+            done = ends_well(folder, ["sh", "load", f"part/{number}"], folder.environment(), what)
+            if end < len(COOKIE) - 1:
+                said = f"ERROR: Unable to locate a modulefile for 'part/{number}'\n"
+                same(done.stderr, said.encode(), what)
+
+
+if __name__ == "__main__":
+    resource.setrlimit(resource.RLIMIT_CORE, (0, 0))
+    start = time.time()
+    passed, failed = run_all(sys.argv[1])
+    print(f"hostile: {passed} passed, {failed} failed in {time.time() - start:.0f} s")
+    sys.exit(1 if failed else 0)
