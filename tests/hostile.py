@@ -14,7 +14,7 @@ import subprocess
 import sys
 import time
 
-from harness import FOO, NOBODY, case, encoded, run_all, same, true
+from harness import FOO, NOBODY, case, encoded, loaded, run_all, same, true
 
 SECONDS = 20
 MOST_BYTES = 1_048_576
@@ -410,6 +410,61 @@ def a_file_of_many_commands(folder):
     folder.refuses(["sh", "load", "more"], "Too many commands")
     folder.module("full/1", "set a b\n" * 100_000)
     loads(folder, "full", "full/1", folder.at("full/1"), folder.environment())
+
+
+@case
+def commands_of_many_words(folder):
+    many = 300_000
+    words = '{*}[string repeat "b " %d]' % many
+    folder.module("a/1", "")
+    folder.module("b/1", "")
+    held = loaded(folder, "a/1")
+    names, paths = (text.replace(b"'a/1'", b"'a/1:c/1'") for text in lists_of(b"a/1", folder.at("c/1")))
+    paths = paths.replace(folder.modules, folder.at("a/1") + b":" + folder.modules, 1)
+    written = b"__MODULES_LMCONFLICT='c/1&b'; export __MODULES_LMCONFLICT;\n"
+    for text in (f"conflict {words}\n", "conflict b\n" * 95_000, "while 1 {conflict b; if {[incr i] > 30000} break}\n"):
+        folder.module("c/1", text)
+        folder.accepts(["sh", "load", "c"], names + paths + written, env=held)
+        folder.refuses(["sh", "load", "b", "c"], "Conflict with 'b/1'", env=held)
+    folder.module("c/1", f"prereq {words}\n")
+    folder.refuses(["sh", "load", "c"], "Missing one of '" + " ".join(["b"] * many) + "'", env=held)
+    folder.module("c/1", f"prereq a {words}\n")
+    written = b"__MODULES_LMPREREQ='c/1&a" + b"|b" * many + b"'; export __MODULES_LMPREREQ;\n"
+    folder.accepts(["sh", "load", "c"], names + paths + written, env=held)
+    folder.module("c/1", "prereq a\n" * 99_000)
+    written = b"__MODULES_LMPREREQ='c/1" + b"&a" * 99_000 + b"'; export __MODULES_LMPREREQ;\n"
+    folder.accepts(["sh", "load", "c"], names + paths + written, env=held)
+    folder.module("c/1", f"prepend-path P {words}\nremove-path P {words}\nis-loaded {words}\nmodule-whatis {words}\n")
+    folder.accepts(["sh", "load", "c"], names + paths, env=held)
+    text = b"c/1: " + b" ".join([b"b"] * many) + b"\n"
+    reports(folder, ["sh", "whatis", "c"], text, held)
+    folder.module("c/1", f"append-path P {words}\n")
+    reports(folder, ["sh", "show", "c"], folder.at("c/1") + b":\nappend-path P b" + b":b" * (many - 1) + b"\n", held)
+
+
+@case
+def variables_of_many_parts(folder):
+    folder.module("a/1", "")
+    folder.module("x/1", "prepend-path P b\n")
+    base = loaded(folder, "x/1", "a/1")
+    for name, text, words, said in (
+        ("__MODULES_LMCONFLICT", "a/1&" + "&".join(["b"] * 60_000), ["load", "c/1"], ""),
+        ("__MODULES_LMCONFLICT", "a/1&" + "&".join(f"b{n}" for n in range(15_000)), ["unload", "x"], ""),
+        ("__MODULES_LMCONFLICT", "a/1&" + "&".join(["b"] * 60_000 + ["c"]), ["load", "c/1"], "Conflict with 'a/1'"),
+        ("__MODULES_LMPREREQ", "a/1&" + "&".join(["x"] * 60_000), ["unload", "x"], "Still needed by 'a/1'"),
+        ("__MODULES_LMPREREQ", "a/1&" + "|".join(["b"] * 59_000 + ["x"]), ["unload", "x"], "Still needed by 'a/1'"),
+        ("__MODULES_LMPREREQ", "a/1&" + "|".join(["b"] * 59_000 + ["x"]), ["purge"], ""),
+        ("__MODULES_LMPREREQ", ":" * 120_000, ["load", "c/1"], ""),
+        ("P", ":" * 120_000, ["load", "c/1"], ""),
+        ("__MODULES_SHARE_P", "b:2:" * 30_000, ["unload", "x"], ""),
+        ("__MODULES_PUSHENV_S", ":".join(f"o{n}&v" for n in range(13_000)), ["load", "c/1"], ""),
+        ("__MODULES_PUSHENV_S", "o&" + "\\" * 120_000, ["load", "c/1"], ""),
+        ("MODULEPATH", ":" * 120_000, ["load", "c/1"], "Unable to locate a modulefile for 'c/1'"),
+        ("MODULEPATH", ":".join(["/x"] * 40_000), ["load", "c"], "Unable to locate a modulefile for 'c'"),
+    ):
+        folder.module("c/1", "pushenv S v\nappend-path P b\n")
+        done = ends_well(folder, ["sh", *words], {**base, name.encode(): text.encode()}, f"{words} with a long {name}")
+        same(done.stderr, f"ERROR: {said}\n".encode() if said else b"", f"standard error of {words} with a long {name}")
 
 
 @case

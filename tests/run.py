@@ -34,6 +34,7 @@ SUITES = (
     ("sentence.py", "modulecmd", "40", "0", "tcsh"),
     ("sentence.py", "modulecmd", "40", "0", "fish"),
     ("memory.py", "modulecmd"),
+    ("hostile.py", "modulecmd"),
     ("search.py", "modulesearch_cases"),
     ("shells/run.py", "modulecmd"),
     ("allocations.py", "envstate_rows"),
