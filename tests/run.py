@@ -19,6 +19,7 @@ COUNTS = re.compile(r"(\d+) passed, (\d+) failed")
 # What the gate leaves in the folder out/ of a crate, by the name that the tests outside it know it by.
 PROGRAMS = {
     "modulecmd": ("modulecmd_main", "modulecmd_main"),
+    "modulecmd_cases": ("modulecmd_cases", "modulecmd_cases"),
     "tcltext_cases": ("tcltext_cases", "tcltext_cases"),
     "tclvalue_cases": ("tclvalue_cases", "tclvalue_cases"),
     "tcleval_cases": ("tcleval_cases", "tcleval_cases"),
@@ -34,6 +35,7 @@ SUITES = (
     ("sentence.py", "modulecmd", "40", "0", "tcsh"),
     ("sentence.py", "modulecmd", "40", "0", "fish"),
     ("memory.py", "modulecmd"),
+    ("numbers.py", "modulecmd_cases"),
     ("hostile.py", "modulecmd"),
     ("search.py", "modulesearch_cases"),
     ("shells/run.py", "modulecmd"),

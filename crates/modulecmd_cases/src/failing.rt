@@ -14,8 +14,7 @@ pub(crate) struct Failing<'a, T> {
 
 impl<T> Failing<'_, T> {
     /// Whether this call is the one that fails.
-    fn fails_now(&mut self) -> bool
-    {
+    fn fails_now(&mut self) -> bool {
         if self.has_failed {
             return false;
         }
