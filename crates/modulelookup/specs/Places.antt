@@ -1,0 +1,21 @@
+-- Where the module is that a name means.
+use Rattle.std.specs.Prelude.{Option, Result, Ok}
+use Rattle.modulename.specs.ModuleName.{Text}
+use Rattle.lookup.specs.Agreement.{Files, Listings}
+use Rattle.relations.specs.Relations.{Is, Then}
+use Rattle.modulesearch.specs.Reasons.{Reason}
+use Rattle.modulesearch.specs.DefaultFiles.{Left}
+use Rattle.modulesearch.specs.Found.{Module, Found}
+
+-- a module's full name, and the path of its file
+pub record Place : Type 0 where
+  pub name : Text
+  pub path : Text
+
+abbrev pub place_of : Module → Place
+place_of found = record { name = found.name; path = found.path }
+
+-- The place of the module that a name means along a MODULEPATH, or the reason that it means none.
+abbrev pub Located : (Text → Text → Option Left → Type 0) → Files → Listings → Text → Text → Result Place Reason → Type 0
+Located leaves files folders modulepath name =
+    Then (Found leaves files folders modulepath name) (λ found. Is (Ok (place_of found)))

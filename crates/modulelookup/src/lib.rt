@@ -1,0 +1,11 @@
+//! Which module a name means, and all modules along MODULEPATH, with default files by their evaluation.
+#![tactic(auto)]
+
+mod listings;
+mod places;
+
+pub use listings::{Listing, available};
+pub use lookup::{DiskTree, FindFault, MemoryTree, Tree, TreeFault};
+pub use moduleversion::version_order;
+pub use places::{Found, locate};
+pub use tclrules::Limits;
