@@ -1,4 +1,5 @@
 pub mod KeptLemmas
+pub mod DelimiterLemmas
 pub mod ListLemmas
 pub mod ReplyLemmas
 pub mod RunLemmas

@@ -12,6 +12,7 @@ use Rattle.tclrules.specs.declared.host.HostAnswer.TheVariants.{Done, Unknown, L
 use Rattle.modulefile.specs.RecordViews.{mode_view}
 use Rattle.modulefile.specs.Answers as answers
 use Rattle.modulerun.specs.declared.context.Context.{Context}
+use Rattle.modulerun.specs.declared.runner.Runner.{Runner}
 use Rattle.modulerun.specs.Journals.{SoFar}
 
 -- the context of a file that has done so much
@@ -32,13 +33,21 @@ context_with s c =
 abbrev pub told_with : SoFar → Vec (String Global) Global → Bool → Told
 told_with s messages asked = record { records = s.words; messages = texts_in messages; asked = asked }
 
+-- what a host was told, and the context of the file with what it has done
+abbrev pub told_by : {V : Type 0} → Runner V → Told
+told_by runner = told_with runner.journal runner.messages runner.asked
+
+abbrev pub context_of : {V : Type 0} → Runner V → answers.Context
+context_of runner = context_with runner.journal runner.context
+
 -- a message, with a newline or without
 abbrev pub message_of : Text → Bool → Text
 message_of text newline = if newline then text ++ 10 ∷ [] else text
 
 -- The host replies by this answer, and it is told; or memory runs out.
 abbrev pub Replies : Answer → HostAnswer → Told → Told → Type 0
-Replies answer (Done t) old new = (adds : oracle.Addition) × (asks : Bool) × IsTold answer (oracle.Done (string_bytes t) adds asks) old new
+Replies answer (Done t) old new =
+    (adds : oracle.Addition) × (asks : Bool) × IsTold answer (oracle.Done (string_bytes t) adds asks) old new
 Replies answer Unknown old new = (asks : Bool) × IsTold answer (oracle.Unknown asks) old new
 Replies answer (LeftOut name) old new = (asks : Bool) × IsTold answer (oracle.LeftOut (string_bytes name) asks) old new
 Replies answer (Refused n) old new = (asks : Bool) × IsTold answer (oracle.Refused n asks) old new

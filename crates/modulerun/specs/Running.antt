@@ -65,13 +65,14 @@ stop_of (Eval fault) = eval_stop fault
 stop_of BadArguments = Some (halted (halts.ByHost 56))
 stop_of (BadRecord fault) = option_map (λ reason. halted (halts.ByHost (record_number reason))) (fault_reason fault)
 
--- What a call returned is what the text comes to in the context, or want of memory. The environment after an accepted file is
--- the one that it left, and after a refused one the old one.
+-- What a call returned is what the text comes to in the context, or want of memory. The environment after an accepted
+-- file is the one that it left, and after a refused one the old one.
 abbrev pub RunsTo : Limits → answers.Context → Text → Result Ran RunFault → Environment → Type 0
 RunsTo limits c text (Ok ran) new = Runs limits c text (Ok (ran_view ran new))
 RunsTo limits c text (Err fault) new = (new ≡ c.start) × IfSome (stop_of fault) (λ stop. Runs limits c text (Err stop))
 
 -- The same of a file whose changes aren't made yet.
 abbrev pub Drafts : Limits → answers.Context → Text → Result Draft RunFault → Type 0
-Drafts limits c text (Ok draft) = Runs limits c text (Ok (ran_view draft.ran (applied (edits_in draft.changes) c.start)))
+Drafts limits c text (Ok draft) =
+    Runs limits c text (Ok (ran_view draft.ran (applied (edits_in draft.changes) c.start)))
 Drafts limits c text (Err fault) = IfSome (stop_of fault) (λ stop. Runs limits c text (Err stop))

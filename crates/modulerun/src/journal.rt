@@ -8,7 +8,7 @@ ghost use Rattle.modulerecords.specs.Effects.{effect, effects};
 ghost use Rattle.modulefile.specs.Calls.{keeps, call_of};
 ghost use Rattle.modulefile.specs.Answers.{records_in};
 ghost use Rattle.modulefile.specs.RecordViews.{mode_view, record_view, IsEdited};
-ghost use Rattle.modulerun.specs.Journals.{found, IsNoted};
+ghost use Rattle.modulerun.specs.Journals.{found, so_far_of, IsNoted};
 
 use crate::entry::Entry;
 use crate::made::copied;
@@ -17,8 +17,8 @@ use modulefile::{Mode, Record, RecordFault, effect};
 use std::alloc::{AllocError, Global};
 use std::marker::Model;
 
-/// The commands of a module's file that were accepted so far, and the environment that their records make of the one before the
-/// file, which stays as it is.
+/// The commands of a module's file that were accepted so far, and the environment that their records make of the one
+/// before the file, which stays as it is.
 pub(crate) struct Journal<'a, V: Vars> {
     alloc: Global,
     mode: Mode,
@@ -42,13 +42,13 @@ impl<'a, V: Vars> Drop for Journal<'a, V> {
 
 impl<'a, V: Vars> Model for Journal<'a, V> {
     ghost use Rattle.modulefile.specs.RecordViews.{mode_view};
-    ghost use Rattle.modulerun.specs.Journals.{SoFar, so_far_code, IsKept, words_of};
+    ghost use Rattle.modulerun.specs.Journals.{SoFar, so_far_of, so_far_code, IsKept, words_of};
 
     ghost Value = { SoFar };
 
     ghost coded = { so_far_code };
 
-    ghost view = { λ a. record { mode = a.mode; owner = a.owner.now; start = a.working.old; words = words_of a.entries.items } };
+    ghost view = { λ a. so_far_of a.mode a.owner.now a.working.old (words_of a.entries.items) };
 
     ghost invariant = { λ a. IsKept (mode_view a.mode) a.owner.now a.working.old a.working.new a.entries.items };
 }
@@ -104,7 +104,7 @@ fn records_of(alloc: Global, entries: Vec<Entry>) -> Result<Vec<Record>, AllocEr
 impl<'a, V: Vars> Journal<'a, V> {
     /// No command was accepted yet.
     pub(crate) fn over(alloc: Global, mode: Mode, owner: &'a str, start: &'a V) -> Self
-        ensures { result ≡ record { mode = mode; owner = owner.entry.now; start = V.vars start.entry.now; words = [] } }
+        ensures { result ≡ so_far_of mode owner.entry.now (V.vars start.entry.now) [] }
     {
         Journal {
             alloc,
@@ -164,8 +164,9 @@ impl<'a, V: Vars> Journal<'a, V> {
     /// The records, and what they changed.
     pub(crate) fn finish(self) -> Result<Made, EnvFault>
         ensures records { IfOk result (λ made. records_in self.entry.words ≡ Ok (map record_view made.records.items)) }
-        ensures changes { IfOk result (λ made. effects (mode_view self.entry.mode) self.entry.owner (map record_view made.records.items)
-            self.entry.start ≡ Ok (applied (edits_in made.changes) self.entry.start)) }
+        ensures changes { IfOk result (λ made. effects (mode_view self.entry.mode) self.entry.owner
+            (map record_view made.records.items) self.entry.start
+            ≡ Ok (applied (edits_in made.changes) self.entry.start)) }
     {
         let Journal {
             alloc,

@@ -1,5 +1,5 @@
-//! A modulefile evaluated: its commands done over an environment, from its text to its records and messages, or to why it is
-//! refused.
+//! A modulefile evaluated: its commands done over an environment, from its text to its records and messages, or to why
+//! it is refused.
 #![tactic(auto)]
 
 mod context;

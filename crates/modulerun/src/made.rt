@@ -61,7 +61,7 @@ pub(crate) fn push(alloc: Global, var: &str, value: &str) -> Result<Record, Allo
     Ok(Record::Push { var, value })
 }
 
-/// A path command. A call's delimiter is ASCII.
+/// A path command.
 pub(crate) fn path(
     alloc: Global,
     edit: PathEdit,
@@ -69,11 +69,10 @@ pub(crate) fn path(
     var: &str,
     values: &[String],
 ) -> Result<Record, AllocError>
-    ensures { IfOk result (λ r. record_view r ≡ edit_record edit delim var.now (elements_of delim (map string_bytes values.now))) }
+    requires { delim < 128 }
+    ensures { IfOk result (λ r. record_view r
+        ≡ edit_record edit delim var.now (elements_of delim (map string_bytes values.now))) }
 {
-    if delim > '~' {
-        return Err(AllocError);
-    }
     let var = String::from_str(alloc, var)?;
     let elements = elements(alloc, delim, values)?;
     Ok(Record::Path {

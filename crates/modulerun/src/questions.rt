@@ -62,7 +62,8 @@ fn is_meant(name: &str, loaded: &[String]) -> bool
 
 /// Whether one of the names means a loaded module.
 fn is_any_meant(names: &[String], loaded: &[String]) -> bool
-    ensures { result ≡ list_any (λ name. list_any (means name) (map string_bytes loaded.now)) (map string_bytes names.now) }
+    ensures { result
+        ≡ list_any (λ name. list_any (means name) (map string_bytes loaded.now)) (map string_bytes names.now) }
 {
     let mut rest = names;
     while let [name, after @ ..] = rest {

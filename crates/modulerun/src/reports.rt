@@ -27,13 +27,14 @@ fn listed_with<'a>(
     var: &'a str,
     value: &'a str,
 ) -> Result<String, AllocError>
-    ensures { IfOk result (λ t. string_bytes t ≡ list_text (command.now ∷ codes "--delim" ∷ delim.now ∷ var.now ∷ value.now ∷ [])) }
+    ensures { IfOk result (λ t. string_bytes t
+        ≡ list_text (command.now ∷ codes "--delim" ∷ delim.now ∷ var.now ∷ value.now ∷ [])) }
 {
     write_list(alloc, &[command, "--delim", delim, var, value])
 }
 
-/// A path command: the elements are one value, and the delimiter is told where it isn't the colon. It is ASCII in the record of
-/// each command.
+/// A path command: the elements are one value, and the delimiter is told where it isn't the colon. It is ASCII in the
+/// record of each command.
 fn shown_path(
     alloc: Global,
     command: &str,
@@ -41,7 +42,8 @@ fn shown_path(
     var: &str,
     elements: &[String],
 ) -> Result<String, AllocError>
-    ensures { IfOk result (λ t. string_bytes t ≡ list_text (path_words command.now delim var.now (map string_bytes elements.now))) }
+    ensures { IfOk result (λ t. string_bytes t
+        ≡ list_text (path_words command.now delim var.now (map string_bytes elements.now))) }
 {
     if delim > '~' {
         return Err(AllocError);
@@ -102,8 +104,8 @@ fn push_line(report: &mut String, text: &str) -> Result<(), AllocError>
     report.push('\n')
 }
 
-/// What is shown of a file by its path and records: a line of its path, and one for each record, its command and words in the
-/// writing of lists.
+/// What is shown of a file by its path and records: a line of its path, and one for each record, its command and words
+/// in the writing of lists.
 pub fn show_report(alloc: Global, path: &str, records: &[Record]) -> Result<String, AllocError>
     ensures { IfOk result (λ t. string_bytes t ≡ show_text path.now (map record_view records.now)) }
 {
@@ -120,7 +122,8 @@ pub fn show_report(alloc: Global, path: &str, records: &[Record]) -> Result<Stri
 
 /// Writes a description behind the module's name, where the record is one.
 fn push_description(report: &mut String, name: &str, kept: &Record) -> Result<(), AllocError>
-    ensures { OnOk result (string_bytes report.new ≡ string_bytes report.old ++ whatis_text name.now (record_view kept.now ∷ [])) }
+    ensures { OnOk result (string_bytes report.new
+        ≡ string_bytes report.old ++ whatis_text name.now (record_view kept.now ∷ [])) }
 {
     match kept {
         Record::Whatis(text) => {

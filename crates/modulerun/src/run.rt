@@ -14,8 +14,8 @@ use std::alloc::{AllocError, Global};
 use tcleval::evaluate;
 use tclrules::{EvalFault, Limits};
 
-/// What a file left that ended: the records of its commands, its messages, and whether it asked about the environment, the mode,
-/// the shell, the typed name or the loaded modules.
+/// What a file left that ended: the records of its commands, its messages, and whether it asked about the environment,
+/// the mode, the shell, the typed name or the loaded modules.
 #[derive(Debug, Drop)]
 pub struct Ran {
     pub records: Vec<Record>,
@@ -95,10 +95,12 @@ fn drafted<V: Vars>(
     }
 }
 
-/// Runs the text of a modulefile (modulefile(5)): its commands have their effects on the environment, in the mode at hand.
+/// Runs the text of a modulefile (modulefile(5)): its commands have their effects on the environment, in the mode at
+/// hand.
 ///
-/// Errors: want of memory; what ends the evaluation early (1 to 9 and 13 to 20); words that don't fit a command (56); and what a
-/// command may not name, or an effect that can't be had (32, 33, 34, 36, 37, 44). The environment is then as it was.
+/// Errors: want of memory; what ends the evaluation early (2 to 9 and 13 to 20); words that don't fit a command (56);
+/// and what a command may not name, or an effect that can't be had (32, 33, 34, 36, 37, 44). The environment is then as
+/// it was.
 pub fn run_file<V: Vars>(
     alloc: Global,
     context: &Context<'_>,

@@ -8,12 +8,13 @@ ghost use Rattle.modulerecords.specs.Judgments.{RecordReason, bad_edit};
 ghost use Rattle.modulefile.specs.Calls.{CallReason, bad_record, keeps, call_of};
 ghost use Rattle.modulefile.specs.CallViews.{HasReason, call_view, topic_view};
 ghost use Rattle.modulefile.specs.RecordViews.{mode_view, record_view, HasFault};
-ghost use Rattle.modulefile.specs.Answers.{answered, any_loaded, asked, not_done, read, topic_text, topic_test, value_shown};
+ghost use Rattle.modulefile.specs.Answers.{answered, any_loaded, asked, not_done, read, truth};
+ghost use Rattle.modulefile.specs.Answers.{topic_text, topic_test, value_shown};
 ghost use Rattle.modulefile.specs.Files.{ran_of};
 ghost use Rattle.modulerun.specs.declared.run_fault.RunFault.TheVariants.{OutOfMemory};
 ghost use Rattle.modulerun.specs.Running.{ran_view};
-ghost use Rattle.modulerun.specs.Journals.{found};
-ghost use Rattle.modulerun.specs.Hosting.{context_with, told_with, message_of, Replies};
+ghost use Rattle.modulerun.specs.Journals.{found, so_far_of};
+ghost use Rattle.modulerun.specs.Hosting.{context_of, told_by, message_of, Replies};
 
 use crate::context::Context;
 use crate::journal::{Journal, Made};
@@ -64,7 +65,8 @@ fn bad_variable(alloc: Global, var: &str) -> RecordFault
 impl<'a, V: Vars> Runner<'a, V> {
     /// Nothing is told yet.
     pub(crate) fn over(alloc: Global, context: Context<'a>, start: &'a V) -> Self
-        ensures journal { result.journal ≡ record { mode = context.entry.mode; owner = context.entry.name.now; start = V.vars start.entry.now; words = [] } }
+        ensures journal { result.journal
+            ≡ so_far_of context.entry.mode context.entry.name.now (V.vars start.entry.now) [] }
         ensures context { result.context ≡ context.entry }
         ensures messages { result.messages.items ≡ [] }
         ensures asked { result.asked ≡ false }
@@ -81,8 +83,8 @@ impl<'a, V: Vars> Runner<'a, V> {
 
     fn not_done(&mut self, fault: CallFault) -> HostAnswer
         ensures replies { (reason : CallReason) → HasReason reason fault → Replies (not_done reason) result
-            (told_with self.old.journal self.old.messages self.old.asked) (told_with self.new.journal self.new.messages self.new.asked) }
-        ensures same { context_with self.new.journal self.new.context ≡ context_with self.old.journal self.old.context }
+            (told_by self.old) (told_by self.new) }
+        ensures same { context_of self.new ≡ context_of self.old }
     {
         match fault {
             CallFault::OutOfMemory => HostAnswer::OutOfMemory,
@@ -96,9 +98,9 @@ impl<'a, V: Vars> Runner<'a, V> {
     }
 
     fn refuse(&mut self, fault: RecordFault) -> HostAnswer
-        ensures replies { (reason : RecordReason) → HasFault reason fault → Replies (not_done (bad_record reason)) result
-            (told_with self.old.journal self.old.messages self.old.asked) (told_with self.new.journal self.new.messages self.new.asked) }
-        ensures same { context_with self.new.journal self.new.context ≡ context_with self.old.journal self.old.context }
+        ensures replies { (reason : RecordReason) → HasFault reason fault
+            → Replies (not_done (bad_record reason)) result (told_by self.old) (told_by self.new) }
+        ensures same { context_of self.new ≡ context_of self.old }
     {
         match record_number(&fault) {
             None => HostAnswer::OutOfMemory,
@@ -112,10 +114,10 @@ impl<'a, V: Vars> Runner<'a, V> {
     /// Keeps a record, where it has its effect.
     fn keep(&mut self, words: &[String], made: Result<Record, AllocError>) -> HostAnswer
         requires { IfOk made (λ r. call_of (map string_bytes words.now) ≡ Ok (keeps (record_view r))) }
-        ensures replies { Replies (answered (context_with self.old.journal self.old.context) (found self.old.journal)
+        ensures replies { Replies (answered (context_of self.old) (found self.old.journal)
             (map string_bytes words.now) (call_of (map string_bytes words.now))) result
-            (told_with self.old.journal self.old.messages self.old.asked) (told_with self.new.journal self.new.messages self.new.asked) }
-        ensures same { context_with self.new.journal self.new.context ≡ context_with self.old.journal self.old.context }
+            (told_by self.old) (told_by self.new) }
+        ensures same { context_of self.new ≡ context_of self.old }
     {
         match made {
             Err(_) => HostAnswer::OutOfMemory,
@@ -129,8 +131,8 @@ impl<'a, V: Vars> Runner<'a, V> {
     /// A message, with a newline or without.
     fn say(&mut self, text: &str, newline: bool) -> HostAnswer
         ensures replies { Replies (Done [] (Message (message_of text.now newline)) false) result
-            (told_with self.old.journal self.old.messages self.old.asked) (told_with self.new.journal self.new.messages self.new.asked) }
-        ensures same { context_with self.new.journal self.new.context ≡ context_with self.old.journal self.old.context }
+            (told_by self.old) (told_by self.new) }
+        ensures same { context_of self.new ≡ context_of self.old }
     {
         match push_message(self.alloc, &mut self.messages, text, newline) {
             Ok(()) => HostAnswer::Done(String::new(self.alloc)),
@@ -141,8 +143,8 @@ impl<'a, V: Vars> Runner<'a, V> {
     /// The answer to a question.
     fn ask(&mut self, text: Result<String, AllocError>) -> HostAnswer
         ensures replies { (t : Text) → IfOk text (λ s. string_bytes s ≡ t) → Replies (asked t) result
-            (told_with self.old.journal self.old.messages self.old.asked) (told_with self.new.journal self.new.messages self.new.asked) }
-        ensures same { context_with self.new.journal self.new.context ≡ context_with self.old.journal self.old.context }
+            (told_by self.old) (told_by self.new) }
+        ensures same { context_of self.new ≡ context_of self.old }
     {
         self.asked = true;
         match text {
@@ -154,7 +156,7 @@ impl<'a, V: Vars> Runner<'a, V> {
     /// The module's own name, which is no question.
     fn own_name(&self) -> HostAnswer
         ensures { Replies (Done self.now.journal.owner Nothing false) result
-            (told_with self.now.journal self.now.messages self.now.asked) (told_with self.now.journal self.now.messages self.now.asked) }
+            (told_by self.now) (told_by self.now) }
     {
         match String::from_str(self.alloc, self.journal.owner()) {
             Ok(name) => HostAnswer::Done(name),
@@ -164,7 +166,8 @@ impl<'a, V: Vars> Runner<'a, V> {
 
     /// The value of a variable, or in the mode `display` the variable itself.
     fn value_shown(&self, var: &str, default: &str) -> Result<String, AllocError>
-        ensures { IfOk result (λ t. string_bytes t ≡ value_shown (mode_view self.now.journal.mode) (found self.now.journal) var.now default.now) }
+        ensures { IfOk result (λ t. string_bytes t
+            ≡ value_shown (mode_view self.now.journal.mode) (found self.now.journal) var.now default.now) }
     {
         match self.journal.mode() {
             Mode::Display => format!(in self.alloc; "${var}"),
@@ -173,9 +176,10 @@ impl<'a, V: Vars> Runner<'a, V> {
     }
 
     fn getenv(&mut self, var: &str, default: &str) -> HostAnswer
-        ensures replies { Replies (read var.now (value_shown (mode_view self.old.journal.mode) (found self.old.journal) var.now default.now)) result
-            (told_with self.old.journal self.old.messages self.old.asked) (told_with self.new.journal self.new.messages self.new.asked) }
-        ensures same { context_with self.new.journal self.new.context ≡ context_with self.old.journal self.old.context }
+        ensures replies { Replies (read var.now
+            (value_shown (mode_view self.old.journal.mode) (found self.old.journal) var.now default.now)) result
+            (told_by self.old) (told_by self.new) }
+        ensures same { context_of self.new ≡ context_of self.old }
     {
         if is_variable_name(var) {
             let value = self.value_shown(var, default);
@@ -187,7 +191,7 @@ impl<'a, V: Vars> Runner<'a, V> {
     }
 
     fn topic_text(&self, topic: Topic) -> &'static str
-        ensures { result.now ≡ topic_text (context_with self.now.journal self.now.context) (topic_view topic) }
+        ensures { result.now ≡ topic_text (context_of self.now) (topic_view topic) }
     {
         match topic {
             Topic::Mode => mode_word(self.journal.mode()),
@@ -197,7 +201,7 @@ impl<'a, V: Vars> Runner<'a, V> {
     }
 
     fn topic_test(&self, topic: Topic, word: &str) -> bool
-        ensures { result ≡ topic_test (context_with self.now.journal self.now.context) (topic_view topic) word.now }
+        ensures { result ≡ topic_test (context_of self.now) (topic_view topic) word.now }
     {
         match topic {
             Topic::Mode => is_mode(self.journal.mode(), self.context.in_switch, word),
@@ -206,17 +210,20 @@ impl<'a, V: Vars> Runner<'a, V> {
         }
     }
 
-    /// Whether a name means a loaded module, or without a name whether any is loaded.
-    fn is_loaded(&self, names: &[String]) -> bool
-        ensures { result ≡ any_loaded (map string_bytes names.now) (map string_bytes self.now.context.loaded.now) }
+    /// Answers whether a name means a loaded module, or without a name whether any is loaded.
+    fn is_loaded(&mut self, names: &[String]) -> HostAnswer
+        ensures replies { Replies (asked (truth (any_loaded (map string_bytes names.now)
+            (map string_bytes self.old.context.loaded.now)))) result
+            (told_by self.old) (told_by self.new) }
+        ensures same { context_of self.new ≡ context_of self.old }
     {
-        any_loaded(names, self.context.loaded)
+        let so = any_loaded(names, self.context.loaded);
+        self.ask(String::from_str(self.alloc, truth(so)))
     }
 
     /// What the file leaves where it ends.
     pub(crate) fn finish(self) -> Result<Draft, RunFault>
-        ensures ok { IfOk result (λ draft. ran_of (context_with self.entry.journal self.entry.context)
-            (told_with self.entry.journal self.entry.messages self.entry.asked)
+        ensures ok { IfOk result (λ draft. ran_of (context_of self.entry) (told_by self.entry)
             ≡ Ok (ran_view draft.ran (applied (edits_in draft.changes) self.entry.journal.start))) }
         ensures only { IfErr result (λ fault. fault ≡ OutOfMemory) }
     {
@@ -257,10 +264,10 @@ impl<'a, V: Vars> Runner<'a, V> {
     /// Answers a command.
     fn answer(&mut self, words: &[String], call: Call<'_>) -> HostAnswer
         requires { call_of (map string_bytes words.now) ≡ Ok (call_view call) }
-        ensures replies { Replies (answered (context_with self.old.journal self.old.context) (found self.old.journal)
+        ensures replies { Replies (answered (context_of self.old) (found self.old.journal)
             (map string_bytes words.now) (call_of (map string_bytes words.now))) result
-            (told_with self.old.journal self.old.messages self.old.asked) (told_with self.new.journal self.new.messages self.new.asked) }
-        ensures same { context_with self.new.journal self.new.context ≡ context_with self.old.journal self.old.context }
+            (told_by self.old) (told_by self.new) }
+        ensures same { context_of self.new ≡ context_of self.old }
     {
         let alloc = self.alloc;
         match call {
@@ -279,10 +286,7 @@ impl<'a, V: Vars> Runner<'a, V> {
             Call::Say { text, newline } => self.say(text, newline),
             Call::Getenv { var, default } => self.getenv(var, default),
             Call::OwnName => self.own_name(),
-            Call::IsLoaded(names) => {
-                let so = self.is_loaded(names);
-                self.ask(String::from_str(alloc, truth(so)))
-            }
+            Call::IsLoaded(names) => self.is_loaded(names),
             Call::TypedName => {
                 let typed = self.context.typed;
                 self.ask(String::from_str(alloc, typed))
@@ -326,11 +330,11 @@ fn message(alloc: Global, text: &str, newline: bool) -> Result<String, AllocErro
 
 impl<'a, V: Vars> Host for Runner<'a, V> {
     ghost use Rattle.modulefile.specs.Answers.{oracle_of};
-    ghost use Rattle.modulerun.specs.Hosting.{context_with, told_with};
+    ghost use Rattle.modulerun.specs.Hosting.{context_of, told_by};
 
-    ghost told = { λ r. told_with r.journal r.messages r.asked };
+    ghost told = { λ r. told_by r };
 
-    ghost oracle = { λ r. oracle_of (context_with r.journal r.context) };
+    ghost oracle = { λ r. oracle_of (context_of r) };
 
     fn command(&mut self, words: &[String]) -> HostAnswer {
         match call_of(self.alloc, words) {

@@ -1,26 +1,26 @@
 use Rattle.std.proofs.Common.{◌≡◌, Result, Ok, map, string_bytes, refl, ap, sym, ◌∙◌}
 use Rattle.environment.specs.Texts.{texts_in}
 use Rattle.modulefile.specs.Calls as calls
+use Rattle.modulefile.specs.Calls.{elements_of}
 use Rattle.modulefile.specs.CallViews.{texts_of, call_view, topic_view}
 use Rattle.modulefile.specs.Answers.{asked, truth}
 use Rattle.modulerun.specs.Journals.{found}
 use Rattle.modulerun.specs.Hosting.{context_with, told_with}
+use Rattle.modulerun.proofs.DelimiterLemmas.{ascii_delimiter}
 use Rattle.modulerun.proofs.ReplyLemmas.{asked_reply}
 use Rattle.modulerun.proofs.runner.Runner.answer.Goals as goal
 
-pub returns-in-IsLoaded-clause-replies : goal.returns-in-IsLoaded-clause-replies
-returns-in-IsLoaded-clause-replies g c =
-    asked_reply (context_with c.args.self.now.journal c.args.self.now.context) (found c.args.self.now.journal) (map string_bytes c.args.words.now) c.args.call (calls.is_loaded (texts_of c.in-IsLoaded.names.now)) c.truth.result.now c.ask.result
-    (told_with c.args.self.now.journal c.args.self.now.messages c.args.self.now.asked) (told_with c.ask.new.self.journal c.ask.new.self.messages c.ask.new.self.asked)
-    c.requires (ap call_view c.in-IsLoaded.is) (ap asked (sym (c.truth.ensures ∙ ap truth c.is_loaded-so.ensures)))
-    (c.ask.ensures.replies c.truth.result.now c.from_str.ensures.ok)
+pub path-requires : goal.path-requires
+path-requires g c =
+    ascii_delimiter (map string_bytes c.args.words.now) c.in-Path.edit c.in-Path.delim c.in-Path.var.now (elements_of c.in-Path.delim (texts_of c.in-Path.values.now))
+    (c.requires ∙ ap (λ x. Ok (call_view x)) c.in-Path.is)
 
 pub returns-in-TypedName-clause-replies : goal.returns-in-TypedName-clause-replies
 returns-in-TypedName-clause-replies g c =
-    asked_reply (context_with c.args.self.now.journal c.args.self.now.context) (found c.args.self.now.journal) (map string_bytes c.args.words.now) c.args.call calls.typed_name c.args.self.now.context.typed.now c.ask-in-TypedName.result
-    (told_with c.args.self.now.journal c.args.self.now.messages c.args.self.now.asked) (told_with c.ask-in-TypedName.new.self.journal c.ask-in-TypedName.new.self.messages c.ask-in-TypedName.new.self.asked)
+    asked_reply (context_with c.args.self.now.journal c.args.self.now.context) (found c.args.self.now.journal) (map string_bytes c.args.words.now) c.args.call calls.typed_name c.args.self.now.context.typed.now c.ask.result
+    (told_with c.args.self.now.journal c.args.self.now.messages c.args.self.now.asked) (told_with c.ask.new.self.journal c.ask.new.self.messages c.ask.new.self.asked)
     c.requires (ap call_view c.in-TypedName.is) refl
-    (c.ask-in-TypedName.ensures.replies c.args.self.now.context.typed.now c.from_str-in-TypedName.ensures.ok)
+    (c.ask.ensures.replies c.args.self.now.context.typed.now c.from_str.ensures.ok)
 
 pub returns-in-Tell-clause-replies : goal.returns-in-Tell-clause-replies
 returns-in-Tell-clause-replies g c =
@@ -31,7 +31,7 @@ returns-in-Tell-clause-replies g c =
 
 pub returns-in-Test-clause-replies : goal.returns-in-Test-clause-replies
 returns-in-Test-clause-replies g c =
-    asked_reply (context_with c.args.self.now.journal c.args.self.now.context) (found c.args.self.now.journal) (map string_bytes c.args.words.now) c.args.call (calls.tests (topic_view c.in-Test.topic) c.in-Test.word.now) c.truth-in-Test.result.now c.ask-in-Test.result
+    asked_reply (context_with c.args.self.now.journal c.args.self.now.context) (found c.args.self.now.journal) (map string_bytes c.args.words.now) c.args.call (calls.tests (topic_view c.in-Test.topic) c.in-Test.word.now) c.truth.result.now c.ask-in-Test.result
     (told_with c.args.self.now.journal c.args.self.now.messages c.args.self.now.asked) (told_with c.ask-in-Test.new.self.journal c.ask-in-Test.new.self.messages c.ask-in-Test.new.self.asked)
-    c.requires (ap call_view c.in-Test.is) (ap asked (sym (c.truth-in-Test.ensures ∙ ap truth c.topic_test-so.ensures)))
-    (c.ask-in-Test.ensures.replies c.truth-in-Test.result.now c.from_str-in-Test.ensures.ok)
+    c.requires (ap call_view c.in-Test.is) (ap asked (sym (c.truth.ensures ∙ ap truth c.topic_test-so.ensures)))
+    (c.ask-in-Test.ensures.replies c.truth.result.now c.from_str-in-Test.ensures.ok)

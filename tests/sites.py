@@ -1,0 +1,332 @@
+"""Modulefiles in the styles that sites write them in (the folder sites), loaded, shown and unloaded by the built program.
+
+    python3 -B tests/sites.py PROGRAM
+
+The expected values are typed by hand from modulefile(5) and the rules of the program. What a command prints is evaluated by
+sh, and the next command starts from there.
+"""
+
+import os
+import shutil
+import subprocess
+import sys
+
+from harness import HERE, SECONDS, case, run_all, same
+
+SH = shutil.which("dash") or "/bin/sh"
+ENV = shutil.which("env")
+OWN = (b"PWD", b"OLDPWD", b"_")
+
+GCC = {
+    "CC": "gcc",
+    "CXX": "g++",
+    "FC": "gfortran",
+    "GCC_HOME": "/opt/gcc/13.2.0",
+    "PATH": "/opt/gcc/13.2.0/bin:/usr/bin:/bin",
+    "MANPATH": "/opt/gcc/13.2.0/share/man",
+    "INFOPATH": "/opt/gcc/13.2.0/share/info",
+    "LD_LIBRARY_PATH": "/opt/gcc/13.2.0/lib64:/opt/gcc/13.2.0/lib",
+    "__MODULES_LMCONFLICT": "gcc/13.2.0&gcc&clang&intel",
+}
+
+
+class Site:
+    """The modulefiles of the sites, and an environment that commands change."""
+
+    def __init__(self, folder, **variables):
+        self.folder = folder
+        shutil.copytree(os.path.join(HERE, "sites"), os.fsdecode(folder.modules), dirs_exist_ok=True)
+        self.env = folder.environment(PATH="/usr/bin:/bin", **variables)
+        self.start = dict(self.env)
+
+    def evaluated(self, text):
+        """The environment after sh has evaluated a text."""
+        done = subprocess.run(
+            [SH, "-c", f'eval "$1"; exec {ENV} -0', "sh", text],
+            env=self.env,
+            capture_output=True,
+            timeout=SECONDS,
+            check=True,
+        )
+        same(done.stderr, b"", "standard error of sh")
+        pairs = [entry.split(b"=", 1) for entry in done.stdout.split(b"\0") if entry]
+        return {name: value for name, value in pairs if name not in OWN}
+
+    def accepts(self, words, said):
+        done = self.folder.run("sh", *words.split(), env=self.env)
+        same(done.stderr.decode(), said, f"standard error of {words}")
+        same(done.returncode, 0, f"status of {words}")
+        return self.evaluated(done.stdout)
+
+    def loads(self, name, said="", **values):
+        """A load sets these variables, None for an unset, and enters the module last in the loaded lists."""
+        wanted = dict(self.env)
+        lists = ((b"LOADEDMODULES", name.encode()), (b"_LMFILES_", self.folder.at(name)))
+        for variable, entry in lists:
+            wanted[variable] = b":".join(filter(None, (wanted.get(variable), entry)))
+        for variable, value in values.items():
+            wanted.pop(variable.encode(), None)
+            if value is not None:
+                wanted[variable.encode()] = value.encode()
+        self.env = self.accepts(f"load {name}", said)
+        same(self.env, wanted, f"the environment after load {name}")
+
+    def unloads(self, name, said=""):
+        self.env = self.accepts(f"unload {name}", said)
+
+    def is_back(self, **values):
+        """The environment is the start, but for these variables, None for one that isn't set."""
+        wanted = dict(self.start)
+        for variable, value in values.items():
+            wanted.pop(variable.encode(), None)
+            if value is not None:
+                wanted[variable.encode()] = value.encode()
+        same(self.env, wanted, "the environment in the end")
+
+    def refuses(self, words, text):
+        self.folder.refuses(["sh", *words.split()], text, env=self.env)
+
+    def shows(self, name, *lines, shell="sh"):
+        """`show` reports these lines behind that of the path."""
+        report = b"".join(line.encode() + b"\n" for line in lines)
+        self.folder.answers([shell, "show", name], b"", self.folder.at(name) + b":\n" + report, 0, env=self.env)
+
+    def describes(self, name, *lines):
+        report = b"".join(f"{name}: {line}\n".encode() for line in lines)
+        self.folder.answers(["sh", "whatis", name], b"", report, 0, env=self.env)
+
+
+@case
+def a_compiler(folder):
+    site = Site(folder)
+    site.loads("gcc/13.2.0", **GCC)
+    site.refuses("load clang", "Conflict with 'gcc/13.2.0'")
+    site.unloads("gcc")
+    site.is_back()
+    site.describes("gcc/13.2.0", "GNU compilers for C, C++ and Fortran", "Version: 13.2.0")
+    site.shows(
+        "gcc/13.2.0",
+        "module-whatis {GNU compilers for C, C++ and Fortran}",
+        "module-whatis {Version: 13.2.0}",
+        "conflict gcc",
+        "conflict clang intel",
+        "setenv CC gcc",
+        "setenv CXX g++",
+        "setenv FC gfortran",
+        "setenv GCC_HOME /opt/gcc/13.2.0",
+        "prepend-path PATH /opt/gcc/13.2.0/bin",
+        "prepend-path MANPATH /opt/gcc/13.2.0/share/man",
+        "prepend-path INFOPATH /opt/gcc/13.2.0/share/info",
+        "prepend-path LD_LIBRARY_PATH /opt/gcc/13.2.0/lib64:/opt/gcc/13.2.0/lib",
+    )
+
+
+@case
+def a_compiler_over_that_of_the_user(folder):
+    site = Site(folder, CC="cc")
+    site.loads(
+        "clang/17",
+        CC="clang",
+        CXX="clang++",
+        PATH="/opt/llvm/17/bin:/usr/bin:/bin",
+        __MODULES_PUSHENV_CC="clang/17&clang:&cc",
+        __MODULES_PUSHENV_CXX="clang/17&clang++",
+        __MODULES_LMCONFLICT="clang/17&gcc&clang",
+    )
+    site.refuses("load gcc", "Conflict with 'clang/17'")
+    site.unloads("clang")
+    site.is_back()
+
+
+MPI = {
+    "MPI_HOME": "/opt/openmpi/4.1.6",
+    "OMPI_MCA_btl": "self,vader,tcp",
+    "PATH": "/opt/openmpi/4.1.6/bin:/opt/gcc/13.2.0/bin:/usr/bin:/bin",
+    "LD_LIBRARY_PATH": "/opt/openmpi/4.1.6/lib:/opt/gcc/13.2.0/lib64:/opt/gcc/13.2.0/lib",
+    "MANPATH": "/opt/openmpi/4.1.6/share/man:/opt/gcc/13.2.0/share/man",
+    "PKG_CONFIG_PATH": "/opt/openmpi/4.1.6/lib/pkgconfig",
+    "__MODULES_LMCONFLICT": "gcc/13.2.0&gcc&clang&intel:openmpi/4.1.6&openmpi&mpich&intel-mpi",
+    "__MODULES_LMPREREQ": "openmpi/4.1.6&gcc|clang",
+}
+
+
+@case
+def a_library_that_needs_a_compiler(folder):
+    site = Site(folder)
+    site.refuses("load openmpi", "Missing one of 'gcc clang'")
+    site.loads("gcc/13.2.0", **GCC)
+    site.loads("openmpi/4.1.6", **MPI)
+    site.refuses("unload gcc", "Still needed by 'openmpi/4.1.6'")
+    site.describes("openmpi/4.1.6", "Name: openmpi", "Version: 4.1.6", "Needs: a compiler")
+    site.unloads("openmpi")
+    site.unloads("gcc")
+    site.is_back()
+    site.shows(
+        "openmpi/4.1.6",
+        "module-whatis {Name: openmpi}",
+        "module-whatis {Version: 4.1.6}",
+        "module-whatis {Needs: a compiler}",
+        "prereq gcc clang",
+        "conflict openmpi mpich intel-mpi",
+        "setenv MPI_HOME /opt/openmpi/4.1.6",
+        "setenv OMPI_MCA_btl self,vader,tcp",
+        "prepend-path PATH /opt/openmpi/4.1.6/bin",
+        "prepend-path LD_LIBRARY_PATH /opt/openmpi/4.1.6/lib",
+        "prepend-path MANPATH /opt/openmpi/4.1.6/share/man",
+        "append-path PKG_CONFIG_PATH /opt/openmpi/4.1.6/lib/pkgconfig",
+    )
+
+
+@case
+def a_library_whose_directories_a_procedure_adds(folder):
+    site = Site(folder)
+    site.loads("gcc/13.2.0", **GCC)
+    site.refuses("load hdf5", "Missing one of 'openmpi'")
+    site.loads("openmpi/4.1.6", **MPI)
+    site.loads(
+        "hdf5/1.14",
+        PATH="/opt/hdf5/1.14/bin:" + MPI["PATH"],
+        LD_LIBRARY_PATH="/opt/hdf5/1.14/lib64:" + MPI["LD_LIBRARY_PATH"],
+        CPATH="/opt/hdf5/1.14/include:/opt/hdf5/1.14/include/fortran",
+        HDF5_DIR="/opt/hdf5/1.14",
+        __MODULES_LMPREREQ="openmpi/4.1.6&gcc|clang:hdf5/1.14&openmpi",
+    )
+    site.env = site.accepts("purge", "")
+    site.is_back()
+    site.shows(
+        "hdf5/1.14",
+        "prereq openmpi",
+        "prepend-path PATH /opt/hdf5/1.14/bin",
+        "prepend-path LD_LIBRARY_PATH /opt/hdf5/1.14/lib64",
+        "append-path CPATH /opt/hdf5/1.14/include",
+        "append-path CPATH /opt/hdf5/1.14/include/fortran",
+        "setenv HDF5_DIR /opt/hdf5/1.14",
+    )
+
+
+@case
+def a_program_with_license_servers(folder):
+    site = Site(folder, LM_LICENSE_FILE="1700@old", SOLVER_HOME="/home/u/solver", SOLVER_OPTIONS="quiet")
+    site.loads(
+        "solver/2024",
+        SOLVER_LICENSES="27000@lic1.example.org;1055:lic2.example.org",
+        SOLVER_OPTIONS="quiet,batch,nogui",
+        LM_LICENSE_FILE="1700@old:27000@lic1.example.org",
+        SOLVER_HOME="/opt/solver/2024",
+        __MODULES_PUSHENV_SOLVER_HOME="solver/2024&/opt/solver/2024:&/home/u/solver",
+        PATH="/opt/solver/2024/bin:/usr/bin:/bin",
+    )
+    site.unloads("solver")
+    site.is_back()
+    site.describes("solver/2024", "Solver 2024 (licensed)")
+    site.shows(
+        "solver/2024",
+        "module-whatis {Solver 2024 (licensed)}",
+        "append-path --delim {;} SOLVER_LICENSES {27000@lic1.example.org;1055:lic2.example.org}",
+        "append-path --delim , SOLVER_OPTIONS batch,nogui",
+        "append-path LM_LICENSE_FILE 27000@lic1.example.org",
+        "pushenv SOLVER_HOME /opt/solver/2024",
+        "prepend-path PATH /opt/solver/2024/bin",
+    )
+
+
+@case
+def paths_that_are_computed_from_the_version(folder):
+    site = Site(folder)
+    effects = {
+        "PYTHON_VERSION": "3.11",
+        "PATH": "/opt/python/3.11.6/bin:/usr/bin:/bin",
+        "MANPATH": "/opt/python/3.11.6/share/man",
+        "PYTHONPATH": "/opt/python/3.11.6/lib/python3.11/site-packages",
+    }
+    site.loads("python/3.11.6", **effects)
+    site.unloads("python")
+    site.is_back()
+    site.describes("python/3.11.6", "Python 3.11, release 6")
+    # What an unset without a value took away doesn't come back.
+    site = Site(folder, PYTHONHOME="/home/u/python")
+    site.loads("python/3.11.6", PYTHONHOME=None, **effects)
+    site.unloads("python")
+    site.is_back(PYTHONHOME=None)
+
+
+@case
+def a_file_that_speaks(folder):
+    site = Site(folder)
+    site.loads("greeting/1", said="Loading greeting/1\n", GREETING="hello")
+    site.unloads("greeting", said="Unloading greeting/1\n")
+    site.is_back()
+    site.describes("greeting/1", "a greeting")
+    site.shows("greeting/1", "setenv GREETING hello")
+
+
+@case
+def directories_of_several_architectures(folder):
+    root = "/opt/toolbox/5.0"
+    libraries = f"{root}/x86_64/lib:{root}/x86_64/lib64:{root}/noarch/lib"
+    site = Site(folder, CPATH="/home/u/include")
+    site.loads(
+        "toolbox/5.0",
+        PATH=f"{root}/sbin:{root}/bin:/usr/bin:/bin",
+        MANPATH=f"{root}/man",
+        INFOPATH=f"{root}/info",
+        CPATH=f"{root}/include:/home/u/include",
+        PKG_CONFIG_PATH=f"{root}/lib/pkgconfig",
+        ACLOCAL_PATH=f"{root}/share/aclocal",
+        CMAKE_PREFIX_PATH=root,
+        LD_LIBRARY_PATH=libraries,
+        LIBRARY_PATH=libraries,
+        TOOLBOX_SLOT_1="10",
+        TOOLBOX_SLOT_2="20",
+        TOOLBOX_SLOT_3="30",
+    )
+    site.unloads("toolbox")
+    site.is_back()
+
+
+@case
+def a_start_file_for_each_shell(folder):
+    site = Site(folder)
+    site.loads("profile/1", PROFILE_INIT="/opt/profile/etc/init.sh", PROFILE_KIND="b")
+    site.unloads("profile")
+    site.is_back()
+    for shell, end, kind in (("zsh", "sh", "b"), ("csh", "csh", "c"), ("tcsh", "csh", "c"), ("fish", "fish", "b")):
+        lines = (f"setenv PROFILE_INIT /opt/profile/etc/init.{end}", f"setenv PROFILE_KIND {kind}")
+        site.shows("profile/1", *lines, shell=shell)
+
+
+@case
+def directories_of_the_user(folder):
+    site = Site(folder, HOME="/home/u", MAIL_CHECK="60")
+    paths = {"WORK_CACHE": "/home/u/.cache/work", "WORK_TMP": "/tmp/work", "MAIL_CHECK": None}
+    site.loads("workdir/1", WORK_DEPTH="4", **paths)
+    site.unloads("workdir")
+    site.is_back()
+    site = Site(folder, HOME="/home/u", TMPDIR="/var/tmp", WORK_LEVEL="3")
+    site.loads("workdir/1", WORK_DEPTH="12", **{**paths, "WORK_TMP": "/var/tmp/work"})
+    site = Site(folder, HOME="/home/u", WORK_LEVEL="deep")
+    site.loads("workdir/1", said="WORK_LEVEL 'deep' is no digit: 1 is taken\n", WORK_DEPTH="4", **paths)
+    Site(folder).refuses("load workdir", "Stopped by the modulefile")
+
+
+@case
+def plugins_for_the_compiler_that_is_loaded(folder):
+    site = Site(folder)
+    site.refuses("load plugins", "Stopped by the modulefile")
+    site.loads("gcc/13.2.0", **GCC)
+    site.loads("plugins/2.3", PLUGIN_PATH="/opt/plugins/2.3/gcc:/opt/plugins/shared", PLUGIN_API="v2")
+    site.unloads("plugins")
+    site.unloads("gcc")
+    site.is_back()
+
+
+def main():
+    if len(sys.argv) != 2:
+        sys.exit(f"{sys.argv[0]} PROGRAM")
+    passed, failed = run_all(sys.argv[1])
+    print(f"{passed} passed, {failed} failed")
+    return 1 if failed else 0
+
+
+if __name__ == "__main__":
+    sys.exit(main())
