@@ -1,5 +1,5 @@
-//! A tree that fails once.
-ghost use Rattle.std.specs.Prelude.{◌≡◌, ◌+◌, IfOk, if◌then◌else◌};
+//! Trees that fail.
+ghost use Rattle.std.specs.Prelude.{◌+◌};
 
 use lookup::{Tree, TreeFault};
 
@@ -9,42 +9,32 @@ pub(crate) struct Failing<'a, T> {
     pub(crate) tree: &'a mut T,
     /// How many calls are answered before the one that fails.
     pub(crate) left: u64,
-    pub(crate) has_failed: bool,
-}
-
-impl<T> Failing<'_, T> {
-    /// Whether this call is the one that fails.
-    fn fails_now(&mut self) -> bool {
-        if self.has_failed {
-            return false;
-        }
-        if self.left == 0 {
-            self.has_failed = true;
-            return true;
-        }
-        self.left -= 1;
-        false
-    }
+    /// How many calls have failed: none, or one.
+    pub(crate) failed: u64,
 }
 
 impl<T: Tree> Tree for Failing<'_, T> {
-    ghost failures = { λ t. T.failures t.tree.now + (if t.has_failed then 1 else 0) };
+    ghost failures = { λ t. T.failures t.tree.now + t.failed };
 
     ghost agrees = { λ t files folders. T.agrees t.tree.now files folders };
 
     ghost agreeable = { λ t. T.agreeable t.tree.now };
 
     fn read(&mut self, path: &str) -> Result<Option<Vec<u8>>, TreeFault> {
-        if self.fails_now() {
+        if self.left == 0 && self.failed == 0 {
+            self.failed = 1;
             return Err(TreeFault::Device);
         }
+        self.left = self.left.saturating_sub(1);
         self.tree.read(path)
     }
 
     fn entries(&mut self, dir: &str) -> Result<Option<Vec<String>>, TreeFault> {
-        if self.fails_now() {
+        if self.left == 0 && self.failed == 0 {
+            self.failed = 1;
             return Err(TreeFault::Device);
         }
+        self.left = self.left.saturating_sub(1);
         self.tree.entries(dir)
     }
 }

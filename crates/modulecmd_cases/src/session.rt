@@ -268,16 +268,16 @@ impl Session {
             let mut tree = Failing {
                 tree: &mut self.tree,
                 left,
-                has_failed: false,
+                failed: 0,
             };
             let written = command(self.alloc, args.as_slice(), &self.env, &mut tree)?;
-            let has_failed = tree.has_failed;
+            let failed = tree.failed;
             let shown = written.shown(self.alloc)?;
             if shown.as_str() != last.as_str() {
                 text.push_str(shown.as_str())?;
             }
             last = shown;
-            if !has_failed {
+            if failed == 0 {
                 return Ok(text);
             }
         }
