@@ -43,11 +43,11 @@ def true(fact, what):
         raise Failed(what)
 
 
-def refuser(path):
-    """Builds the allocator that refuses growths in a folder, and gives its path."""
-    shim = os.path.join(path, b"failing_malloc.so")
+def refuser(path, name="failing_malloc"):
+    """Builds the allocator that refuses growths in a folder, or another library of this name, and gives its path."""
+    shim = os.path.join(path, name.encode() + b".so")
     if not os.path.exists(shim):
-        source = os.path.join(HERE, "failing_malloc.c")
+        source = os.path.join(HERE, f"{name}.c")
         subprocess.run(["cc", "-shared", "-fPIC", "-O1", "-o", shim, source, "-ldl"], check=True)
     return shim
 

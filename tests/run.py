@@ -40,6 +40,7 @@ SUITES = (
 >>>>>>> Stashed changes
     ("memory.py", "modulecmd"),
     ("numbers.py", "modulecmd_cases"),
+    ("device.py", "modulecmd"),
     ("hostile.py", "modulecmd"),
     ("search.py", "modulesearch_cases"),
     ("shells/run.py", "modulecmd"),

@@ -1,0 +1,81 @@
+"""What the built program does where the device fails: what it does with a sound one, or `Reading failed` and no change.
+
+    python3 -B tests/device.py PROGRAM
+
+Each call that opens, reads, lists or asks for what is there fails in turn, and then all from each on, by different errors.
+A failure is never taken as an absence.
+"""
+
+import errno
+import sys
+
+from harness import FOO, case, loaded, refuser, refuses_each, run_all
+
+# Errors that tell of no absence.
+ERRORS = (errno.EIO, errno.EACCES, errno.EMFILE, errno.ELOOP, errno.ESTALE)
+
+
+def answers_or_fails(folder, words, env):
+    """The program answers as with a sound device, or changes nothing and says why."""
+    shim = refuser(folder.path, "failing_calls")
+    for error in ERRORS:
+
+        def run(asked, error=error):
+            done = folder.run(*words, env={**env, **asked, b"FAIL_WITH": b"%d" % error})
+            return done.stdout, done.stderr, done.returncode
+
+        refuses_each(shim, run, (b"", b"ERROR: Reading failed\n", 1).__eq__, f"{words} by {errno.errorcode[error]}")
+
+
+def versions(folder):
+    for version in ("1.9", "1.10", "1.10-rc"):
+        folder.module(f"ver/{version}", f"setenv V {version}\n")
+    folder.module("ver/.version", 'set ModulesVersion "1.9"\n')
+    return folder.environment()
+
+
+@case
+def a_load_of_a_whole_name(folder):
+    folder.module("foo/1.0", FOO)
+    answers_or_fails(folder, ["sh", "load", "foo/1.0"], folder.environment(PATH="/bin"))
+
+
+@case
+def a_load_of_a_default(folder):
+    answers_or_fails(folder, ["sh", "load", "ver"], versions(folder))
+
+
+@case
+def a_load_from_the_second_directory(folder):
+    env = versions(folder)
+    env[b"MODULEPATH"] = folder.path + b"/none:" + folder.path + b":" + folder.modules
+    answers_or_fails(folder, ["sh", "load", "ver/1.9"], env)
+
+
+@case
+def a_name_that_is_not_there(folder):
+    answers_or_fails(folder, ["sh", "load", "nope"], versions(folder))
+
+
+@case
+def an_unload_and_a_switch(folder):
+    folder.module("foo/1.0", FOO)
+    versions(folder)
+    env = loaded(folder, "foo/1.0", FOO="on", PATH="/opt/foo/bin:/bin")
+    answers_or_fails(folder, ["sh", "unload", "foo"], env)
+    answers_or_fails(folder, ["csh", "switch", "foo", "ver"], env)
+    env = loaded(folder, "gone/1")
+    answers_or_fails(folder, ["sh", "unload", "gone"], env)
+
+
+@case
+def reports(folder):
+    env = versions(folder)
+    for words in (["avail"], ["show", "ver"], ["whatis", "ver"]):
+        answers_or_fails(folder, ["sh", *words], env)
+
+
+if __name__ == "__main__":
+    passed, failed = run_all(sys.argv[1])
+    print(f"device: {passed} passed, {failed} failed")
+    sys.exit(1 if failed else 0)
