@@ -30,14 +30,11 @@ PROGRAMS = {
 # The tests outside the gate: a script, the program that it is given, and further words.
 SUITES = (
     ("program.py", "modulecmd"),
-<<<<<<< Updated upstream
     ("rows.py", "modulecmd"),
+    ("sites.py", "modulecmd"),
     ("sentence.py", "modulecmd", "300", "0", "sh"),
     ("sentence.py", "modulecmd", "40", "0", "tcsh"),
     ("sentence.py", "modulecmd", "40", "0", "fish"),
-=======
-    ("sites.py", "modulecmd"),
->>>>>>> Stashed changes
     ("memory.py", "modulecmd"),
     ("numbers.py", "modulecmd_cases"),
     ("device.py", "modulecmd"),
