@@ -76,13 +76,14 @@ pub(crate) fn own_conflict<'a>(names: &[&str], entries: &'a [Loaded]) -> Option<
     ensures { option_map (λ x. entry_of x.now) result
         ≡ own_conflict (shown names.now) (map entry_of entries.entry.now) }
 {
-    let [name, later @ ..] = names else {
-        return None;
-    };
-    match first_meant(entries, name) {
-        Some(entry) => Some(entry),
-        None => own_conflict(later, entries),
+    let mut rest = names;
+    while let [name, later @ ..] = rest {
+        if let Some(entry) = first_meant(entries, name) {
+            return Some(entry);
+        }
+        rest = later;
     }
+    None
 }
 
 /// The first group of which no name means a loaded module.
@@ -110,8 +111,8 @@ fn has_lost_group(groups: &[Vec<String>], before: &[Loaded], after: &[Loaded]) -
 fn has_lost(before: &[Loaded], after: &[Loaded], entry: &Loaded) -> bool
     ensures { result ≡ has_lost (map entry_of before.now) (map entry_of after.now) (entry_of entry.now) }
 {
-    is_loaded(before, entry.name.as_str())
-        && has_lost_group(entry.prereqs.as_slice(), before, after)
+    has_lost_group(entry.prereqs.as_slice(), before, after)
+        && is_loaded(before, entry.name.as_str())
 }
 
 /// The first module in load order that has lost what it needs.
