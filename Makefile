@@ -4,7 +4,7 @@
 #   make install PREFIX=/opt/modulecmd DESTDIR=
 #                lays out the program, the init files, completion and the pages below a prefix, and `make uninstall`
 #                takes them away
-#   make demo    installs it below build/demo, and shows a load and an unload in a POSIX shell
+#   make demo    installs it below build/demo, and shows loads, a switch and unloads in a POSIX shell
 #   make test    the merge gate `rt ci`, the tests over real folders and real shells, and what each part took
 #   make bench   a table of ratios beside a native program, Environment Modules and Lmod, and instructions where
 #                something grows (some minutes)

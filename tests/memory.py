@@ -1,4 +1,4 @@
-"""What the built program does where memory is refused: what it does with ample memory, or `Out of memory` and no change."""
+"""What the built program does where memory is refused: what it does with ample memory, or `Out of memory` alone."""
 
 import sys
 

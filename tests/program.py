@@ -76,7 +76,8 @@ def a_quote_in_the_shells_of_other_families(folder):
     text = b"set -xg LOADEDMODULES 'sq/1';\nset -xg Q 'it\\'s!';\nset -xg _LMFILES_ '" + path + b"';\n"
     folder.accepts(["fish", "load", "sq/1"], text)
     loaded_sq = folder.environment(Q="it's!", LOADEDMODULES="sq/1", _LMFILES_=path)
-    folder.accepts(["tcsh", "unload", "sq"], b"unsetenv LOADEDMODULES;\nunsetenv Q;\nunsetenv _LMFILES_;\n", env=loaded_sq)
+    out = b"unsetenv LOADEDMODULES;\nunsetenv Q;\nunsetenv _LMFILES_;\n"
+    folder.accepts(["tcsh", "unload", "sq"], out, env=loaded_sq)
     folder.accepts(["fish", "unload", "sq"], b"set -e LOADEDMODULES;\nset -e Q;\nset -e _LMFILES_;\n", env=loaded_sq)
 
 
@@ -800,7 +801,8 @@ def words_that_are_refused(folder):
         names = ["nope"] if word not in ("list", "purge") else []
         env = folder.environment(LOADEDMODULES="a/1")
         folder.refuses(["sh", word, *names], "Loaded modules are inconsistent", env=env)
-    folder.answers(["sh", "avail"], b"", b"%s:\nfoo/1.0\n" % folder.modules, 0, env=folder.environment(LOADEDMODULES="a/1"))
+    env = folder.environment(LOADEDMODULES="a/1")
+    folder.answers(["sh", "avail"], b"", b"%s:\nfoo/1.0\n" % folder.modules, 0, env=env)
 
 
 # Standard output and standard error.

@@ -1,9 +1,9 @@
-"""The worked rows of the program: what each command prints over real folders, and where a session leaves the environment.
+"""The worked rows of the program: what each command prints over real folders, and where a session leaves the variables.
 
     python3 -B tests/rows.py PROGRAM
 
 The expected texts are typed by hand from the rules of the program. In them, and in the modulefiles, `/m`, `/n` and `/o`
-stand for the folders that a row makes. What a command prints is evaluated by sh, and the next command starts from there.
+stand for the folders that a row makes. What a command prints is evaluated by sh; the next command starts from there.
 """
 
 import os

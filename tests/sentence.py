@@ -1,15 +1,15 @@
 """The sentence that the project is about, tried by the built program in a real shell.
 
 Random trees of modulefiles that unloading undoes, random environments in order, and random lists of loads, unloads,
-switches and purges, each list in one process of a shell, whose last commands unload what is loaded. After each command the
-exported variables of the shell are those that a model makes (`runs.py` has its edits; search, requests and their
+switches and purges, each list in one process of a shell, whose last commands unload what is loaded. After each command
+the exported variables of the shell are those that a model makes (`runs.py` has its edits; search, requests and their
 refusals stand here, from the rules in docs/DEFINITIONS.md), standard error and the status too; and after the last one
 `env -0` writes what it wrote at the start, but for the order of its entries.
 
     python3 -B tests/sentence.py PROGRAM [RUNS [SEED [SHELL]]]
 
-Runs are numbered from SEED on (0); a run that fails is named by its number, so `PROGRAM 1 NUMBER` makes it again. SHELL is
-sh, tcsh or fish. In the latter two PATH and LANG stay, since these shells change what they hold, and in tcsh a change
+Runs are numbered from SEED on (0); a run that fails is named by its number, so `PROGRAM 1 NUMBER` makes it again.
+SHELL is sh, tcsh or fish. In the latter two PATH and LANG stay, since these shells change what they hold, and in tcsh a change
 whose value has a newline is refused.
 """
 
@@ -31,8 +31,10 @@ SECONDS = 120
 # The names of new modules: a folder of versions, a name of one part, a deep one. Those of old ones are model.OLD.
 FOLDERS = {"m": ["1", "2", "10", "1.9", "1.10", "1.10-rc"], "k": ["9", "10", "9a"], "z/1": ["x", "y"]}
 ALONE = ["n", "w_1"]
-WORDS = ["v", "", "a b", "it's", "$HOME", "a:b\\c'd", "&x", "\\", "!", "`x`", '"', "{", "}", "[x]", "é", "two\nlines", "\t", "*", "#", "~"]
-ELEMENTS = ["", "/opt/a/bin", "/opt/b", "a b", "x\\y", "\\", "&", "é", "it's", "2", "$x", "{", "a:b", "a;b", ";", "b\\:", "*"]
+WORDS = ["v", "", "a b", "it's", "$HOME", "a:b\\c'd", "&x", "\\", "!", "`x`", '"', "{", "}", "[x]", "é", "two\nlines"]
+WORDS += ["\t", "*", "#", "~"]
+ELEMENTS = ["", "/opt/a/bin", "/opt/b", "a b", "x\\y", "\\", "&", "é", "it's", "2", "$x", "{", "a:b", "a;b", ";", "b\\:"]
+ELEMENTS += ["*"]
 PLAIN = re.compile(r"[A-Za-z0-9_/.,+=-]+")
 
 
@@ -94,7 +96,8 @@ def command(rng, words):
     if way == 2:
         return f"proc make args {{{text[0]} {{*}}$args}}\nmake {' '.join(text[1:])}\n"
     if way == 3:
-        return f"if {{[string length {text[-1]}] >= 0}} {{\n    {' '.join(text[:-1])} [lindex [list {text[-1]}] end]\n}}\n"
+        body = f"{' '.join(text[:-1])} [lindex [list {text[-1]}] end]"
+        return f"if {{[string length {text[-1]}] >= 0}} {{\n    {body}\n}}\n"
     return " ".join(text) + "\n"
 
 
@@ -150,7 +153,8 @@ class Tree:
                     self.modules[f"{directory}/{name}"] = Module(rng, self.records(rng, ways))
             for folder, versions in FOLDERS.items():
                 if rng.random() < 0.3:
-                    self.defaults[f"{directory}/{folder}"] = (rng.choice([".version", ".modulerc"]), folder, rng.choice(versions))
+                    file_name = rng.choice([".version", ".modulerc"])
+                    self.defaults[f"{directory}/{folder}"] = (file_name, folder, rng.choice(versions))
 
     def records(self, rng, ways):
         records = []
@@ -160,7 +164,8 @@ class Tree:
                 records.append(some_record(rng, name, ways[name], self.dirs))
             else:
                 names = ["c", "d/1", "m", "m/10", "k", "n", "z", "z/1", "z/1/x", "w_1", "a", "q/2"]
-                records.append((rng.choice(["conflict", "prereq"]), [rng.choice(names) for _ in range(rng.randint(1, 3))]))
+                kind = rng.choice(["conflict", "prereq"])
+                records.append((kind, [rng.choice(names) for _ in range(rng.randint(1, 3))]))
         return records
 
     def write(self):
@@ -171,7 +176,9 @@ class Tree:
         for path, (file_name, folder, version) in self.defaults.items():
             os.makedirs(path, exist_ok=True)
             with open(os.path.join(path, file_name), "w") as file:
-                text = f"set ModulesVersion {version}" if file_name == ".version" else f"module-version {folder}/{version} default"
+                is_version = file_name == ".version"
+                named = f"set ModulesVersion {version}"
+                text = named if is_version else f"module-version {folder}/{version} default"
                 file.write(f"#%Module\n{text}\n")
 
     def found(self, modulepath, name):
@@ -317,7 +324,9 @@ def some_record(rng, name, way, dirs):
 def some_ways(rng, names, words):
     ways = {}
     for name in names:
-        ways[name] = rng.choice([("fixed", None), ("fixed", rng.choice(words)), ("path", rng.choice(["b", ";", " ", ":"])), ("stack",), ("path", ":")])
+        fixed = [("fixed", None), ("fixed", rng.choice(words))]
+        paths = [("path", rng.choice(["b", ";", " ", ":"])), ("path", ":")]
+        ways[name] = rng.choice([*fixed, *paths, ("stack",)])
     ways["MODULEPATH"] = ("path", ":")
     return ways
 
@@ -365,7 +374,8 @@ def some_command(rng, names, may_purge):
 
 def is_apart(tree, modules):
     """No two of the modules fix one variable."""
-    fixed = [{model.named(r) for r in tree.modules[path].records if r[0] in ("setenv", "unsetenv")} for _, path in modules]
+    kinds = ("setenv", "unsetenv")
+    fixed = [{model.named(r) for r in tree.modules[path].records if r[0] in kinds} for _, path in modules]
     return all(not one & other for at, one in enumerate(fixed) for other in fixed[at + 1 :])
 
 
@@ -387,7 +397,8 @@ class Run:
         if not model.is_start(self.ways, self.start):
             raise AssertionError(f"run {number} doesn't begin in order")
         self.commands = []
-        there = sorted({path[len(directory) + 1 :] for path in self.tree.modules for directory in self.tree.dirs if path.startswith(directory + "/")})
+        places = [(path, one) for path in self.tree.modules for one in self.tree.dirs if path.startswith(one + "/")]
+        there = sorted({path[len(directory) + 1 :] for path, directory in places})
         wanted = rng.randint(5, 20)
         tries = 0
         while len(self.commands) < wanted and tries < 400:
@@ -450,7 +461,8 @@ def quoted(shell, text):
 LINES = {
     "sh": 'text=$({call} 2> {top}/err.{at}); echo $? > {top}/status.{at}; eval "$text"',
     "tcsh": '( {call} > {top}/text ) >& {top}/err.{at}\necho $status > {top}/status.{at}\neval "`cat {top}/text`"',
-    "fish": "set -l text ({call} 2> {top}/err.{at} | string collect --allow-empty)\necho $pipestatus[1] > {top}/status.{at}\neval $text",
+    "fish": "set -l text ({call} 2> {top}/err.{at} | string collect --allow-empty)\n"
+    "echo $pipestatus[1] > {top}/status.{at}\neval $text",
 }
 
 
@@ -495,7 +507,13 @@ def lost(run, program, top):
     with open(path, "w") as file:
         file.write(script(run.shell, program, run.commands, top))
     done = subprocess.run(
-        [*SHELLS[run.shell], path], env=run.start, cwd=top, stdin=subprocess.DEVNULL, capture_output=True, timeout=SECONDS, check=False
+        [*SHELLS[run.shell], path],
+        env=run.start,
+        cwd=top,
+        stdin=subprocess.DEVNULL,
+        capture_output=True,
+        timeout=SECONDS,
+        check=False,
     )
     if done.stderr or done.returncode != 0:
         return f"the shell ended with status {done.returncode} and said {done.stderr}"
@@ -505,7 +523,8 @@ def lost(run, program, top):
     for at, (words, env, said, status) in enumerate(run.commands, 1):
         what = f"command {at}, {words}"
         if read(top, f"status.{at}") != b"%d\n" % status or read(top, f"err.{at}") != said.encode():
-            return f"{what}: status {read(top, f'status.{at}')}, said {read(top, f'err.{at}')}, wanted {status}, {said!r}"
+            found = f"status {read(top, f'status.{at}')}, said {read(top, f'err.{at}')}"
+            return f"{what}: {found}, wanted {status}, {said!r}"
         if entries(read(top, f"env.{at}")) != wanted_entries(env, own):
             return f"{what}: {difference(entries(read(top, f'env.{at}')), wanted_entries(env, own))}"
     if entries(read(top, f"env.{len(run.commands)}")) != entries(read(top, "env.0")):

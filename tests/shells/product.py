@@ -201,7 +201,15 @@ LINES = {
 }  # fmt: skip
 
 # What the page says to be left out, apart from the two lists of names.
-LEFT_OUT = ("puts hello", "set env(A) b", "set a(b) c", "module-info x", "string toupper a", "expr {2 ** 3}", "expr {sin(1)}")
+LEFT_OUT = (
+    "puts hello",
+    "set env(A) b",
+    "set a(b) c",
+    "module-info x",
+    "string toupper a",
+    "expr {2 ** 3}",
+    "expr {sin(1)}",
+)
 
 
 def left_out_names(page):
@@ -318,7 +326,8 @@ def add_names(prefixes):
 
         def names(*words, line=""):
             command = ["sh", os.path.join(prefixes.program, "libexec", "names"), *words]
-            done = subprocess.run(command, env={**env, b"COMMAND_LINE": line.encode()}, capture_output=True, check=False)
+            given = {**env, b"COMMAND_LINE": line.encode()}
+            done = subprocess.run(command, env=given, capture_output=True, check=False)
             same((done.stderr, done.returncode), (b"", 0), f"standard error and status of names {words}")
             return done.stdout.decode().split("\n")[:-1]
 

@@ -301,8 +301,8 @@ def add(shell, prefixes, by_program):
             f"{folder.modules.decode()}:\nver/1.9(default)\nver/1.10\nver/1.10-rc\n"
             "No Modulefiles Currently Loaded.\n"
         )
-        first = ["module load k n", "status", "show", "module avail ver", "module load ver", "show", "module unload ver"]
-        second = ["module list", f"/bin/rm '{default}'", "module load ver", "show", "module purge", "show"]
+        first = ["module load k n", "status", "show", "module avail ver", "module load ver", "show"]
+        second = ["module unload ver", "module list", f"/bin/rm '{default}'", "module load ver", "show", "module purge", "show"]
         kept = session.keeps(["show", *first, *second], err=said.encode())
         same(kept.statuses, ["1"], "the status of the refused load")
         before, refused, named_one, greatest, after = kept.shown
