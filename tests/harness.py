@@ -53,8 +53,8 @@ def refuser(path, name="failing_malloc"):
 
 
 def refuses_each(shim, run, is_refused, what):
-    """Refuses each growth of memory in turn, and then all from each on. `run` is given the variables that ask for it, and
-    finds what it does with ample memory, or what is refused."""
+    """Refuses each growth of memory in turn, and then all from each on. `run` is given the variables that ask for it,
+    and finds what it does with ample memory, or what is refused."""
     ample = run({})
     true(not is_refused(ample), f"{what} with ample memory: found {ample!r}")
     for variable in (b"FAIL_AT", b"FAIL_FROM"):

@@ -21,7 +21,7 @@ NAMES, FILES = "LOADEDMODULES", "_LMFILES_"
 CONFLICTS, PREREQS = "__MODULES_LMCONFLICT", "__MODULES_LMPREREQ"
 LISTS = (NAMES, FILES, CONFLICTS, PREREQS)
 
-# What edits get wrong, in the runs that have to lose a law; and whether what is in order is judged by the same wrong words.
+# What edits get wrong, in the runs that have to lose a law; and whether what is in order is judged by these words too.
 WRONG, EVERYWHERE = "", False
 EDITING = False
 
