@@ -1,0 +1,208 @@
+//! A modulefile, with what it is run over.
+use environment::{Change, Env, Vars, changes};
+use modulefile::{Mode, Record, Shell};
+use modulerun::{Context, Ran, run_file, show_report, whatis_report};
+use std::alloc::{AllocError, Global};
+use tclrules::Limits;
+
+const COOKIE: &str = "#%Module\n";
+
+const LIMITS: Limits = Limits {
+    commands: 100_000,
+    depth: 200,
+    value_bytes: 1_048_576,
+};
+
+/// A modulefile, the variables that it is run over, and the records that its last run left.
+#[derive(Drop)]
+pub struct Row {
+    alloc: Global,
+    env: Env,
+    shell: Shell,
+    module: String,
+    typed: String,
+    loaded: Vec<String>,
+    text: String,
+    records: Vec<Record>,
+    limits: Limits,
+}
+
+/// The mode that words name, and whether it is half of a switch.
+fn mode_named(words: &str) -> Option<(Mode, bool)> {
+    match words {
+        "load" => Some((Mode::Load, false)),
+        "unload" => Some((Mode::Unload, false)),
+        "display" => Some((Mode::Display, false)),
+        "whatis" => Some((Mode::Whatis, false)),
+        "switch load" => Some((Mode::Load, true)),
+        "switch unload" => Some((Mode::Unload, true)),
+        _ => None,
+    }
+}
+
+/// Adds the lines of a text, further in.
+fn push_lines(answer: &mut String, text: &str) -> Result<(), AllocError> {
+    for line in text.lines() {
+        answer.push_str("\n  ")?;
+        answer.push_str(line)?;
+    }
+    Ok(())
+}
+
+/// Adds a text with a sign for each newline in it.
+fn push_shown(answer: &mut String, text: &str) -> Result<(), AllocError> {
+    for (place, line) in text.split('\n').enumerate() {
+        if place > 0 {
+            answer.push('␤')?;
+        }
+        answer.push_str(line)?;
+    }
+    Ok(())
+}
+
+fn push_change(answer: &mut String, change: &Change) -> Result<(), AllocError> {
+    answer.push_str("\n  ")?;
+    answer.push_str(&change.name)?;
+    match &change.value {
+        Some(value) => {
+            answer.push('=')?;
+            push_shown(answer, value)
+        }
+        None => answer.push_str(" is unset"),
+    }
+}
+
+/// What is shown of a file that ended.
+fn ran_text(alloc: Global, ran: &Ran, report: &str) -> Result<String, AllocError> {
+    let mut text = String::from_str(alloc, if ran.asked { "ok, asked" } else { "ok" })?;
+    for message in &ran.messages {
+        text.push_str("\n  says ")?;
+        push_shown(&mut text, message)?;
+    }
+    push_lines(&mut text, report)?;
+    Ok(text)
+}
+
+fn names(alloc: Global, words: &str) -> Result<Vec<String>, AllocError> {
+    let mut names = Vec::new(alloc);
+    for word in words.split_whitespace() {
+        names.push(String::from_str(alloc, word)?)?;
+    }
+    Ok(names)
+}
+
+impl Row {
+    pub fn new(alloc: Global) -> Result<Row, AllocError> {
+        Ok(Row {
+            alloc,
+            env: Env::new(alloc),
+            shell: Shell::Sh,
+            module: String::from_str(alloc, "m/1")?,
+            typed: String::from_str(alloc, "m/1")?,
+            loaded: Vec::new(alloc),
+            text: String::from_str(alloc, COOKIE)?,
+            records: Vec::new(alloc),
+            limits: LIMITS,
+        })
+    }
+
+    /// Takes up what a line says; None where it isn't a line.
+    fn take(&mut self, word: &str, rest: &str) -> Result<Option<()>, AllocError> {
+        match word {
+            "set" => {
+                let (name, value) = rest.split_once(' ').unwrap_or((rest, ""));
+                self.env.set(name, value).map_err(|_| AllocError)?;
+            }
+            "loaded" => self.loaded = names(self.alloc, rest)?,
+            "in" => return self.place(rest),
+            "commands" => match rest.parse::<u64>() {
+                Ok(count) => self.limits.commands = count,
+                Err(_) => return Ok(None),
+            },
+            "text" => {
+                self.text.push_str(rest)?;
+                self.text.push('\n')?;
+            }
+            "clear" => self.text = String::from_str(self.alloc, COOKIE)?,
+            _ => return Ok(None),
+        }
+        Ok(Some(()))
+    }
+
+    /// The shell, module and typed name that the file is run for.
+    fn place(&mut self, words: &str) -> Result<Option<()>, AllocError> {
+        let words = names(self.alloc, words)?;
+        let [shell, module, typed] = words.as_slice() else {
+            return Ok(None);
+        };
+        let Some(shell) = Shell::named(shell) else {
+            return Ok(None);
+        };
+        self.shell = shell;
+        self.module = module.clone()?;
+        self.typed = typed.clone()?;
+        Ok(Some(()))
+    }
+
+    fn report(&self, mode: Mode, path: &str, records: &[Record]) -> Result<String, AllocError> {
+        match mode {
+            Mode::Display => show_report(self.alloc, path, records),
+            Mode::Whatis => whatis_report(self.alloc, &self.module, records),
+            Mode::Load | Mode::Unload => Ok(String::new(self.alloc)),
+        }
+    }
+
+    /// Runs the file, and says what it came to.
+    fn ran(&mut self, mode: Mode, in_switch: bool, path: &str) -> Result<String, AllocError> {
+        let context = Context {
+            mode,
+            in_switch,
+            name: &self.module,
+            path,
+            shell: self.shell,
+            typed: &self.typed,
+            loaded: &self.loaded,
+        };
+        match run_file(self.alloc, &context, &self.text, &mut self.env, self.limits) {
+            Ok(ran) => {
+                let report = self.report(mode, path, &ran.records)?;
+                let text = ran_text(self.alloc, &ran, &report)?;
+                self.records = ran.records;
+                Ok(text)
+            }
+            Err(fault) => {
+                let number = fault.number();
+                format!(in self.alloc; "{number} {fault}")
+            }
+        }
+    }
+
+    fn run(&mut self, mode: Mode, in_switch: bool) -> Result<String, AllocError> {
+        let module = self.module.as_str();
+        let path = format!(in self.alloc; "/m/{module}")?;
+        let before = self.env.copy().map_err(|_| AllocError)?;
+        let mut answer = self.ran(mode, in_switch, &path)?;
+        let changes = changes(self.alloc, &before, &self.env).map_err(|_| AllocError)?;
+        for change in &changes {
+            push_change(&mut answer, change)?;
+        }
+        Ok(answer)
+    }
+
+    /// The answer to a line, where it asks for one.
+    pub fn answer(&mut self, line: &str) -> Result<Option<String>, AllocError> {
+        if let Some((mode, in_switch)) = mode_named(line) {
+            return Ok(Some(self.run(mode, in_switch)?));
+        }
+        if line == "records" {
+            let mut text = String::from_str(self.alloc, "records")?;
+            push_lines(&mut text, &show_report(self.alloc, "", &self.records)?)?;
+            return Ok(Some(text));
+        }
+        let (word, rest) = line.split_once(' ').unwrap_or((line, ""));
+        match self.take(word, rest)? {
+            Some(()) => Ok(None),
+            None => Ok(Some(String::from_str(self.alloc, "bad line")?)),
+        }
+    }
+}
