@@ -392,6 +392,22 @@ def what_a_file_is_told_in_a_switch(folder):
 
 
 @case
+def the_shell_that_a_file_is_told(folder):
+    questions = ["shell", "shelltype", "shell csh", "shelltype csh", "shelltype sh", "shell fish"]
+    folder.module("foo/1", "".join(f"puts -nonewline stderr [module-info {words}],\n" for words in questions))
+    for shell, family in (
+        *((shell, "sh") for shell in ("sh", "bash", "ksh", "zsh")),
+        *((shell, "csh") for shell in ("csh", "tcsh")),
+        ("fish", "fish"),
+    ):
+        answers = [shell == "csh", family == "csh", family == "sh", shell == "fish"]
+        said = ",".join([shell, family, *(str(int(answer)) for answer in answers), ""])
+        for word in ("load", "show", "whatis"):
+            done = folder.run(shell, word, "foo")
+            same((done.returncode, done.stderr.split(folder.modules)[0]), (0, said.encode()), f"{word} in {shell}")
+
+
+@case
 def what_modules_need_of_one_another(folder):
     for name in ("gcc/9", "gcc/10", "icc/1"):
         folder.module(name, "")
