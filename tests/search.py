@@ -50,13 +50,13 @@ class Disk:
         )
         return done.stdout.decode(errors="replace"), done.stderr.decode(errors="replace"), done.returncode
 
-    def answer(self, line, user=None):
-        out, err, status = self.run(line, user=user)
+    def answer(self, line, user=None, variables=None):
+        out, err, status = self.run(line, user=user, variables=variables)
         true(status == 0, f"{line}: status {status}, {err!r}")
         return out.rstrip("\n").rsplit(" [", 1)
 
-    def locates(self, name, wanted, user=None):
-        same(self.answer(f"disk locate {self.m} {name}", user)[0].replace(self.m, "M"), wanted, name)
+    def locates(self, name, wanted, user=None, variables=None):
+        same(self.answer(f"disk locate {self.m} {name}", user, variables)[0].replace(self.m, "M"), wanted, name)
 
     def lists(self, wanted, user=None):
         same(self.answer(f"disk avail {self.m}", user)[0].replace(self.m, "M"), wanted, "avail")
@@ -80,6 +80,40 @@ def versions_and_default_files(disk):
     disk.file("ver/.modulerc", COOKIE + "error x")
     disk.locates("ver", "45 Bad default file 'M/ver/.modulerc'")
     disk.lists("M: ver/1.9 ver/1.10 ver/1.10-rc")
+
+
+@case
+def default_files_that_compute(disk):
+    for version in ("1.9", "1.10"):
+        disk.file(f"ver/{version}")
+    # To a default file each variable of the environment is unset.
+    disk.file(
+        "ver/.version",
+        COOKIE
+        + "if {[info exists env(HOME)]} {\n    set ModulesVersion 1.10\n} else {\n    set ModulesVersion 1.[expr {3 * 3}]\n}\n",
+    )
+    disk.locates("ver", "ver/1.9 M/ver/1.9", variables={"HOME": "/"})
+    disk.lists("M: ver/1.9(default) ver/1.10")
+    disk.file(
+        "ver/.modulerc",
+        COOKIE
+        + f'if {{$ModulesCurrentModulefile eq "{disk.m}/ver/.modulerc"}} {{\n'
+        + "    foreach v {1.9 1.10} {module-version ver/$v default}\n}\n",
+    )
+    disk.locates("ver", "ver/1.10 M/ver/1.10")
+    disk.lists("M: ver/1.9 ver/1.10(default)")
+    for text in ("while 1 {}", "proc f {} {f}; f", "catch {module-alias v ver/1.9}", "setenv A 1", "set v {"):
+        disk.file("ver/.modulerc", COOKIE + text + "\n")
+        disk.locates("ver", "45 Bad default file 'M/ver/.modulerc'")
+        disk.lists("M: ver/1.9 ver/1.10")
+    disk.locates("ver/1.9", "ver/1.9 M/ver/1.9")
+
+
+@case
+def a_directory_is_named_as_it_is_spelled(disk):
+    disk.file("ver/1")
+    same(disk.answer(f"disk locate {disk.m}/:/nowhere ver")[0], f"ver/1 {disk.m}//ver/1", "a slash at the end")
+    same(disk.answer(f"disk avail /nowhere:{disk.m}/")[0], f"{disk.m}/: ver/1", "a slash at the end")
 
 
 @case
@@ -202,7 +236,8 @@ def a_directory_of_many_names(disk):
 def growths_of_memory_that_are_refused(disk):
     for version in ("1.9", "1.10"):
         disk.file(f"ver/{version}")
-    disk.file("ver/.version", COOKIE + "set ModulesVersion 1.9")
+    disk.file("ver/.modulerc", COOKIE + "foreach v {7 8} {module-version ver/$v default}")
+    disk.file("ver/.version", COOKIE + "set ModulesVersion 1.[expr {3 * 3}]")
     shim = refuser(os.fsencode(disk.path))
     for line in (f"disk locate {disk.m} ver", f"disk locate {disk.m} nope", f"disk avail {disk.m}"):
         refuses_each(

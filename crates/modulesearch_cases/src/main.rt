@@ -4,139 +4,65 @@
 //! and `bytes` adds a byte that is not UTF-8; `folder PATH NAME...` puts a folder; `new` begins a new tree. `locate
 //! MODULEPATH NAME` and `avail MODULEPATH` search it, `disk locate MODULEPATH NAME` and `disk avail MODULEPATH` a
 //! disk. Behind an answer stands how often the tree was read and listed.
+//!
+//! `limits COMMANDS DEPTH BYTES` says how far the evaluation of each default file may go from then on; at first as the
+//! program `modulecmd` lets it go. The other lines call a part of the search: `text MODULEPATH NAME`, `read PATH`,
+//! `evaluate PATH TEXT`, `directories MODULEPATH`, `path DIR NAME` and `order LEFT RIGHT`.
 #![tactic(auto)]
 
 mod counted;
-mod plain;
+mod parts;
+mod places;
+mod searches;
 
-use counted::Counted;
-use lookup::{DiskTree, MemoryTree, Tree};
-use modulefind::locate;
-use modulelist::available;
-use plain::Plain;
+use lookup::MemoryTree;
+use modulelookup::{DiskTree, Limits};
 use std::alloc::{AllocError, Global};
 use std::io;
 
-fn locate_text<T: Tree>(
-    alloc: Global,
-    tree: &mut T,
-    modulepath: &str,
-    name: &str,
-) -> Result<String, AllocError> {
-    match locate(alloc, tree, &Plain, modulepath, name) {
-        Ok(found) => {
-            let name = found.name.as_str();
-            let path = found.path.as_str();
-            format!(in alloc; "{name} {path}")
-        }
-        Err(fault) => {
-            let number = fault.number();
-            format!(in alloc; "{number} {fault}")
-        }
-    }
-}
+const STANDARD: Limits = Limits {
+    commands: 100_000,
+    depth: 200,
+    value_bytes: 1_048_576,
+};
 
-fn avail_text<T: Tree>(
+/// The answer to a line over the tree in memory; None where the line asks nothing.
+fn answer(
     alloc: Global,
-    tree: &mut T,
-    modulepath: &str,
-) -> Result<String, AllocError> {
-    let listings = match available(alloc, tree, &Plain, modulepath) {
-        Ok(listings) => listings,
-        Err(fault) => {
-            let number = fault.number();
-            return format!(in alloc; "{number} {fault}");
-        }
-    };
-    let mut text = String::new(alloc);
-    for listing in &listings {
-        text.push_str(&listing.dir)?;
-        text.push(':')?;
-        for row in &listing.modules {
-            text.push(' ')?;
-            text.push_str(&row.name)?;
-            if row.is_default {
-                text.push_str("(default)")?;
-            }
-        }
-        text.push(' ')?;
-    }
-    Ok(text)
-}
-
-fn search<T: Tree>(
-    alloc: Global,
-    tree: &mut T,
+    tree: &mut MemoryTree,
+    limits: Limits,
     kind: &str,
     rest: &str,
 ) -> Result<Option<String>, AllocError> {
-    let mut tree = Counted {
-        tree,
-        reads: 0,
-        listings: 0,
-    };
-    let answer = match (kind, rest.split_once(' ')) {
-        ("locate", Some((modulepath, name))) => locate_text(alloc, &mut tree, modulepath, name)?,
-        ("avail", None) => avail_text(alloc, &mut tree, rest)?,
-        _ => return Ok(None),
-    };
-    let answer = answer.as_str().trim_end();
-    let reads = tree.reads;
-    let listings = tree.listings;
-    Ok(Some(format!(in alloc; "{answer} [{reads} read, {listings} listed]")?))
-}
-
-fn file_text(alloc: Global, text: &str, kind: &str) -> Result<Vec<u8>, AllocError> {
-    let mut bytes = Vec::new(alloc);
-    for byte in text.as_bytes() {
-        bytes.push(if *byte == b';' { b'\n' } else { *byte })?;
+    if let Some(answer) = searches::answer(alloc, tree, limits, kind, rest)? {
+        return Ok(Some(answer));
     }
-    if kind == "bytes" {
-        bytes.push(0xff)?;
+    if let Some(answer) = parts::answer_of_tree(alloc, tree, limits, kind, rest)? {
+        return Ok(Some(answer));
     }
-    Ok(bytes)
-}
-
-/// Puts a file or a folder; false where the line says none.
-fn put(alloc: Global, tree: &mut MemoryTree, kind: &str, rest: &str) -> Result<bool, AllocError> {
-    let (path, text) = rest.split_once(' ').unwrap_or((rest, ""));
-    match kind {
-        "new" => {
-            *tree = MemoryTree::new(alloc);
-            Ok(true)
-        }
-        "folder" => {
-            let mut names = Vec::new(alloc);
-            for name in text.split(' ') {
-                names.push(name)?;
-            }
-            tree.put_directory(path, &names)?;
-            Ok(true)
-        }
-        "file" | "bytes" => {
-            let bytes = file_text(alloc, text, kind)?;
-            tree.put_file(path, &bytes)?;
-            Ok(true)
-        }
-        _ => Ok(false),
-    }
+    parts::answer(alloc, limits, kind, rest)
 }
 
 fn main(rt: HostRuntime) -> io::Result<()> {
     let alloc = rt.alloc();
     let mut memory = MemoryTree::new(alloc);
+    let mut limits = STANDARD;
     for line in rt.lines(alloc) {
         let line = line?;
         let (kind, rest) = line.as_str().split_once(' ').unwrap_or((line.as_str(), ""));
-        if put(alloc, &mut memory, kind, rest)? {
+        if kind == "limits" {
+            limits = parts::limits_of(rest).unwrap_or(STANDARD);
+            continue;
+        }
+        if places::put(alloc, &mut memory, kind, rest)? {
             continue;
         }
         let answer = match (kind, rest.split_once(' ')) {
             ("disk", Some((kind, rest))) => {
                 let mut disk = DiskTree::new(rt.clone()?);
-                search(alloc, &mut disk, kind, rest)?
+                searches::answer(alloc, &mut disk, limits, kind, rest)?
             }
-            _ => search(alloc, &mut memory, kind, rest)?,
+            _ => answer(alloc, &mut memory, limits, kind, rest)?,
         };
         match answer {
             Some(answer) => println!(rt; "{answer}")?,
