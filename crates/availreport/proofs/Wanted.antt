@@ -1,5 +1,5 @@
 -- Which names are to be reported.
-use Rattle.std.proofs.Common.{◌≡◌, ◌<◌, Bool, false, List, [], ◌∷◌, String, Global, map, length, refl, arith}
+use Rattle.std.proofs.Common.{◌≡◌, ◌<◌, List, [], ◌∷◌, String, Global, map, length, refl, arith}
 use Rattle.std.specs.Prelude.{nat_eq, string_bytes}
 use Rattle.std.specs.List.{list_any, starts_with}
 use Rattle.modulename.specs.ModuleName.{Text}

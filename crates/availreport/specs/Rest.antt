@@ -1,5 +1,5 @@
 -- What is left to report of a directory.
-use Rattle.std.specs.Prelude.{Bool, true, false, List, ◌++◌, filter, flat_map}
+use Rattle.std.specs.Prelude.{Bool, true, false, List, filter, flat_map}
 use Rattle.modulename.specs.ModuleName.{Text}
 use Rattle.modulesearch.specs.Listed.{Row}
 use Rattle.requests.specs.Reports.{is_wanted, row_line, rows_text}

@@ -6,7 +6,6 @@ use Rattle.tclrules.specs.Oracle.{Told}
 use Rattle.tclrules.specs.Derivation.{Outcome}
 use Rattle.tclrules.specs.Variables.{Variables, lookup}
 use Rattle.tclrules.specs.Plans as plans
-use Rattle.tclrules.specs.Plans.{Normal}
 use Rattle.tclrules.specs.Promise.{ReportsFault, is_want_of_memory, texts_of, Evaluates}
 use Rattle.tclrules.specs.declared.limits.Limits.{Limits}
 use Rattle.tclrules.specs.declared.outcome.Ending.{Ending}

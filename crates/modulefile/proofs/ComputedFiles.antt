@@ -7,7 +7,7 @@ use lib.Utf8.{encode}
 use Rattle.tclchars.specs.Runs.{Text}
 use Rattle.tclchars.specs.Braces.{braced_at}
 use Rattle.tclscript.specs.Passing.{pass}
-use Rattle.tclscript.specs.Reading.{script_at, script_with, command_at, word_at, plain_word_at, braced_word_at, quoted_word_at, quotes_at, parts_with, part_at, dollar_at, backslash_at, bracket_at, index_at, braced_name_at, after_expansion, inner_at}
+use Rattle.tclscript.specs.Reading.{whole_script, script_with, command_at, word_at, plain_word_at, braced_word_at, quoted_word_at, quotes_at, parts_with, part_at, dollar_at, backslash_at, bracket_at, index_at, braced_name_at, after_expansion, inner_at}
 use Rattle.tclexpr.specs.Marks.{mark_at, after_white}
 use Rattle.tclexpr.specs.Operands.{operand_at, after_number, after_digits, is_truth, quoted_at, braced_text_at}
 use Rattle.tclexpr.specs.Operands as operands
@@ -29,7 +29,7 @@ use Rattle.modulefile.specs.Rows.{standard, file, loading, unloading, showing, d
 use Rattle.modulefile.proofs.PlayedFiles.{played_runs}
 
 pub computed : Context → Text → ℕ → Option (Result Ran Stop)
-unfolding chars digits encode braced_at pass script_at script_with command_at word_at plain_word_at braced_word_at quoted_word_at quotes_at parts_with part_at dollar_at backslash_at bracket_at index_at braced_name_at after_expansion inner_at mark_at after_white operand_at after_number after_digits is_truth quoted_at braced_text_at operands.word_at expr_at whole_at chain_at climb_at prefix_at below_at numeral list_of list_at element_at piece_of piece_at value_messages.divide_by_zero value_messages.negative_shift value_messages.not_a_list value_messages.not_numeric value_messages.no_boolean value_messages.no_whole_number value_messages.bad_index value_messages.wrong_words white_space split_space no_variable no_command outside_loop not_to_unset is_array bad_option no_body no_loop_variable is_taken left_out_commands core_commands module_commands left_out_module_commands core_form call_of
+unfolding chars digits encode braced_at pass whole_script script_with command_at word_at plain_word_at braced_word_at quoted_word_at quotes_at parts_with part_at dollar_at backslash_at bracket_at index_at braced_name_at after_expansion inner_at mark_at after_white operand_at after_number after_digits is_truth quoted_at braced_text_at operands.word_at expr_at whole_at chain_at climb_at prefix_at below_at numeral list_of list_at element_at piece_of piece_at value_messages.divide_by_zero value_messages.negative_shift value_messages.not_a_list value_messages.not_numeric value_messages.no_boolean value_messages.no_whole_number value_messages.bad_index value_messages.wrong_words white_space split_space no_variable no_command outside_loop not_to_unset is_array bad_option no_body no_loop_variable is_taken left_out_commands core_commands module_commands left_out_module_commands core_form call_of
 computed c text steps = play standard c text steps
 
 is_played : (c : Context) (text : Text) (steps : ℕ) → play standard c text steps ≡ computed c text steps

@@ -11,7 +11,7 @@ use Rattle.modulerecords.specs.Effects.{Mode, effect, effects}
 use Rattle.modulerecords.proofs.Effected.{whole, effects_go_on}
 use Rattle.modulefile.specs.Results.{◌>>=◌}
 use Rattle.modulefile.specs.Calls as calls
-use Rattle.modulefile.specs.Calls.{Call, keeps, says, getenv, is_loaded, own_name, typed_name, tells, tests, CallReason, unknown, left_out, bad_record, Form, call_of}
+use Rattle.modulefile.specs.Calls.{keeps, says, getenv, is_loaded, own_name, typed_name, tells, tests, CallReason, unknown, left_out, bad_record, Form, call_of}
 use Rattle.modulefile.specs.Answers.{Context, not_done, kept, read, answered, recorded, records_in, by_record, effects_so_far, or_start, found_after, value_shown}
 use Rattle.modulefile.proofs.Bound.{bound, bind_ok}
 

@@ -1,5 +1,5 @@
 -- The commands of the program, as the definitions see them.
-use Rattle.std.specs.Prelude.{◌≡◌, ℕ, List, [], ◌∷◌, ◌++◌, map, string_bytes, String, if◌then◌else◌, Option, Some, None, IfSome, Result, Ok, Err}
+use Rattle.std.specs.Prelude.{◌≡◌, ℕ, List, [], ◌∷◌, ◌++◌, map, string_bytes, String, if◌then◌else◌, Option, Some, None, IfSome}
 use Rattle.std.specs.Option.{option_map}
 use Rattle.std.specs.declared.alloc.Global.{Global}
 use Rattle.environment.specs.Texts.{Text}
@@ -60,8 +60,3 @@ reason_of faults.BadArguments = Some calls.bad_arguments
 -- the fault is this, or want of memory
 abbrev pub HasReason : CallReason → CallFault → Type 0
 HasReason reason fault = IfSome (reason_of fault) (λ r. r ≡ reason)
-
--- The answer is that of the outcome, or want of memory.
-abbrev pub Gives : {X Y : Type 0} → (X → Y) → Result X CallFault → Result Y CallReason → Type 0
-Gives view (Ok x) outcome = outcome ≡ Ok (view x)
-Gives view (Err fault) outcome = IfSome (reason_of fault) (λ r. outcome ≡ Err r)

@@ -3,7 +3,7 @@ use Rattle.std.specs.Prelude.{◌≡◌, ℕ, true, false, List, Some, Result, O
 use Rattle.std.specs.List.{list_all}
 use Rattle.environment.specs.Texts.{Text}
 use Rattle.tclrules.specs.Oracle as oracle
-use Rattle.tclrules.specs.Oracle.{Answer, Addition, Nothing, Done, Unknown, LeftOut, Refused, addition, is_question}
+use Rattle.tclrules.specs.Oracle.{Answer, Nothing, Done, Unknown, LeftOut, Refused, addition, is_question}
 use Rattle.tclrules.specs.declared.limits.Limits.{Limits}
 use Rattle.modulerecords.specs.Judgments.{is_proper}
 use Rattle.modulerecords.specs.Effects.{Mode, load, unload, display, whatis, effects}

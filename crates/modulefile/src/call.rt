@@ -8,7 +8,8 @@ ghost use Rattle.modulerecords.specs.Records.{Set, Push, Conflict, Prereq};
 ghost use Rattle.modulefile.specs.Calls.{no_option, without_option, var_and_value, var_and_perhaps, with_delimiter, by_next_word, by_same_word};
 ghost use Rattle.modulefile.specs.Calls.{by_option, delimited, path_form, some_words, getenv_form, puts_form, told_or_tested};
 ghost use Rattle.modulefile.specs.Calls.{alone, info_form, description, asked_of_loaded, not_a_command, call_of};
-ghost use Rattle.modulefile.specs.CallViews.{Gives, HasReason, texts_of, call_view, edit_record, topic_view, path_words_view};
+ghost use Rattle.tclchars.specs.Answers.{Gives};
+ghost use Rattle.modulefile.specs.CallViews.{reason_of, HasReason, texts_of, call_view, edit_record, topic_view, path_words_view};
 
 use crate::call_fault::CallFault;
 use std::alloc::Global;
@@ -100,7 +101,7 @@ fn is_option(word: &str) -> bool
 
 /// The words, of which the first is no option.
 fn no_option(words: &[String]) -> Result<&[String], CallFault>
-    ensures { Gives (λ ws. texts_of ws.now) result (no_option (map string_bytes words.entry.now)) }
+    ensures { Gives reason_of (λ ws. texts_of ws.now) result (no_option (map string_bytes words.entry.now)) }
 {
     match words {
         [word, ..] if is_option(word) => Err(CallFault::BadArguments),
@@ -109,7 +110,7 @@ fn no_option(words: &[String]) -> Result<&[String], CallFault>
 }
 
 fn set_form(words: &[String]) -> Result<Call<'_>, CallFault>
-    ensures { Gives call_view result (without_option (var_and_value Set) (map string_bytes words.entry.now)) }
+    ensures { Gives reason_of call_view result (without_option (var_and_value Set) (map string_bytes words.entry.now)) }
 {
     match no_option(words)? {
         [var, value] => Ok(Call::Set { var, value }),
@@ -118,7 +119,7 @@ fn set_form(words: &[String]) -> Result<Call<'_>, CallFault>
 }
 
 fn push_form(words: &[String]) -> Result<Call<'_>, CallFault>
-    ensures { Gives call_view result (without_option (var_and_value Push) (map string_bytes words.entry.now)) }
+    ensures { Gives reason_of call_view result (without_option (var_and_value Push) (map string_bytes words.entry.now)) }
 {
     match no_option(words)? {
         [var, value] => Ok(Call::Push { var, value }),
@@ -127,7 +128,7 @@ fn push_form(words: &[String]) -> Result<Call<'_>, CallFault>
 }
 
 fn unset_form(words: &[String]) -> Result<Call<'_>, CallFault>
-    ensures { Gives call_view result (without_option var_and_perhaps (map string_bytes words.entry.now)) }
+    ensures { Gives reason_of call_view result (without_option var_and_perhaps (map string_bytes words.entry.now)) }
 {
     match no_option(words)? {
         [var] => Ok(Call::Unset { var, value: None }),
@@ -141,7 +142,7 @@ fn unset_form(words: &[String]) -> Result<Call<'_>, CallFault>
 
 /// The delimiter that a word says: one character from the space to the tilde.
 fn with_delimiter<'a>(text: &str, words: &'a [String]) -> Result<PathWords<'a>, CallFault>
-    ensures { Gives path_words_view result (with_delimiter text.now (map string_bytes words.entry.now)) }
+    ensures { Gives reason_of path_words_view result (with_delimiter text.now (map string_bytes words.entry.now)) }
 {
     match text.as_bytes() {
         [byte @ 32..=126] => Ok(PathWords {
@@ -153,7 +154,7 @@ fn with_delimiter<'a>(text: &str, words: &'a [String]) -> Result<PathWords<'a>, 
 }
 
 fn by_next_word(words: &[String]) -> Result<PathWords<'_>, CallFault>
-    ensures { Gives path_words_view result (by_next_word (map string_bytes words.entry.now)) }
+    ensures { Gives reason_of path_words_view result (by_next_word (map string_bytes words.entry.now)) }
 {
     match words {
         [text, rest @ ..] => with_delimiter(text, rest),
@@ -162,7 +163,7 @@ fn by_next_word(words: &[String]) -> Result<PathWords<'_>, CallFault>
 }
 
 fn by_option<'a>(option: &str, words: &'a [String]) -> Result<PathWords<'a>, CallFault>
-    ensures { Gives path_words_view result (by_option option.now (map string_bytes words.entry.now)) }
+    ensures { Gives reason_of path_words_view result (by_option option.now (map string_bytes words.entry.now)) }
 {
     if option == "-d" || option == "--delim" {
         return by_next_word(words);
@@ -174,7 +175,7 @@ fn by_option<'a>(option: &str, words: &'a [String]) -> Result<PathWords<'a>, Cal
 }
 
 fn delimited(words: &[String]) -> Result<PathWords<'_>, CallFault>
-    ensures { Gives path_words_view result (delimited (map string_bytes words.entry.now)) }
+    ensures { Gives reason_of path_words_view result (delimited (map string_bytes words.entry.now)) }
 {
     match words {
         [] => Err(CallFault::BadArguments),
@@ -184,7 +185,7 @@ fn delimited(words: &[String]) -> Result<PathWords<'_>, CallFault>
 }
 
 fn path_form(edit: PathEdit, words: &[String]) -> Result<Call<'_>, CallFault>
-    ensures { Gives call_view result (path_form (edit_record edit) (map string_bytes words.entry.now)) }
+    ensures { Gives reason_of call_view result (path_form (edit_record edit) (map string_bytes words.entry.now)) }
 {
     let PathWords { delim, words } = delimited(words)?;
     match words {
@@ -199,7 +200,7 @@ fn path_form(edit: PathEdit, words: &[String]) -> Result<Call<'_>, CallFault>
 }
 
 fn conflict_form(words: &[String]) -> Result<Call<'_>, CallFault>
-    ensures { Gives call_view result (without_option (some_words Conflict) (map string_bytes words.entry.now)) }
+    ensures { Gives reason_of call_view result (without_option (some_words Conflict) (map string_bytes words.entry.now)) }
 {
     match no_option(words)? {
         [] => Err(CallFault::BadArguments),
@@ -208,7 +209,7 @@ fn conflict_form(words: &[String]) -> Result<Call<'_>, CallFault>
 }
 
 fn prereq_form(words: &[String]) -> Result<Call<'_>, CallFault>
-    ensures { Gives call_view result (without_option (some_words Prereq) (map string_bytes words.entry.now)) }
+    ensures { Gives reason_of call_view result (without_option (some_words Prereq) (map string_bytes words.entry.now)) }
 {
     match no_option(words)? {
         [] => Err(CallFault::BadArguments),
@@ -217,7 +218,7 @@ fn prereq_form(words: &[String]) -> Result<Call<'_>, CallFault>
 }
 
 fn whatis_form(words: &[String]) -> Result<Call<'_>, CallFault>
-    ensures { Gives call_view result (some_words description (map string_bytes words.entry.now)) }
+    ensures { Gives reason_of call_view result (some_words description (map string_bytes words.entry.now)) }
 {
     match words {
         [] => Err(CallFault::BadArguments),
@@ -226,7 +227,7 @@ fn whatis_form(words: &[String]) -> Result<Call<'_>, CallFault>
 }
 
 fn getenv_form(words: &[String]) -> Result<Call<'_>, CallFault>
-    ensures { Gives call_view result (without_option getenv_form (map string_bytes words.entry.now)) }
+    ensures { Gives reason_of call_view result (without_option getenv_form (map string_bytes words.entry.now)) }
 {
     match no_option(words)? {
         [var] => Ok(Call::Getenv { var, default: "" }),
@@ -236,14 +237,14 @@ fn getenv_form(words: &[String]) -> Result<Call<'_>, CallFault>
 }
 
 fn loaded_form(words: &[String]) -> Result<Call<'_>, CallFault>
-    ensures { Gives call_view result (without_option asked_of_loaded (map string_bytes words.entry.now)) }
+    ensures { Gives reason_of call_view result (without_option asked_of_loaded (map string_bytes words.entry.now)) }
 {
     Ok(Call::IsLoaded(no_option(words)?))
 }
 
 /// The evaluator hands on a channel and a text, or an option before them.
 fn puts_form(words: &[String]) -> Result<Call<'_>, CallFault>
-    ensures { Gives call_view result (puts_form (map string_bytes words.entry.now)) }
+    ensures { Gives reason_of call_view result (puts_form (map string_bytes words.entry.now)) }
 {
     match words {
         [_, text] => Ok(Call::Say {
@@ -259,7 +260,7 @@ fn puts_form(words: &[String]) -> Result<Call<'_>, CallFault>
 }
 
 fn told_or_tested(topic: Topic, words: &[String]) -> Result<Call<'_>, CallFault>
-    ensures { Gives call_view result (told_or_tested (topic_view topic) (map string_bytes words.entry.now)) }
+    ensures { Gives reason_of call_view result (told_or_tested (topic_view topic) (map string_bytes words.entry.now)) }
 {
     match words {
         [] => Ok(Call::Tell(topic)),
@@ -270,7 +271,7 @@ fn told_or_tested(topic: Topic, words: &[String]) -> Result<Call<'_>, CallFault>
 
 /// The call, where no word follows.
 fn alone<'a>(call: Call<'a>, words: &[String]) -> Result<Call<'a>, CallFault>
-    ensures { Gives call_view result (alone (call_view call.entry) (map string_bytes words.entry.now)) }
+    ensures { Gives reason_of call_view result (alone (call_view call.entry) (map string_bytes words.entry.now)) }
 {
     match words {
         [] => Ok(call),
@@ -279,7 +280,7 @@ fn alone<'a>(call: Call<'a>, words: &[String]) -> Result<Call<'a>, CallFault>
 }
 
 fn info_form<'a>(alloc: Global, words: &'a [String]) -> Result<Call<'a>, CallFault>
-    ensures { Gives call_view result (info_form (map string_bytes words.entry.now)) }
+    ensures { Gives reason_of call_view result (info_form (map string_bytes words.entry.now)) }
 {
     let [topic, others @ ..] = words else {
         return Err(CallFault::BadArguments);
@@ -327,7 +328,7 @@ fn unknown_or_left_out(alloc: Global, name: &str) -> CallFault
 /// them, an option, or a delimiter that isn't one character (56); or want of memory.
 #[tactic(auto, unfolding(crate::specs::Calls::call_of))]
 pub fn call_of<'a>(alloc: Global, words: &'a [String]) -> Result<Call<'a>, CallFault>
-    ensures { Gives call_view result (call_of (map string_bytes words.entry.now)) }
+    ensures { Gives reason_of call_view result (call_of (map string_bytes words.entry.now)) }
 {
     let [name, others @ ..] = words else {
         return Err(CallFault::Unknown);

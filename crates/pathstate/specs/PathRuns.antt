@@ -5,36 +5,36 @@ use Rattle.pathstate.specs.Paths.{PathState, add_all, drop_all}
 use Rattle.pathstate.specs.declared.paths.End.{End}
 
 -- a command adds or drops elements
-pub data Edit : Type 0 where
-  Add : (xs : List Text) (end : End) → Edit
-  Drop : (xs : List Text) → Edit
+pub data StateEdit : Type 0 where
+  Add : (xs : List Text) (end : End) → StateEdit
+  Drop : (xs : List Text) → StateEdit
 
 -- the state after the edits, the first of them first
-abbrev pub after : List Edit → PathState → PathState
+abbrev pub after : List StateEdit → PathState → PathState
 after [] s = s
 after (Add xs end ∷ edits) s = after edits (add_all s xs end)
 after (Drop xs ∷ edits) s = after edits (drop_all s xs)
 
 -- how often the edits add x, and how often they drop it
-abbrev pub adds : List Edit → Text → ℕ
+abbrev pub adds : List StateEdit → Text → ℕ
 adds [] x = 0
 adds (Add xs end ∷ edits) x = count_by (bytes_eq x) xs + adds edits x
 adds (Drop xs ∷ edits) x = adds edits x
 
 -- how often they drop it
-abbrev pub drops : List Edit → Text → ℕ
+abbrev pub drops : List StateEdit → Text → ℕ
 drops [] x = 0
 drops (Add xs end ∷ edits) x = drops edits x
 drops (Drop xs ∷ edits) x = count_by (bytes_eq x) xs + drops edits x
 
 -- how many adds of x no drop has undone
-abbrev pub live : List Edit → Text → ℕ
+abbrev pub live : List StateEdit → Text → ℕ
 live edits x = adds edits x - drops edits x
 
 -- Each drop undoes one earlier add that was not undone before: however many of the edits are done,
 -- no element was dropped more often than it was added.
-abbrev pub EachDropUndoes : List Edit → Type 0
-EachDropUndoes edits = (done rest : List Edit) → done ++ rest ≡ edits → (x : Text) → drops done x ≤ adds done x
+abbrev pub EachDropUndoes : List StateEdit → Type 0
+EachDropUndoes edits = (done rest : List StateEdit) → done ++ rest ≡ edits → (x : Text) → drops done x ≤ adds done x
 
 -- what stands over a start, where each element has so many live adds
 pub record Stands (start : PathState) (live : Text → ℕ) (now : PathState) : Type 0 where

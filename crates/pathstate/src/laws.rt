@@ -5,7 +5,7 @@ ghost use Rattle.environment.specs.Texts.{Text};
 ghost use Rattle.environment.specs.Environment.{Environment};
 ghost use Rattle.pathstate.specs.Counters.{counter_of, Spells};
 ghost use Rattle.pathstate.specs.Paths.{PathState, IsPathState, add_all, drop_all};
-ghost use Rattle.pathstate.specs.PathRuns.{Edit, after, live, none, more, fewer, AreLive, EachDropUndoes, Stands};
+ghost use Rattle.pathstate.specs.PathRuns.{StateEdit, after, live, none, more, fewer, AreLive, EachDropUndoes, Stands};
 ghost use Rattle.pathstate.specs.PathTexts.{IsWritable, state_of, elements_text, pairs_text};
 ghost use Rattle.pathstate.specs.PathVariables.{path_in, added_path, dropped_path, is_element, counters_fit};
 ghost use Rattle.pathstate.specs.PathOrder.{Leaves};
@@ -14,9 +14,9 @@ ghost use Rattle.pathstate.specs.declared.paths.End.{End};
 /// After any adds, and drops that each undo one of them, what was there before stands as it was,
 /// and what is live is counted on top of it. Where nothing is live, it is what was there before.
 pub fn paths()
-    ensures stands { (start : PathState) (edits : List Edit) → IsPathState start → EachDropUndoes edits
+    ensures stands { (start : PathState) (edits : List StateEdit) → IsPathState start → EachDropUndoes edits
         → Stands start (live edits) (after edits start) }
-    ensures restored { (start : PathState) (edits : List Edit) → IsPathState start → EachDropUndoes edits
+    ensures restored { (start : PathState) (edits : List StateEdit) → IsPathState start → EachDropUndoes edits
         → ((x : Text) → live edits x ≡ 0) → after edits start ≡ start }
 {}
 

@@ -1,5 +1,5 @@
 -- The laws of rehearsals.
-use Rattle.std.specs.Prelude.{◌≡◌, ℕ, List, [], ◌++◌, Option, take}
+use Rattle.std.specs.Prelude.{◌≡◌, ℕ, List, [], Option, take}
 use Rattle.environment.specs.Texts.{Text}
 use Rattle.environment.specs.Environment.{Environment}
 use Rattle.shelltext.specs.Sequences.{MakeOf}
@@ -8,7 +8,7 @@ use Rattle.reversal.specs.Standing.{IsStart}
 use Rattle.reversal.specs.Runs.{live_after}
 use Rattle.requests.specs.Requests.{Request}
 use Rattle.requests.specs.Steps.{Site}
-use Rattle.requests.specs.Sessions.{Response, left_by, session_moves}
+use Rattle.requests.specs.Sessions.{left_by, session_moves}
 use Rattle.requests.specs.Returning.{AreNew, AreFitting}
 use Rattle.rehearsal.specs.Rehearsals.{Rehearsed, runs_of}
 

@@ -1,13 +1,12 @@
 -- Rehearsals: a session with the text that each accepted request prints.
-use Rattle.std.specs.Prelude.{ℕ, ◌≡◌, ◌==◌, ◌++◌, List, [], ◌∷◌, Option, Some, None, take, if◌then◌else◌, Ok}
+use Rattle.std.specs.Prelude.{◌≡◌, List, [], ◌∷◌, Option, Some, None, Ok}
 use Rattle.environment.specs.Texts.{Text}
 use Rattle.environment.specs.Environment.{Environment}
 use Rattle.environment.specs.Changes.{Edit, AreChanges}
-use Rattle.shells.specs.declared.shell.Shell.{Shell}
 use Rattle.shelltext.specs.Reading.{SaysDifference}
 use Rattle.shelltext.specs.Printing.{IsUnsayable}
-use Rattle.shelltext.specs.Sequences.{Run, MakeOf}
-use Rattle.requests.specs.Requests.{Asked, Request}
+use Rattle.shelltext.specs.Sequences.{Run}
+use Rattle.requests.specs.Requests.{Request}
 use Rattle.requests.specs.Steps.{Site, Done, Step}
 use Rattle.requests.specs.Sessions.{Response, accepted, refused, given_up, Session, env_after, left_by, in_shell}
 

@@ -7,7 +7,6 @@ use Rattle.loadedlist.specs.Loaded.{Entry, names_of}
 use Rattle.lookup.specs.Search.{Held, absent, no_cookie, not_utf8, script, modulefile}
 use Rattle.relations.specs.Relations.{Is, Then, If}
 use Rattle.modulerecords.specs.Effects as modes
-use Rattle.modulerecords.specs.Effects.{Mode}
 use Rattle.modulerecords.specs.Moves.{Module, Move, Loads, Unloads, moved}
 use Rattle.modulerecords.specs.Moves as moves
 use Rattle.modulefile.specs.Answers.{Context}

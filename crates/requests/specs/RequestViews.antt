@@ -1,5 +1,5 @@
 -- The requests of the program, as the definitions see them, and why words make none.
-use Rattle.std.specs.Prelude.{◌≡◌, ℕ, List, codes, map, string_bytes, String, Option, Some, None, IfSome, Result, Ok, Err}
+use Rattle.std.specs.Prelude.{ℕ, List, codes, map, string_bytes, String, Option, Some, None}
 use Rattle.std.specs.Option.{option_map}
 use Rattle.std.specs.declared.alloc.Global.{Global}
 use Rattle.std.specs.declared.vec.Vec.{Vec}
@@ -34,11 +34,6 @@ abbrev pub reason_of : RequestFault → Option RequestReason
 reason_of faults.OutOfMemory = None
 reason_of faults.BadArguments = Some bad_arguments
 reason_of (faults.UnknownSubcommand word) = Some (unknown_subcommand (string_bytes word))
-
--- The answer is that of the outcome, or want of memory.
-abbrev pub Gives : {X Y : Type 0} → (X → Y) → Result X RequestFault → Result Y RequestReason → Type 0
-Gives view (Ok x) outcome = outcome ≡ Ok (view x)
-Gives view (Err fault) outcome = IfSome (reason_of fault) (λ r. outcome ≡ Err r)
 
 -- the numbers of the faults, and what each says
 abbrev pub fault_number : RequestFault → ℕ

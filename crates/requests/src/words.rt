@@ -2,7 +2,8 @@
 ghost use Rattle.std.specs.Prelude.{◌≡◌, List, map, IfOk, string_bytes, vec_items, Ok};
 ghost use Rattle.environment.specs.Texts.{Text};
 ghost use Rattle.requests.specs.Requests.{Asked, some_names, switch_of, no_names, request_of};
-ghost use Rattle.requests.specs.RequestViews.{Gives, asked_view, texts_of};
+ghost use Rattle.message.specs.Answers.{Gives};
+ghost use Rattle.requests.specs.RequestViews.{reason_of, asked_view, texts_of};
 
 use crate::asked::{Action, Request};
 use crate::request_fault::RequestFault;
@@ -22,7 +23,7 @@ fn copied(alloc: Global, words: &[String]) -> Result<Vec<String>, AllocError>
 /// At least one name.
 fn some_names(alloc: Global, words: &[String]) -> Result<Vec<String>, RequestFault>
     ensures { (make : List Text → Asked)
-        → Gives (λ names. make (texts_of names)) result (some_names make (map string_bytes words.now)) }
+        → Gives reason_of (λ names. make (texts_of names)) result (some_names make (map string_bytes words.now)) }
 {
     if words.is_empty() {
         return Err(RequestFault::BadArguments);
@@ -32,7 +33,7 @@ fn some_names(alloc: Global, words: &[String]) -> Result<Vec<String>, RequestFau
 
 /// The action, where no name follows.
 fn no_names(action: Action, words: &[String]) -> Result<Action, RequestFault>
-    ensures { Gives asked_view result (no_names (asked_view action) (map string_bytes words.now)) }
+    ensures { Gives reason_of asked_view result (no_names (asked_view action) (map string_bytes words.now)) }
 {
     match words {
         [] => Ok(action),
@@ -41,7 +42,7 @@ fn no_names(action: Action, words: &[String]) -> Result<Action, RequestFault>
 }
 
 fn switch_of(words: &[String]) -> Result<Action, RequestFault>
-    ensures { Gives asked_view result (switch_of (map string_bytes words.now)) }
+    ensures { Gives reason_of asked_view result (switch_of (map string_bytes words.now)) }
 {
     match words {
         [new] => Ok(Action::Switch(None, new.clone()?)),
@@ -52,7 +53,7 @@ fn switch_of(words: &[String]) -> Result<Action, RequestFault>
 
 /// The action that the words ask for, from the subcommand on.
 fn action_of(alloc: Global, words: &[String]) -> Result<Action, RequestFault>
-    ensures { Gives asked_view result (request_of (map string_bytes words.now)) }
+    ensures { Gives reason_of asked_view result (request_of (map string_bytes words.now)) }
 {
     let [word, names @ ..] = words else {
         return Err(RequestFault::BadArguments);
@@ -76,7 +77,7 @@ fn action_of(alloc: Global, words: &[String]) -> Result<Action, RequestFault>
 /// Errors: there is no such subcommand (57); there is none at all, or its names don't fit it: `load`, `unload`, `show`
 /// and `whatis` take at least one, `switch` one or two, `purge` and `list` none (56); or want of memory.
 pub fn request(alloc: Global, shell: Shell, words: &[String]) -> Result<Request, RequestFault>
-    ensures asked { Gives (λ request. asked_view request.action) result (request_of (map string_bytes words.now)) }
+    ensures asked { Gives reason_of (λ request. asked_view request.action) result (request_of (map string_bytes words.now)) }
     ensures shell { IfOk result (λ request. request.shell ≡ shell) }
 {
     let action = action_of(alloc, words)?;

@@ -1,6 +1,7 @@
 //! What a call gives the parameters of a procedure (proc(n)).
 ghost use Rattle.std.specs.Prelude.{◌≡◌, map, string_bytes};
-ghost use Rattle.tcloperators.specs.Faults.{Gives};
+ghost use Rattle.tclchars.specs.Answers.{Gives};
+ghost use Rattle.tcloperators.specs.Faults.{reason_of};
 ghost use Rattle.tclrules.specs.Rules.{argument, taken, allotted};
 ghost use Rattle.tclvariables.specs.Views.{parameter_view};
 ghost use Rattle.tclarguments.specs.Views.{named_values, allotment_view};
@@ -24,7 +25,7 @@ fn argument<'w>(
     parameter: &Parameter,
     words: &'w [String],
 ) -> Result<Allotment<'w>, ValueFault>
-    ensures { Gives allotment_view result
+    ensures { Gives reason_of allotment_view result
         (argument name.now (parameter_view parameter.now) (map string_bytes words.entry.now)) }
 {
     match words {
@@ -50,7 +51,7 @@ fn taken<'w>(
     behind: &[Parameter],
     words: &'w [String],
 ) -> Result<Allotment<'w>, ValueFault>
-    ensures { Gives allotment_view result
+    ensures { Gives reason_of allotment_view result
         (taken name.now (parameter_view parameter.now) (map parameter_view behind.now) (map string_bytes words.entry.now)) }
 {
     if parameter.name.as_str() == "args" && behind.is_empty() {
@@ -71,7 +72,7 @@ pub fn allotted<'a>(
     parameters: &'a [Parameter],
     words: &[String],
 ) -> Result<Vec<(&'a str, String)>, ValueFault>
-    ensures { Gives (λ vs. named_values vs.items) result
+    ensures { Gives reason_of (λ vs. named_values vs.items) result
         (allotted name.now (map parameter_view parameters.entry.now) (map string_bytes words.now)) }
 {
     let mut values = Vec::new(alloc);

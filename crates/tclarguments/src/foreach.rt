@@ -1,6 +1,7 @@
 //! What foreach(n) goes over.
 ghost use Rattle.std.specs.Prelude.{◌≡◌, ◌++◌, map, string_bytes, IfOk, OnOk};
-ghost use Rattle.tcloperators.specs.Faults.{Gives};
+ghost use Rattle.tclchars.specs.Answers.{Gives};
+ghost use Rattle.tcloperators.specs.Faults.{reason_of};
 ghost use Rattle.tclrules.specs.Rules.{loops, turn_pairs, shortened, are_done};
 ghost use Rattle.tclrules.specs.Rules as rules;
 ghost use Rattle.tclforms.specs.Views.{pair_texts};
@@ -15,7 +16,7 @@ use tcloperators::{ValueFault, elements};
 
 /// The names and the items in two lists.
 fn items_of(alloc: Global, names: &str, items: &str) -> Result<Items, ValueFault>
-    ensures { Gives (left_after 0) result (one_loop (names.now, items.now)) }
+    ensures { Gives reason_of (left_after 0) result (one_loop (names.now, items.now)) }
 {
     let names = elements(alloc, names)?;
     if names.is_empty() {
@@ -86,7 +87,7 @@ impl Loops {
     /// Errors: 13 where a text is no list, and where names are none; 12 where a list is too long; 11 where memory runs out. They
     /// are judged from left to right, the names of a list before its items.
     pub fn of(alloc: Global, lists: &[(&str, &str)]) -> Result<Loops, ValueFault>
-        ensures { Gives (λ l. l) result (loops (pair_texts lists.now)) }
+        ensures { Gives reason_of (λ l. l) result (loops (pair_texts lists.now)) }
     {
         let mut read = Vec::new(alloc);
         let mut rest = lists;

@@ -1,6 +1,7 @@
 //! The parameters of procedures (proc(n)).
 ghost use Rattle.std.specs.Prelude.{◌≡◌, map, string_bytes};
-ghost use Rattle.tcloperators.specs.Faults.{Gives};
+ghost use Rattle.tclchars.specs.Answers.{Gives};
+ghost use Rattle.tcloperators.specs.Faults.{reason_of};
 ghost use Rattle.tclrules.specs.Rules.{parameter, parameters};
 ghost use Rattle.tclvariables.specs.Views.{parameter_view};
 ghost use Rattle.tclarguments.specs.Lists.{defined};
@@ -13,7 +14,7 @@ use tclvariables::Parameter;
 
 /// The parameter of these words: a name, and perhaps a default.
 fn parameter(alloc: Global, words: &[String]) -> Result<Parameter, ValueFault>
-    ensures { Gives parameter_view result (parameter (map string_bytes words.now)) }
+    ensures { Gives reason_of parameter_view result (parameter (map string_bytes words.now)) }
 {
     match words {
         [name] => Ok(Parameter {
@@ -30,7 +31,7 @@ fn parameter(alloc: Global, words: &[String]) -> Result<Parameter, ValueFault>
 
 /// The parameters of these lists.
 fn parameters_of(alloc: Global, lists: &[String]) -> Result<Vec<Parameter>, ValueFault>
-    ensures { Gives (λ ps. map parameter_view ps.items) result (parameters (map string_bytes lists.now)) }
+    ensures { Gives reason_of (λ ps. map parameter_view ps.items) result (parameters (map string_bytes lists.now)) }
 {
     let mut parameters = Vec::new(alloc);
     for list in lists {
@@ -46,7 +47,7 @@ fn parameters_of(alloc: Global, lists: &[String]) -> Result<Vec<Parameter>, Valu
 /// than a name and a default; 12 where a list is too long; 11 where memory runs out. The name is judged first, and then the
 /// parameters from left to right.
 pub fn parameters(alloc: Global, name: &str, lists: &str) -> Result<Vec<Parameter>, ValueFault>
-    ensures { Gives (λ ps. map parameter_view ps.items) result (defined name.now lists.now) }
+    ensures { Gives reason_of (λ ps. map parameter_view ps.items) result (defined name.now lists.now) }
 {
     if is_kept(name) {
         return Err(is_taken(alloc, name));

@@ -1,3 +1,4 @@
+pub use Rattle.message.specs.Answers
 pub mod Bytes
 pub mod Runs
 pub mod Backslash

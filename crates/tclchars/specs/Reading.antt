@@ -1,5 +1,5 @@
 -- Readers: what they give of a text, and the fault that stops them. A fault has the number of bytes from its mark on.
-use Rattle.std.specs.Prelude.{◌≡◌, ℕ, zero, suc, ◌-◌, List, [], ◌∷◌, Bool, true, false, Result, Ok, Err}
+use Rattle.std.specs.Prelude.{◌≡◌, ℕ, zero, suc, ◌-◌, List, [], ◌∷◌, Bool, true, false, Option, Some, None, IfSome, Result, Ok, Err}
 use Rattle.tclchars.specs.Runs.{Text}
 use Rattle.tclchars.specs.declared.fault.Fault.{Fault}
 use Rattle.tclchars.specs.declared.fault.Fault.TheVariants as marks
@@ -13,14 +13,14 @@ abbrev pub ◌>>=◌ : {A B : Type 0} → Result A Fault → (A → Result B Fau
 (Ok x) >>= f = f x
 (Err e) >>= f = Err e
 
--- what a function returned, seen by view, is what reading gives, unless memory ran out
-abbrev pub Fails : {Y : Type 0} → ReadError → Result Y Fault → Type 0
-Fails errors.Memory read = Unit {0}
-Fails (errors.Fault f) read = read ≡ Err f
+-- the fault that stopped a reader; want of memory is none
+abbrev pub stopped_by : ReadError → Option Fault
+stopped_by errors.Memory = None
+stopped_by (errors.Fault f) = Some f
 
-abbrev pub Gives : {X Y : Type 0} → (X → Y) → Result X ReadError → Result Y Fault → Type 0
-Gives view (Ok x) read = read ≡ Ok (view x)
-Gives view (Err e) read = Fails e read
+-- a reading has the fault that stopped the reader, unless memory ran out
+abbrev pub Fails : {Y : Type 0} → ReadError → Result Y Fault → Type 0
+Fails e read = IfSome (stopped_by e) (λ f. read ≡ Err f)
 
 -- a value and what follows it
 abbrev pub Read : Type 0 → Type 0

@@ -1,7 +1,7 @@
 //! Commands that write a variable: set(n), append(n), incr(n).
 ghost use Rattle.std.specs.Prelude.{◌≡◌, ◌++◌, [], map, string_bytes, OnOk};
 ghost use Rattle.std.specs.Fmt.{signed_decimal};
-ghost use Rattle.tclvalue.specs.Faults.{Gives, GivesText};
+ghost use Rattle.tclvalue.specs.Faults.{GivesText};
 ghost use Rattle.tclvalue.specs.Limits.{limited};
 ghost use Rattle.tclvalue.specs.Characters.{joined};
 ghost use Rattle.tclchars.specs.Runs.{Text};

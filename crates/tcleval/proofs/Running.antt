@@ -1,6 +1,6 @@
 -- How an evaluation comes on in a derivation, besides the steps of words and expressions.
 use Rattle.std.proofs.Common.{◌≡◌, ℕ, ◌+◌, ◌<◌, ◌≤◌, Bool, true, false, List, [], ◌∷◌, length, get_or, drop, drop-cons, add-one, suc, map, String, Global, Result, Ok, Err, Option, Some, None, Bor, refl, sym, ◌∙◌, ap, ◌++◌, append_assoc, append-nil, arith, rules}
-use Rattle.std.specs.Prelude.{string_bytes, IsErrAnd, IfOk, IfSome, if◌then◌else◌, nat_eq, nat_le}
+use Rattle.std.specs.Prelude.{string_bytes, IsErrAnd, IfOk, IfSome, if◌then◌else◌, nat_le}
 use Rattle.std.proofs.lemmas.Bool.Decides.{nat_tests}
 use Rattle.std.proofs.lemmas.Bool.{ne_eqb}
 use Rattle.tclscript.specs.Tree as tree
@@ -9,7 +9,7 @@ use Rattle.tclscript.specs.View.{script_view, command_view, word_view, parts_vie
 use Rattle.tclscript.specs.declared.tree.Script as rust_script
 use Rattle.tclscript.specs.declared.tree.Command as rust_command
 use Rattle.tclscript.specs.declared.tree.Word as rust_word
-use Rattle.tclrules.specs.Derivation.{Runs, TooDeep, Halted, Ends}
+use Rattle.tclrules.specs.Derivation.{Runs, TooDeep, Halted}
 use Rattle.tclrules.specs.Variables.{State}
 use Rattle.tclrules.specs.Plans as plans
 use Rattle.tclrules.specs.Plans.{Bounds, Ending, Normal, Items, ended, Job, Step, Next, on_normal, begin, halt, sized}

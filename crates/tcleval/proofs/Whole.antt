@@ -1,12 +1,10 @@
 -- What is answered of a whole file.
-use Rattle.std.proofs.Common.{◌≡◌, ℕ, true, false, Result, Ok, Err, String, Global, refl, sym, ◌∙◌}
-use Rattle.std.specs.Prelude.{string_bytes}
+use Rattle.std.proofs.Common.{◌≡◌, ℕ, true, false, Result, Ok, Err, String, Global, refl}
 use Rattle.tclchars.specs.Runs.{Text}
 use Rattle.tclrules.specs.Oracle.{Oracle, Told}
-use Rattle.tclrules.specs.Derivation.{OutOfMemory, Outcome, Ended, Halted, Plan, Ends, World, Eval, ends, starves}
+use Rattle.tclrules.specs.Derivation.{OutOfMemory, Outcome, Halted, Plan, Ends, World, Eval, ends, starves}
 use Rattle.tclrules.specs.Variables.{Variables, State}
 use Rattle.tclrules.specs.Plans as plans
-use Rattle.tclrules.specs.Plans.{Job, Step}
 use Rattle.tclrules.specs.Rules.{rule}
 use Rattle.tclrules.specs.Leads.{Leads, point}
 use Rattle.tclrules.specs.Meaning.{plan_of}

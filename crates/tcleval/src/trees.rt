@@ -4,7 +4,8 @@ ghost use Rattle.std.specs.Fmt.{signed_decimal};
 ghost use Rattle.tclexpr.specs.Text.{expr_of};
 ghost use Rattle.tclexpr.specs.Owned as expressions;
 ghost use Rattle.tcltext.specs.Numerals.{numeral};
-ghost use Rattle.tclvalue.specs.Faults.{Gives, GivesText, HasReason, left_out};
+ghost use Rattle.tclchars.specs.Answers.{Gives};
+ghost use Rattle.tclvalue.specs.Faults.{reason_of, GivesText, HasReason, left_out};
 ghost use Rattle.tclchars.specs.Runs.{begins};
 ghost use Rattle.tclrules.specs.Expressions.{omitted_at, begins_letter, is_operator, function_named, fault_of, parsed, normal};
 ghost use Rattle.tclkept.specs.Kept.{BeginWith};
@@ -120,7 +121,7 @@ pub(crate) fn express_tree(
     kept: &mut Kept,
     text: &str,
 ) -> Result<Rc<OwnedExpr>, ValueFault>
-    ensures tree { Gives (λ o. expressions.owned_view o.value) result (parsed text.now (expr_of text.now)) }
+    ensures tree { Gives reason_of (λ o. expressions.owned_view o.value) result (parsed text.now (expr_of text.now)) }
     ensures begins { BeginWith kept.old kept.new }
 {
     match kept.expr_tree(text) {

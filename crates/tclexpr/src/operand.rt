@@ -1,6 +1,7 @@
 ghost use Rattle.std.specs.Prelude.{◌≡◌, ◌≤◌, ◌<◌, ◌∷◌, length, suc};
 ghost use Rattle.tclchars.specs.Runs.{Text};
-ghost use Rattle.tclchars.specs.Reading.{Gives};
+ghost use Rattle.tclchars.specs.Answers.{Gives};
+ghost use Rattle.tclchars.specs.Reading.{stopped_by};
 ghost use Rattle.tclscript.specs.Pieces.{IsEndOf};
 ghost use Rattle.tclscript.specs.Tree.{part_nesting};
 ghost use Rattle.tclscript.specs.Reading.{taken};
@@ -82,7 +83,7 @@ fn one_more(height: usize) -> usize
 // A substitution as an operand, with how deep it nests; a dollar that is itself is none.
 fn operand_of<P: Drop>(part: Part<P>, left: usize) -> Result<(Operand<P>, usize), ReadError>
     ensures { (shown : P → Text) → part_nesting (part_view shown part) ≤ usize.MAX
-        → Gives (λ x. (operand_view shown x.0, x.1)) result (operand_of left (part_view shown part)) }
+        → Gives stopped_by (λ x. (operand_view shown x.0, x.1)) result (operand_of left (part_view shown part)) }
 {
     match part {
         Part::Variable(name) => Ok((Operand::Variable(name), 0)),
@@ -108,7 +109,7 @@ fn read_variable<'a, S: Source<P>, P: Drop>(
 ) -> Result<(Operand<P>, usize, &'a str), ReadError>
     requires text { IsEndOf (S.text source.now) text.now }
     requires dollar { text.now ≡ 36 ∷ behind.now }
-    ensures { Gives (λ x. ((operand_view (S.shown source.now) x.0, x.1), x.2.now)) result
+    ensures { Gives stopped_by (λ x. ((operand_view (S.shown source.now) x.0, x.1), x.2.now)) result
         (variable_operand_at depth (length text.now) behind.now) }
 {
     let (part, rest) = read_dollar(alloc, source, text, behind, depth)?;
@@ -126,7 +127,7 @@ fn read_script<'a, S: Source<P>, P: Drop>(
 ) -> Result<(Operand<P>, usize, &'a str), ReadError>
     requires text { IsEndOf (S.text source.now) text.now }
     requires bracket { text.now ≡ 91 ∷ behind.now }
-    ensures { Gives (λ x. ((operand_view (S.shown source.now) x.0, x.1), x.2.now)) result
+    ensures { Gives stopped_by (λ x. ((operand_view (S.shown source.now) x.0, x.1), x.2.now)) result
         (bracket_operand_at depth (length text.now) behind.now) }
 {
     let (part, rest) = read_bracket(alloc, source, behind, depth)?;
@@ -142,7 +143,7 @@ fn read_quoted<'a, S: Source<P>, P: Drop>(
     depth: usize,
 ) -> Result<(Operand<P>, usize, &'a str), ReadError>
     requires { IsEndOf (S.text source.now) text.now }
-    ensures { Gives (λ x. ((operand_view (S.shown source.now) x.0, x.1), x.2.now)) result (quoted_at depth text.now) }
+    ensures { Gives stopped_by (λ x. ((operand_view (S.shown source.now) x.0, x.1), x.2.now)) result (quoted_at depth text.now) }
 {
     let (parts, rest) = read_quotes(alloc, source, text, depth)?;
     let height = parts_nesting(&parts);
@@ -155,7 +156,7 @@ fn read_braced<'a, S: Source<P>, P: Drop>(
     text: &'a str,
 ) -> Result<(Operand<P>, usize, &'a str), ReadError>
     requires { IsEndOf (S.text source.now) text.now }
-    ensures { Gives (λ x. ((operand_view (S.shown source.now) x.0, x.1), x.2.now)) result (braced_text_at text.now) }
+    ensures { Gives stopped_by (λ x. ((operand_view (S.shown source.now) x.0, x.1), x.2.now)) result (braced_text_at text.now) }
 {
     match split_close(text) {
         Some((inner, rest)) => Ok((Operand::Braced(source.cut(text, inner)), 0, rest)),
@@ -169,7 +170,7 @@ fn read_word<'a, S: Source<P>, P: Drop>(
     text: &'a str,
 ) -> Result<(Operand<P>, usize, &'a str), ReadError>
     requires { IsEndOf (S.text source.now) text.now }
-    ensures { Gives (λ x. ((operand_view (S.shown source.now) x.0, x.1), x.2.now)) result (word_at text.now) }
+    ensures { Gives stopped_by (λ x. ((operand_view (S.shown source.now) x.0, x.1), x.2.now)) result (word_at text.now) }
 {
     let (word, rest) = split_front(text, Class::Name);
     if !is_truth(word.as_bytes()) {
@@ -187,7 +188,7 @@ fn read_numeric<'a, S: Source<P>, P: Drop>(
     text: &'a str,
 ) -> Result<(Operand<P>, usize, &'a str), ReadError>
     requires { IsEndOf (S.text source.now) text.now }
-    ensures { Gives (λ x. ((operand_view (S.shown source.now) x.0, x.1), x.2.now)) result
+    ensures { Gives stopped_by (λ x. ((operand_view (S.shown source.now) x.0, x.1), x.2.now)) result
         (numeric text.now (after_number text.now)) }
 {
     match after_number(text) {
@@ -204,7 +205,7 @@ pub(crate) fn read_operand<'a, S: Source<P>, P: Drop>(
     depth: usize,
 ) -> Result<(Operand<P>, usize, &'a str), ReadError>
     requires { IsEndOf (S.text source.now) text.now }
-    ensures { Gives (λ x. ((operand_view (S.shown source.now) x.0, x.1), x.2.now)) result (operand_at depth text.now) }
+    ensures { Gives stopped_by (λ x. ((operand_view (S.shown source.now) x.0, x.1), x.2.now)) result (operand_at depth text.now) }
 {
     if let Some(behind) = after_mark(text, b'$') {
         return read_variable(alloc, source, text, behind, depth);

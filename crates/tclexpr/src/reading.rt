@@ -1,6 +1,7 @@
 ghost use Rattle.std.specs.Prelude.{◌≡◌, ◌≤◌, ◌<◌, suc, nat_lt, if◌then◌else◌, ◌-◌, Some, Err, IfOk, MatchOption};
 ghost use Rattle.tclchars.specs.Runs.{Text};
-ghost use Rattle.tclchars.specs.Reading.{Gives, read_map};
+ghost use Rattle.tclchars.specs.Answers.{Gives};
+ghost use Rattle.tclchars.specs.Reading.{stopped_by, read_map};
 ghost use Rattle.tclchars.specs.declared.fault.Fault.TheVariants.{TooDeep};
 ghost use Rattle.tclscript.specs.Pieces.{IsEndOf};
 ghost use Rattle.tclexpr.specs.declared.operators.Mark.TheVariants as marks;
@@ -24,7 +25,7 @@ const LOOSEST: usize = 13;
 
 // What follows the parenthesis that closes, which must come next.
 fn after_close(text: &str) -> Result<&str, ReadError>
-    ensures { Gives (λ rest. rest.now) result (expect is_close text.now) }
+    ensures { Gives stopped_by (λ rest. rest.now) result (expect is_close text.now) }
 {
     let start = skip_white(text);
     match read_mark(start) {
@@ -35,7 +36,7 @@ fn after_close(text: &str) -> Result<&str, ReadError>
 
 // What follows the colon, which must come next.
 fn after_colon(text: &str) -> Result<&str, ReadError>
-    ensures { Gives (λ rest. rest.now) result (expect is_colon text.now) }
+    ensures { Gives stopped_by (λ rest. rest.now) result (expect is_colon text.now) }
 {
     let start = skip_white(text);
     match read_mark(start) {
@@ -160,7 +161,7 @@ pub(crate) fn read_whole<'a, S: Source<P>, P: Drop>(
     depth: usize,
 ) -> Result<(WithHeight<P>, &'a str), ReadError>
     requires { IsEndOf (S.text source.now) text.now }
-    ensures { Gives (λ x. (with_height_view (S.shown source.now) x.0, x.1.now)) result
+    ensures { Gives stopped_by (λ x. (with_height_view (S.shown source.now) x.0, x.1.now)) result
         (whole_at operand_at depth (below_at operand_at depth) text.now) }
 {
     let (condition, rest) = read_chain(alloc, source, text, depth, LOOSEST)?;
@@ -184,7 +185,7 @@ fn read_branches<'a, S: Source<P>, P: Drop>(
     depth: usize,
 ) -> Result<(WithHeight<P>, &'a str), ReadError>
     requires { IsEndOf (S.text source.now) text.now }
-    ensures { Gives (λ x. (with_height_view (S.shown source.now) x.0, x.1.now)) result
+    ensures { Gives stopped_by (λ x. (with_height_view (S.shown source.now) x.0, x.1.now)) result
         (if nat_lt condition.height depth
         then branches_at operand_at (below_at operand_at depth)
         (with_height_view (S.shown source.now) condition) text.now
@@ -209,7 +210,7 @@ fn read_chain<'a, S: Source<P>, P: Drop>(
     limit: usize,
 ) -> Result<(WithHeight<P>, &'a str), ReadError>
     requires { IsEndOf (S.text source.now) text.now }
-    ensures { Gives (λ x. (with_height_view (S.shown source.now) x.0, x.1.now)) result
+    ensures { Gives stopped_by (λ x. (with_height_view (S.shown source.now) x.0, x.1.now)) result
         (chain_at operand_at depth (below_at operand_at depth) limit text.now) }
 {
     let (mut left, mut rest) = read_prefix(alloc, source, text, depth)?;
@@ -234,7 +235,7 @@ fn read_right<'a, S: Source<P>, P: Drop>(
     between: Infix,
 ) -> Result<(WithHeight<P>, &'a str), ReadError>
     requires { IsEndOf (S.text source.now) text.now }
-    ensures { Gives (λ x. (with_height_view (S.shown source.now) x.0, x.1.now)) result
+    ensures { Gives stopped_by (λ x. (with_height_view (S.shown source.now) x.0, x.1.now)) result
         (if nat_lt height depth then below_at operand_at depth (chain (level between - 1)) text.now else Err TooDeep) }
 {
     if height >= depth {
@@ -252,7 +253,7 @@ fn read_prefix<'a, S: Source<P>, P: Drop>(
     depth: usize,
 ) -> Result<(WithHeight<P>, &'a str), ReadError>
     requires { IsEndOf (S.text source.now) text.now }
-    ensures { Gives (λ x. (with_height_view (S.shown source.now) x.0, x.1.now)) result
+    ensures { Gives stopped_by (λ x. (with_height_view (S.shown source.now) x.0, x.1.now)) result
         (prefix_at operand_at depth (below_at operand_at depth) text.now) }
 {
     let start = skip_white(text);
@@ -276,7 +277,7 @@ fn read_leaf<'a, S: Source<P>, P: Drop>(
     depth: usize,
 ) -> Result<(WithHeight<P>, &'a str), ReadError>
     requires { IsEndOf (S.text source.now) text.now }
-    ensures { Gives (λ x. (with_height_view (S.shown source.now) x.0, x.1.now)) result
+    ensures { Gives stopped_by (λ x. (with_height_view (S.shown source.now) x.0, x.1.now)) result
         (read_map leaf_of (operand_at depth text.now)) }
 {
     let (operand, height, rest) = read_operand(alloc, source, text, depth)?;
@@ -298,7 +299,7 @@ fn read_enclosed<'a, S: Source<P>, P: Drop>(
     depth: usize,
 ) -> Result<(WithHeight<P>, &'a str), ReadError>
     requires { IsEndOf (S.text source.now) text.now }
-    ensures { Gives (λ x. (with_height_view (S.shown source.now) x.0, x.1.now)) result
+    ensures { Gives stopped_by (λ x. (with_height_view (S.shown source.now) x.0, x.1.now)) result
         (enclosed_at operand_at (below_at operand_at depth) text.now) }
 {
     if depth == 0 {
@@ -319,7 +320,7 @@ fn read_signed<'a, S: Source<P>, P: Drop>(
     depth: usize,
 ) -> Result<(WithHeight<P>, &'a str), ReadError>
     requires { IsEndOf (S.text source.now) text.now }
-    ensures { Gives (λ x. (with_height_view (S.shown source.now) x.0, x.1.now)) result
+    ensures { Gives stopped_by (λ x. (with_height_view (S.shown source.now) x.0, x.1.now)) result
         (read_map (unary_of operator) (below_at operand_at depth (chain 1) text.now)) }
 {
     if depth == 0 {

@@ -1,7 +1,8 @@
 //! The core commands by their names.
 ghost use Rattle.std.specs.Prelude.{map, string_bytes};
 ghost use Rattle.std.specs.Option.{option_map};
-ghost use Rattle.tcloperators.specs.Faults.{Gives};
+ghost use Rattle.tclchars.specs.Answers.{Gives};
+ghost use Rattle.tcloperators.specs.Faults.{reason_of};
 ghost use Rattle.tclrules.specs.Forms.{core_form};
 ghost use Rattle.tclforms.specs.Views.{form_view, turned};
 
@@ -26,7 +27,7 @@ pub fn core_form<'a>(
     name: &str,
     words: &'a [String],
 ) -> Result<Option<Form<'a>>, ValueFault>
-    ensures { Gives (option_map form_view) result (turned (core_form name.now (map string_bytes words.entry.now))) }
+    ensures { Gives reason_of (option_map form_view) result (turned (core_form name.now (map string_bytes words.entry.now))) }
 {
     match name {
         "set" => Ok(Some(set_form(alloc, words)?)),

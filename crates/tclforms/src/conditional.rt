@@ -1,7 +1,8 @@
 //! The words of if(n).
 ghost use Rattle.std.specs.Prelude.{◌≡◌, ◌<◌, length, map, string_bytes, IfSome};
 ghost use Rattle.std.specs.Option.{option_map};
-ghost use Rattle.tcloperators.specs.Faults.{Gives};
+ghost use Rattle.tclchars.specs.Answers.{Gives};
+ghost use Rattle.tcloperators.specs.Faults.{reason_of};
 ghost use Rattle.tclrules.specs.Forms.{last_body, last_words, if_form};
 ghost use Rattle.tclforms.specs.Views.{form_view, pair_texts, texts_of};
 ghost use Rattle.tclforms.specs.Branches.{behind_then, first_branch, branch_view, behind_elseif, behind_pairs, if_of};
@@ -53,7 +54,7 @@ fn last_body<'a>(
     branches: Vec<(&'a str, &'a str)>,
     words: &'a [String],
 ) -> Result<Form<'a>, ValueFault>
-    ensures { Gives form_view result (if_of (behind_pairs (pair_texts branches.entry.items) (last_body (map string_bytes words.entry.now)))) }
+    ensures { Gives reason_of form_view result (if_of (behind_pairs (pair_texts branches.entry.items) (last_body (map string_bytes words.entry.now)))) }
 {
     match words {
         [body] => Ok(Form::If(branches, Some(body))),
@@ -67,7 +68,7 @@ fn last_words<'a>(
     branches: Vec<(&'a str, &'a str)>,
     words: &'a [String],
 ) -> Result<Form<'a>, ValueFault>
-    ensures { Gives form_view result (if_of (behind_pairs (pair_texts branches.entry.items) (last_words (map string_bytes words.entry.now)))) }
+    ensures { Gives reason_of form_view result (if_of (behind_pairs (pair_texts branches.entry.items) (last_words (map string_bytes words.entry.now)))) }
 {
     match words {
         [] => Ok(Form::If(branches, None)),
@@ -89,7 +90,7 @@ fn behind_elseif(words: &[String]) -> Option<&[String]>
 
 /// if(n)
 pub(crate) fn if_form(alloc: Global, words: &[String]) -> Result<Form<'_>, ValueFault>
-    ensures { Gives form_view result (if_form (map string_bytes words.entry.now)) }
+    ensures { Gives reason_of form_view result (if_form (map string_bytes words.entry.now)) }
 {
     let mut branches = Vec::new(alloc);
     let mut rest = words;

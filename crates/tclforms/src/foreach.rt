@@ -1,6 +1,7 @@
 //! The words of foreach(n).
 ghost use Rattle.std.specs.Prelude.{map, string_bytes};
-ghost use Rattle.tcloperators.specs.Faults.{Gives};
+ghost use Rattle.tclchars.specs.Answers.{Gives};
+ghost use Rattle.tcloperators.specs.Faults.{reason_of};
 ghost use Rattle.tclrules.specs.Forms.{foreach_form};
 ghost use Rattle.tclforms.specs.Views.{form_view};
 
@@ -10,7 +11,7 @@ use tcloperators::{ValueFault, wrong_words};
 
 /// foreach(n)
 pub(crate) fn foreach_form(alloc: Global, words: &[String]) -> Result<Form<'_>, ValueFault>
-    ensures { Gives form_view result (foreach_form (map string_bytes words.entry.now)) }
+    ensures { Gives reason_of form_view result (foreach_form (map string_bytes words.entry.now)) }
 {
     let mut pairs = Vec::new(alloc);
     let mut rest = words;

@@ -1,7 +1,8 @@
 //! The words of switch(n).
 ghost use Rattle.std.specs.Prelude.{◌≡◌, [], ◌∷◌, map, string_bytes, false};
 ghost use Rattle.std.specs.Option.{option_map};
-ghost use Rattle.tcloperators.specs.Faults.{Gives};
+ghost use Rattle.tclchars.specs.Answers.{Gives};
+ghost use Rattle.tcloperators.specs.Faults.{reason_of};
 ghost use Rattle.tclrules.specs.Forms.{is_option, options, glob_option, by_glob, paired, patterns_in, bodiless, with_patterns, switch_with, even_pairs, switch_form};
 ghost use Rattle.tclforms.specs.Views.{texts_of, in_twos, pattern_texts, form_view};
 
@@ -48,7 +49,7 @@ fn parted(words: &[String]) -> Split<'_>
 
 /// Whether an option says that patterns are compared by glob.
 fn glob_option(alloc: Global, option: &str) -> Result<bool, ValueFault>
-    ensures { Gives (λ b. b) result (glob_option option.now) }
+    ensures { Gives reason_of (λ b. b) result (glob_option option.now) }
 {
     match option {
         "-exact" => Ok(false),
@@ -60,7 +61,7 @@ fn glob_option(alloc: Global, option: &str) -> Result<bool, ValueFault>
 
 /// Whether patterns are compared by glob: the last option counts.
 fn by_glob(alloc: Global, options: &[String]) -> Result<bool, ValueFault>
-    ensures { Gives (λ b. b) result (by_glob false (map string_bytes options.now)) }
+    ensures { Gives reason_of (λ b. b) result (by_glob false (map string_bytes options.now)) }
 {
     let mut glob = false;
     for option in options {
@@ -96,7 +97,7 @@ fn with_patterns<'a>(
     text: &'a str,
     patterns: Patterns<'a>,
 ) -> Result<Form<'a>, ValueFault>
-    ensures { Gives form_view result (with_patterns by_glob text.entry.now (in_twos (pattern_texts patterns.entry))) }
+    ensures { Gives reason_of form_view result (with_patterns by_glob text.entry.now (in_twos (pattern_texts patterns.entry))) }
 {
     match bodiless(patterns.as_slice()) {
         Some(pattern) => Err(no_body(alloc, pattern)),
@@ -112,7 +113,7 @@ fn of_words<'a>(
     text: &'a str,
     patterns: &'a [String],
 ) -> Result<Form<'a>, ValueFault>
-    ensures { Gives form_view result (even_pairs text.entry.now (map string_bytes options.now) (paired (map string_bytes patterns.entry.now))) }
+    ensures { Gives reason_of form_view result (even_pairs text.entry.now (map string_bytes options.now) (paired (map string_bytes patterns.entry.now))) }
 {
     if patterns.len() % 2 == 1 {
         return Err(wrong_words(alloc, "switch"));
@@ -129,7 +130,7 @@ fn of_list<'a>(
     text: &'a str,
     list: &str,
 ) -> Result<Form<'a>, ValueFault>
-    ensures { Gives form_view result (switch_with text.entry.now (map string_bytes options.now) (patterns_in list.now)) }
+    ensures { Gives reason_of form_view result (switch_with text.entry.now (map string_bytes options.now) (patterns_in list.now)) }
 {
     let by_glob = by_glob(alloc, options)?;
     let patterns = elements(alloc, list)?;
@@ -141,7 +142,7 @@ fn of_list<'a>(
 
 /// switch(n)
 pub(crate) fn switch_form(alloc: Global, words: &[String]) -> Result<Form<'_>, ValueFault>
-    ensures { Gives form_view result (switch_form (map string_bytes words.entry.now)) }
+    ensures { Gives reason_of form_view result (switch_form (map string_bytes words.entry.now)) }
 {
     let parted = parted(words);
     match parted.rest {

@@ -1,6 +1,7 @@
 //! Forms whose words are taken as they stand.
 ghost use Rattle.std.specs.Prelude.{map, string_bytes};
-ghost use Rattle.tcloperators.specs.Faults.{Gives};
+ghost use Rattle.tclchars.specs.Answers.{Gives};
+ghost use Rattle.tcloperators.specs.Faults.{reason_of};
 ghost use Rattle.tclrules.specs.Forms.{set_form, after_dashes, unset_form, append_form, lappend_form, incr_form, increase_of, expr_form, while_form, for_form, proc_form, return_form, exit_form, error_form, catch_form, exists_form, info_form, to_stderr, without_newline, puts_form, alone};
 ghost use Rattle.tclforms.specs.Views.{form_view, texts_of};
 ghost use Rattle.std.specs.Prelude.{◌≡◌};
@@ -12,7 +13,7 @@ use tcloperators::{ValueFault, wrong_words};
 
 /// set(n)
 pub(crate) fn set_form(alloc: Global, words: &[String]) -> Result<Form<'_>, ValueFault>
-    ensures { Gives form_view result (set_form (map string_bytes words.entry.now)) }
+    ensures { Gives reason_of form_view result (set_form (map string_bytes words.entry.now)) }
 {
     match words {
         [name] => Ok(Form::Get(name)),
@@ -33,7 +34,7 @@ fn after_dashes(words: &[String]) -> &[String]
 
 /// unset(n)
 pub(crate) fn unset_form(words: &[String]) -> Form<'_>
-    ensures { Gives form_view (Ok result) (unset_form (map string_bytes words.entry.now)) }
+    ensures { Gives reason_of form_view (Ok result) (unset_form (map string_bytes words.entry.now)) }
 {
     match words {
         [word, rest @ ..] if word.as_str() == "-nocomplain" => {
@@ -45,7 +46,7 @@ pub(crate) fn unset_form(words: &[String]) -> Form<'_>
 
 /// append(n)
 pub(crate) fn append_form(alloc: Global, words: &[String]) -> Result<Form<'_>, ValueFault>
-    ensures { Gives form_view result (append_form (map string_bytes words.entry.now)) }
+    ensures { Gives reason_of form_view result (append_form (map string_bytes words.entry.now)) }
 {
     match words {
         [name, texts @ ..] => Ok(Form::Append(name, texts)),
@@ -55,7 +56,7 @@ pub(crate) fn append_form(alloc: Global, words: &[String]) -> Result<Form<'_>, V
 
 /// lappend(n)
 pub(crate) fn lappend_form(alloc: Global, words: &[String]) -> Result<Form<'_>, ValueFault>
-    ensures { Gives form_view result (lappend_form (map string_bytes words.entry.now)) }
+    ensures { Gives reason_of form_view result (lappend_form (map string_bytes words.entry.now)) }
 {
     match words {
         [name, elements @ ..] => Ok(Form::ListAppend(name, elements)),
@@ -65,7 +66,7 @@ pub(crate) fn lappend_form(alloc: Global, words: &[String]) -> Result<Form<'_>, 
 
 /// incr(n)
 pub(crate) fn incr_form(alloc: Global, words: &[String]) -> Result<Form<'_>, ValueFault>
-    ensures { Gives form_view result (incr_form (map string_bytes words.entry.now)) }
+    ensures { Gives reason_of form_view result (incr_form (map string_bytes words.entry.now)) }
 {
     match words {
         [name, numbers @ ..] => Ok(Form::Increase(name, numbers)),
@@ -75,7 +76,7 @@ pub(crate) fn incr_form(alloc: Global, words: &[String]) -> Result<Form<'_>, Val
 
 /// expr(n)
 pub(crate) fn expr_form(alloc: Global, words: &[String]) -> Result<Form<'_>, ValueFault>
-    ensures { Gives form_view result (expr_form (map string_bytes words.entry.now)) }
+    ensures { Gives reason_of form_view result (expr_form (map string_bytes words.entry.now)) }
 {
     match words {
         [] => Err(wrong_words(alloc, "expr")),
@@ -85,7 +86,7 @@ pub(crate) fn expr_form(alloc: Global, words: &[String]) -> Result<Form<'_>, Val
 
 /// while(n)
 pub(crate) fn while_form(alloc: Global, words: &[String]) -> Result<Form<'_>, ValueFault>
-    ensures { Gives form_view result (while_form (map string_bytes words.entry.now)) }
+    ensures { Gives reason_of form_view result (while_form (map string_bytes words.entry.now)) }
 {
     match words {
         [condition, body] => Ok(Form::While(condition, body)),
@@ -95,7 +96,7 @@ pub(crate) fn while_form(alloc: Global, words: &[String]) -> Result<Form<'_>, Va
 
 /// for(n)
 pub(crate) fn for_form(alloc: Global, words: &[String]) -> Result<Form<'_>, ValueFault>
-    ensures { Gives form_view result (for_form (map string_bytes words.entry.now)) }
+    ensures { Gives reason_of form_view result (for_form (map string_bytes words.entry.now)) }
 {
     match words {
         [start, condition, next, body] => Ok(Form::For(start, condition, next, body)),
@@ -105,7 +106,7 @@ pub(crate) fn for_form(alloc: Global, words: &[String]) -> Result<Form<'_>, Valu
 
 /// proc(n)
 pub(crate) fn proc_form(alloc: Global, words: &[String]) -> Result<Form<'_>, ValueFault>
-    ensures { Gives form_view result (proc_form (map string_bytes words.entry.now)) }
+    ensures { Gives reason_of form_view result (proc_form (map string_bytes words.entry.now)) }
 {
     match words {
         [name, parameters, body] => Ok(Form::Define(name, parameters, body)),
@@ -115,7 +116,7 @@ pub(crate) fn proc_form(alloc: Global, words: &[String]) -> Result<Form<'_>, Val
 
 /// return(n)
 pub(crate) fn return_form(alloc: Global, words: &[String]) -> Result<Form<'_>, ValueFault>
-    ensures { Gives form_view result (return_form (map string_bytes words.entry.now)) }
+    ensures { Gives reason_of form_view result (return_form (map string_bytes words.entry.now)) }
 {
     match words {
         [] => Ok(Form::Return("")),
@@ -126,7 +127,7 @@ pub(crate) fn return_form(alloc: Global, words: &[String]) -> Result<Form<'_>, V
 
 /// exit(n)
 pub(crate) fn exit_form(alloc: Global, words: &[String]) -> Result<Form<'_>, ValueFault>
-    ensures { Gives form_view result (exit_form (map string_bytes words.entry.now)) }
+    ensures { Gives reason_of form_view result (exit_form (map string_bytes words.entry.now)) }
 {
     match words {
         [] | [_] => Ok(Form::Exit),
@@ -136,7 +137,7 @@ pub(crate) fn exit_form(alloc: Global, words: &[String]) -> Result<Form<'_>, Val
 
 /// error(n)
 pub(crate) fn error_form(alloc: Global, words: &[String]) -> Result<Form<'_>, ValueFault>
-    ensures { Gives form_view result (error_form (map string_bytes words.entry.now)) }
+    ensures { Gives reason_of form_view result (error_form (map string_bytes words.entry.now)) }
 {
     match words {
         [message] | [message, _] | [message, _, _] => Ok(Form::Error(message)),
@@ -146,7 +147,7 @@ pub(crate) fn error_form(alloc: Global, words: &[String]) -> Result<Form<'_>, Va
 
 /// catch(n)
 pub(crate) fn catch_form(alloc: Global, words: &[String]) -> Result<Form<'_>, ValueFault>
-    ensures { Gives form_view result (catch_form (map string_bytes words.entry.now)) }
+    ensures { Gives reason_of form_view result (catch_form (map string_bytes words.entry.now)) }
 {
     match words {
         [script] => Ok(Form::Catch(script, None)),
@@ -157,7 +158,7 @@ pub(crate) fn catch_form(alloc: Global, words: &[String]) -> Result<Form<'_>, Va
 
 /// info(n), exists
 fn exists_form(alloc: Global, words: &[String]) -> Result<Form<'_>, ValueFault>
-    ensures { Gives form_view result (exists_form (map string_bytes words.entry.now)) }
+    ensures { Gives reason_of form_view result (exists_form (map string_bytes words.entry.now)) }
 {
     match words {
         [name] => Ok(Form::Exists(name)),
@@ -167,7 +168,7 @@ fn exists_form(alloc: Global, words: &[String]) -> Result<Form<'_>, ValueFault>
 
 /// info(n)
 pub(crate) fn info_form(alloc: Global, words: &[String]) -> Result<Form<'_>, ValueFault>
-    ensures { Gives form_view result (info_form (map string_bytes words.entry.now)) }
+    ensures { Gives reason_of form_view result (info_form (map string_bytes words.entry.now)) }
 {
     match words {
         [] => Err(wrong_words(alloc, "info")),
@@ -180,7 +181,7 @@ pub(crate) fn info_form(alloc: Global, words: &[String]) -> Result<Form<'_>, Val
 
 /// puts(n)
 pub(crate) fn puts_form(alloc: Global, words: &[String]) -> Result<Form<'_>, ValueFault>
-    ensures { Gives form_view result (puts_form (map string_bytes words.entry.now)) }
+    ensures { Gives reason_of form_view result (puts_form (map string_bytes words.entry.now)) }
 {
     match words {
         [_] => Err(left_out(alloc, "puts")),
@@ -196,7 +197,7 @@ fn without_newline<'a>(
     channel: &str,
     words: &'a [String],
 ) -> Result<Form<'a>, ValueFault>
-    ensures { Gives form_view result (without_newline option.now channel.now (map string_bytes words.entry.now)) }
+    ensures { Gives reason_of form_view result (without_newline option.now channel.now (map string_bytes words.entry.now)) }
 {
     if option == "-nonewline" {
         to_stderr(alloc, channel, words)
@@ -207,7 +208,7 @@ fn without_newline<'a>(
 
 /// What goes to another channel than standard error is left out.
 fn to_stderr<'a>(alloc: Global, channel: &str, words: &'a [String]) -> Result<Form<'a>, ValueFault>
-    ensures { Gives form_view result (to_stderr channel.now (map string_bytes words.entry.now)) }
+    ensures { Gives reason_of form_view result (to_stderr channel.now (map string_bytes words.entry.now)) }
 {
     if channel == "stderr" {
         Ok(Form::Put(words))
@@ -223,7 +224,7 @@ pub(crate) fn alone<'a>(
     form: Form<'a>,
     words: &[String],
 ) -> Result<Form<'a>, ValueFault>
-    ensures { Gives form_view result (alone name.now (form_view form.entry) (map string_bytes words.now)) }
+    ensures { Gives reason_of form_view result (alone name.now (form_view form.entry) (map string_bytes words.now)) }
 {
     if words.is_empty() {
         Ok(form)
@@ -236,7 +237,7 @@ pub(crate) fn alone<'a>(
 ///
 /// Errors: `TclError` for more than one word, `OutOfMemory`.
 pub fn increase_of(alloc: Global, words: &[String]) -> Result<&str, ValueFault>
-    ensures { Gives (λ t. t.now) result (increase_of (map string_bytes words.entry.now)) }
+    ensures { Gives reason_of (λ t. t.now) result (increase_of (map string_bytes words.entry.now)) }
 {
     match words {
         [] => Ok("1"),

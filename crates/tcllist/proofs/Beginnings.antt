@@ -1,5 +1,5 @@
 -- Up to the place of a fault a text goes on to a list.
-use Rattle.std.proofs.Common.{◌≡◌, ℕ, suc, Bool, List, [], ◌∷◌, ◌++◌, length, refl, sym, ap, ap₂, subst, ◌∙◌, arith, append_assoc, append-nil, length-append}
+use Rattle.std.proofs.Common.{◌≡◌, ℕ, Bool, List, [], ◌∷◌, ◌++◌, length, refl, sym, ap, ap₂, subst, ◌∙◌, arith, append_assoc, append-nil, length-append}
 use Rattle.tclchars.specs.Bytes.{backslash, is_space, AllPass, MayBegin}
 use Rattle.tclchars.specs.Runs.{Text}
 use Rattle.tclchars.specs.Reading.{left_of}

@@ -1,5 +1,5 @@
 -- What a text is answered.
-use Rattle.std.proofs.Common.{◌≡◌, ◌≢◌, ◌↔◌, ℕ, ◌≤◌, List, ◌∷◌, length, map, string_bytes, Result, Ok, Err, sym, ap, ◌∙◌, arith, length-append}
+use Rattle.std.proofs.Common.{◌≡◌, ◌≢◌, ◌↔◌, ◌≤◌, List, ◌∷◌, length, map, string_bytes, Result, Ok, Err, ap, arith, length-append}
 use Rattle.std.specs.Prelude.{IfOk, IfErr, MatchResult}
 use Rattle.std.specs.declared.vec.Vec.{Vec}
 use Rattle.std.specs.declared.string.String.{String}
@@ -7,7 +7,6 @@ use Rattle.std.specs.declared.alloc.Global.{Global}
 use Rattle.tclchars.specs.Runs.{Text}
 use Rattle.tclchars.specs.Faults.{max_bytes}
 use Rattle.tclchars.specs.Reading.{left_of}
-use Rattle.tclchars.specs.Whole.{Reads}
 use Rattle.tclchars.specs.declared.fault.Fault.{Fault}
 use Rattle.tclchars.specs.declared.fault.TextFault.{TextFault}
 use Rattle.tclchars.specs.declared.fault.TextFault.TheVariants.{OutOfMemory}

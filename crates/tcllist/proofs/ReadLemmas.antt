@@ -127,23 +127,23 @@ pub list_at-wrong : (bs : Text) (f : Fault) → IsFaulty bs f → list_at bs ≡
 unfolding list_at
 list_at-wrong bs f h = ap (λ r. r >>= (λ x. Ok x.0)) (list_wrong h (suc (length bs)) (omega arith))
 
-abbrev pub Gives : Text → Result (List Text) Fault → Type 0
-Gives bs (Ok es) = IsList bs es
-Gives bs (Err f) = IsFaulty bs f
+abbrev pub IsListOrFault : Text → Result (List Text) Fault → Type 0
+IsListOrFault bs (Ok es) = IsList bs es
+IsListOrFault bs (Err f) = IsFaulty bs f
 
-first_of : (bs : Text) (r : Read (List Text)) → ListGives bs r → Gives bs (r >>= (λ x. Ok x.0))
+first_of : (bs : Text) (r : Read (List Text)) → ListGives bs r → IsListOrFault bs (r >>= (λ x. Ok x.0))
 first_of bs (Ok p) h = h
 first_of bs (Err f) h = h
 
-pub list_at-gives : (bs : Text) → Gives bs (list_at bs)
+pub list_at-gives : (bs : Text) → IsListOrFault bs (list_at bs)
 unfolding list_at
 list_at-gives bs = first_of bs (reads (suc (length bs)) bs) (list_gives (suc (length bs)) bs (omega arith))
 
 pub list_at-sound : (bs : Text) (es : List Text) → list_at bs ≡ Ok es → IsList bs es
-list_at-sound bs es h = subst (Gives bs) h (list_at-gives bs)
+list_at-sound bs es h = subst (IsListOrFault bs) h (list_at-gives bs)
 
 pub list_at-faulty : (bs : Text) (f : Fault) → list_at bs ≡ Err f → IsFaulty bs f
-list_at-faulty bs f h = subst (Gives bs) h (list_at-gives bs)
+list_at-faulty bs f h = subst (IsListOrFault bs) h (list_at-gives bs)
 
 pub one_list : (bs : Text) (es fs : List Text) → IsList bs es → IsList bs fs → es ≡ fs
 one_list bs es fs h k = ok_same es fs (sym (list_at-read bs es h) ∙ list_at-read bs fs k)

@@ -1,5 +1,5 @@
 -- The elements of a text, or its fault, as a function that computes. The law list_of_grammar ties it to the grammar.
-use Rattle.std.specs.Prelude.{◌≡◌, ℕ, zero, suc, List, [], ◌∷◌, ◌++◌, length, map, Bool, true, false, ◌==◌, nat_lt, if◌then◌else◌, Option, Some, None, Result, Ok, Err, string_bytes}
+use Rattle.std.specs.Prelude.{ℕ, zero, suc, List, [], ◌∷◌, ◌++◌, length, map, Bool, true, false, ◌==◌, if◌then◌else◌, Option, Some, None, Result, Ok, Err, string_bytes}
 use Rattle.std.specs.declared.vec.Vec.{Vec}
 use Rattle.std.specs.declared.string.String.{String}
 use Rattle.std.specs.declared.alloc.Global.{Global}
@@ -8,7 +8,7 @@ use Rattle.tclchars.specs.Runs.{Text, back}
 use Rattle.tclchars.specs.Backslash.{after_backslash}
 use Rattle.tclchars.specs.Braces.{braced_at}
 use Rattle.tclchars.specs.Whole.{whole_of, Reads}
-use Rattle.tclchars.specs.Reading.{◌>>=◌, Read, read_map, items_at, placed}
+use Rattle.tclchars.specs.Reading.{◌>>=◌, Read, read_map, items_at}
 use Rattle.tclchars.specs.declared.fault.Fault.{Fault}
 use Rattle.tclchars.specs.declared.fault.Fault.TheVariants as marks
 use Rattle.tclchars.specs.declared.fault.TextFault.{TextFault}

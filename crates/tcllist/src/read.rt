@@ -2,7 +2,8 @@ ghost use Rattle.std.specs.Prelude.{◌≡◌, ℕ, suc, ◌≤◌, List, length
 ghost use Rattle.tclchars.specs.Runs.{Text, front, back};
 ghost use Rattle.tclchars.specs.Braces.{braced_at};
 ghost use Rattle.tclchars.specs.Faults.{max_bytes};
-ghost use Rattle.tclchars.specs.Reading.{Gives};
+ghost use Rattle.tclchars.specs.Answers.{Gives};
+ghost use Rattle.tclchars.specs.Reading.{stopped_by};
 ghost use Rattle.tclchars.specs.declared.fault.TextFault.TheVariants.{OutOfMemory};
 ghost use Rattle.tcllist.specs.ListGrammar.{IsList};
 ghost use Rattle.tcllist.specs.ListFaults.{IsListFault};
@@ -58,7 +59,7 @@ fn read_whole(alloc: Global, text: &str) -> Result<Vec<String>, TextFault>
 }
 
 fn read_elements(alloc: Global, text: &str) -> Result<Vec<String>, ReadError>
-    ensures { Gives (λ es. map string_bytes es.items) result (list_at text.now) }
+    ensures { Gives stopped_by (λ es. map string_bytes es.items) result (list_at text.now) }
 {
     let mut elements = Vec::new(alloc);
     let mut rest = text;
@@ -75,7 +76,7 @@ fn read_elements(alloc: Global, text: &str) -> Result<Vec<String>, ReadError>
 
 // The element in front of a text that begins with no white space, and what follows it.
 fn read_element(alloc: Global, text: &str) -> Result<(String, &str), ReadError>
-    ensures { Gives (λ x. (string_bytes x.0, x.1.now)) result (element_at text.now) }
+    ensures { Gives stopped_by (λ x. (string_bytes x.0, x.1.now)) result (element_at text.now) }
 {
     if let Some(inside) = after_mark(text, b'{') {
         return read_braced(alloc, inside);
@@ -88,7 +89,7 @@ fn read_element(alloc: Global, text: &str) -> Result<(String, &str), ReadError>
 
 // An element in braces, from behind its brace.
 fn read_braced(alloc: Global, text: &str) -> Result<(String, &str), ReadError>
-    ensures { Gives (λ x. (string_bytes x.0, x.1.now)) result
+    ensures { Gives stopped_by (λ x. (string_bytes x.0, x.1.now)) result
         (element_in_braces (suc (length text.now)) (braced_at false 0 text.now)) }
 {
     let Some((inside, rest)) = split_close(text) else {
@@ -100,7 +101,7 @@ fn read_braced(alloc: Global, text: &str) -> Result<(String, &str), ReadError>
 
 // An element in quotes, from behind its quote.
 fn read_quoted(alloc: Global, text: &str) -> Result<(String, &str), ReadError>
-    ensures { Gives (λ x. (string_bytes x.0, x.1.now)) result (quoted_at text.now) }
+    ensures { Gives stopped_by (λ x. (string_bytes x.0, x.1.now)) result (quoted_at text.now) }
 {
     let (value, behind) = read_piece(alloc, text, End::Quote)?;
     let Some(rest) = after_mark(behind, b'"') else {
@@ -112,7 +113,7 @@ fn read_quoted(alloc: Global, text: &str) -> Result<(String, &str), ReadError>
 
 // Behind what closes an element there is white space or the end.
 fn part(rest: &str) -> Result<(), ReadError>
-    ensures { Gives (λ _. rest.now) result (parted_at rest.now) }
+    ensures { Gives stopped_by (λ _. rest.now) result (parted_at rest.now) }
 {
     if rest.is_empty() || begins_class(rest, Class::Space) {
         return Ok(());
@@ -158,7 +159,7 @@ fn split_quoted(text: &str) -> (&str, &str)
 
 // A piece of an element up to what ends it, or to the text's end, and what follows.
 fn read_piece(alloc: Global, text: &str, end: End) -> Result<(String, &str), ReadError>
-    ensures { Gives (λ x. (string_bytes x.0, x.1.now)) result (piece_of (ends_piece end) text.now) }
+    ensures { Gives stopped_by (λ x. (string_bytes x.0, x.1.now)) result (piece_of (ends_piece end) text.now) }
 {
     let mut value = String::new(alloc);
     let mut rest = text;

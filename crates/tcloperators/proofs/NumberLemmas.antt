@@ -7,7 +7,8 @@ use Rattle.std.proofs.lemmas.Bool.{lt-ltb, le-ltb, cases_lt}
 use Rattle.std.proofs.lemmas.Int.{to_z-of_z, to_z_pos}
 use Rattle.std.proofs.lemmas.Nat.{pow_below}
 use Rattle.std.proofs.Math.Nat.{pow-le-pow_right, mul-le-mul_right, div-eq_of_lt}
-use Rattle.tcloperators.specs.Faults.{Gives, number_too_large}
+use Rattle.tclchars.specs.Answers.{Gives}
+use Rattle.tcloperators.specs.Faults.{reason_of, number_too_large}
 use Rattle.tcloperators.specs.Numbers.{within_64_bits}
 use Rattle.tcloperators.specs.declared.fault.ValueFault.TheVariants.{NumberTooLarge}
 
@@ -26,7 +27,7 @@ unfitting (pos n) f = rw (outside n (not_below n (λ h. f (record { sfits = h })
 unfitting (negsuc n) f = rw (outside n (not_below n (λ h. f (record { sfits = h })))) refl
 
 -- a checked result is that within 64 bits
-pub checked : (r : Option ℤ) (z : ℤ) → SomeIff r (FitsSigned w64 z) z → Gives (λ x. x) (ok_or r NumberTooLarge) (within_64_bits z)
+pub checked : (r : Option ℤ) (z : ℤ) → SomeIff r (FitsSigned w64 z) z → Gives reason_of (λ x. x) (ok_or r NumberTooLarge) (within_64_bits z)
 checked None z beyond = unfitting z beyond
 checked (Some x) z is = fitting z is.0 ∙ ap Ok (sym is.1)
 

@@ -1,6 +1,7 @@
 -- Why there is no value, and what a call answers. Nothing is said of memory here.
 use Rattle.std.specs.Prelude.{◌≡◌, ℕ, string_bytes, String, Option, Some, None, IfSome, Result, Ok, Err}
 use Rattle.std.specs.declared.alloc.Global.{Global}
+use Rattle.tclchars.specs.Answers.{Gives}
 use Rattle.tclchars.specs.Runs.{Text}
 use Rattle.tclchars.specs.declared.fault.TextFault.{TextFault}
 use Rattle.tcloperators.specs.declared.fault.ValueFault.{ValueFault}
@@ -47,10 +48,6 @@ number_of (faults.LeftOut name) = 19
 abbrev pub HasReason : Reason → ValueFault → Type 0
 HasReason reason e = IfSome (reason_of e) (λ r. r ≡ reason)
 
--- what a call gave, seen by view, is this answer, unless memory ran out
-abbrev pub Gives : {X Y : Type 0} → (X → Y) → Result X ValueFault → Answer Y → Type 0
-Gives view (Ok x) answer = answer ≡ Ok (view x)
-Gives view (Err e) answer = IfSome (reason_of e) (λ r. answer ≡ Err r)
-
+-- the same for a text
 abbrev pub GivesText : Result (String Global) ValueFault → Answer Text → Type 0
-GivesText result answer = Gives string_bytes result answer
+GivesText result answer = Gives reason_of string_bytes result answer

@@ -1,7 +1,8 @@
 //! The elements of lists (list(n)).
 ghost use Rattle.std.specs.Prelude.{◌≡◌, map, bytes_eq, string_bytes};
 ghost use Rattle.std.specs.List.{list_any};
-ghost use Rattle.tcloperators.specs.Faults.{Gives};
+ghost use Rattle.tclchars.specs.Answers.{Gives};
+ghost use Rattle.tcloperators.specs.Faults.{reason_of};
 ghost use Rattle.tcloperators.specs.Elements.{elements_of, texts_in};
 
 use crate::fault::ValueFault;
@@ -14,7 +15,7 @@ use tcllist::parse_list;
 ///
 /// Errors: `Text` where it is too long to be read, `TclError` where it is no list, `OutOfMemory`.
 pub fn elements(alloc: Global, list: &str) -> Result<Vec<String>, ValueFault>
-    ensures { Gives texts_in result (elements_of list.now) }
+    ensures { Gives reason_of texts_in result (elements_of list.now) }
 {
     match parse_list(alloc, list) {
         Ok(elements) => Ok(elements),

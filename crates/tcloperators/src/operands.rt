@@ -1,6 +1,7 @@
 //! Arithmetic of two whole numbers (expr(n), OPERATORS).
 ghost use Rattle.std.specs.Prelude.{◌≡◌, ◌^◌, ◌*ℤ◌, pos};
-ghost use Rattle.tcloperators.specs.Faults.{Gives};
+ghost use Rattle.tclchars.specs.Answers.{Gives};
+ghost use Rattle.tcloperators.specs.Faults.{reason_of};
 ghost use Rattle.tcloperators.specs.Numbers as numbers;
 
 use crate::fault::ValueFault;
@@ -16,7 +17,7 @@ pub(crate) struct Operands {
 
 impl Operands {
     pub(crate) fn sum(self) -> Result<i64, ValueFault>
-        ensures { Gives (λ z. z) result (numbers.sum self.left self.right) }
+        ensures { Gives reason_of (λ z. z) result (numbers.sum self.left self.right) }
     {
         self.left
             .checked_add(self.right)
@@ -24,7 +25,7 @@ impl Operands {
     }
 
     pub(crate) fn difference(self) -> Result<i64, ValueFault>
-        ensures { Gives (λ z. z) result (numbers.difference self.left self.right) }
+        ensures { Gives reason_of (λ z. z) result (numbers.difference self.left self.right) }
     {
         self.left
             .checked_sub(self.right)
@@ -32,7 +33,7 @@ impl Operands {
     }
 
     pub(crate) fn product(self) -> Result<i64, ValueFault>
-        ensures { Gives (λ z. z) result (numbers.product self.left self.right) }
+        ensures { Gives reason_of (λ z. z) result (numbers.product self.left self.right) }
     {
         self.left
             .checked_mul(self.right)
@@ -41,7 +42,7 @@ impl Operands {
 
     /// The quotient, rounded down.
     pub(crate) fn quotient(self, alloc: Global) -> Result<i64, ValueFault>
-        ensures { Gives (λ z. z) result (numbers.divided self.left self.right) }
+        ensures { Gives reason_of (λ z. z) result (numbers.divided self.left self.right) }
     {
         if self.right == 0 {
             return Err(divide_by_zero(alloc));
@@ -57,7 +58,7 @@ impl Operands {
 
     /// What the quotient leaves, with the divisor's sign.
     pub(crate) fn remainder(self, alloc: Global) -> Result<i64, ValueFault>
-        ensures { Gives (λ z. z) result (numbers.remaining self.left self.right) }
+        ensures { Gives reason_of (λ z. z) result (numbers.remaining self.left self.right) }
     {
         if self.right == 0 {
             return Err(divide_by_zero(alloc));
@@ -75,7 +76,7 @@ impl Operands {
 
     /// The left number times a power of two.
     pub(crate) fn shifted_left(self, alloc: Global) -> Result<i64, ValueFault>
-        ensures { Gives (λ z. z) result (numbers.shifted_left self.left self.right) }
+        ensures { Gives reason_of (λ z. z) result (numbers.shifted_left self.left self.right) }
     {
         match u64::try_from(self.right) {
             Ok(count) => doubled(self.left, count),
@@ -85,7 +86,7 @@ impl Operands {
 
     /// The left number divided by a power of two, rounded down.
     pub(crate) fn shifted_right(self, alloc: Global) -> Result<i64, ValueFault>
-        ensures { Gives (λ z. z) result (numbers.shifted_right self.left self.right) }
+        ensures { Gives reason_of (λ z. z) result (numbers.shifted_right self.left self.right) }
     {
         match u64::try_from(self.right) {
             Ok(count) => Ok(halved(self.left, count)),
@@ -119,14 +120,14 @@ impl Operands {
 ///
 /// Errors: `NumberTooLarge` where it lies outside 64 bits.
 pub fn sum(left: i64, right: i64) -> Result<i64, ValueFault>
-    ensures { Gives (λ z. z) result (numbers.sum left right) }
+    ensures { Gives reason_of (λ z. z) result (numbers.sum left right) }
 {
     Operands { left, right }.sum()
 }
 
 /// A number doubled so often.
 fn doubled(number: i64, times: u64) -> Result<i64, ValueFault>
-    ensures { Gives (λ z. z) result (numbers.within_64_bits (number *ℤ pos (2 ^ times))) }
+    ensures { Gives reason_of (λ z. z) result (numbers.within_64_bits (number *ℤ pos (2 ^ times))) }
 {
     if number == 0 {
         return Ok(0);
@@ -151,7 +152,7 @@ fn halved(number: i64, times: u64) -> i64
 
 /// A whole number with this sign and size.
 fn signed(is_negative: bool, size: u64) -> Result<i64, ValueFault>
-    ensures { Gives (λ z. z) result (numbers.within_64_bits (numbers.signed is_negative size)) }
+    ensures { Gives reason_of (λ z. z) result (numbers.within_64_bits (numbers.signed is_negative size)) }
 {
     if size <= i64::MAX as u64 {
         let number = size as i64;

@@ -1,7 +1,8 @@
 //! The operators of expressions on values (expr(n), OPERATORS).
 ghost use Rattle.std.specs.Prelude.{◌≡◌, neg_ℤ, Ok};
 ghost use Rattle.tclexpr.specs.Symbols.{binary_symbol};
-ghost use Rattle.tcloperators.specs.Faults.{Gives, GivesText};
+ghost use Rattle.tclchars.specs.Answers.{Gives};
+ghost use Rattle.tcloperators.specs.Faults.{reason_of, GivesText};
 ghost use Rattle.tcloperators.specs.Numbers.{within_64_bits, other_bits};
 ghost use Rattle.tcloperators.specs.Operators.{unary_value, binary_value, truth_text, text_order, order_of, decimal_text};
 ghost use Rattle.tcloperators.specs.Operators.{whole_operand, whole_operands, number_operand, found_in};
@@ -81,14 +82,14 @@ pub fn binary(
 
 /// Whether a text is an element of a list.
 fn is_in(alloc: Global, sought: &str, list: &str) -> Result<bool, ValueFault>
-    ensures { Gives (λ b. b) result (found_in sought.now list.now) }
+    ensures { Gives reason_of (λ b. b) result (found_in sought.now list.now) }
 {
     Ok(is_among(&elements(alloc, list)?, sought))
 }
 
 /// The whole number that an operand spells, for an operator with this symbol.
 fn whole_operand(alloc: Global, symbol: &str, text: &str) -> Result<i64, ValueFault>
-    ensures { Gives (λ z. z) result (whole_operand symbol.now text.now) }
+    ensures { Gives reason_of (λ z. z) result (whole_operand symbol.now text.now) }
 {
     match read_number(text) {
         Numeral::Whole(number) => Ok(number),
@@ -104,7 +105,7 @@ fn whole_operands(
     left: &str,
     right: &str,
 ) -> Result<Operands, ValueFault>
-    ensures { Gives operands_view result (whole_operands (binary_symbol op) left.now right.now) }
+    ensures { Gives reason_of operands_view result (whole_operands (binary_symbol op) left.now right.now) }
 {
     let left = whole_operand(alloc, op.symbol(), left)?;
     let right = whole_operand(alloc, op.symbol(), right)?;
@@ -112,7 +113,7 @@ fn whole_operands(
 }
 
 fn negated(number: i64) -> Result<i64, ValueFault>
-    ensures { Gives (λ z. z) result (within_64_bits (neg_ℤ number)) }
+    ensures { Gives reason_of (λ z. z) result (within_64_bits (neg_ℤ number)) }
 {
     number.checked_neg().ok_or(ValueFault::NumberTooLarge)
 }
@@ -125,7 +126,7 @@ fn other_bits(number: i64) -> i64
 
 /// The whole number that an operand spells, if it spells one.
 fn number_operand(text: &str) -> Result<Option<i64>, ValueFault>
-    ensures { Gives (λ n. n) result (number_operand text.now) }
+    ensures { Gives reason_of (λ n. n) result (number_operand text.now) }
 {
     match read_number(text) {
         Numeral::Whole(number) => Ok(Some(number)),
@@ -137,7 +138,7 @@ fn number_operand(text: &str) -> Result<Option<i64>, ValueFault>
 
 /// The order of two operands: as numbers where both are whole numbers, else as texts.
 fn order(left: &str, right: &str) -> Result<Ordering, ValueFault>
-    ensures { Gives (λ o. o) result (order_of left.now right.now) }
+    ensures { Gives reason_of (λ o. o) result (order_of left.now right.now) }
 {
     let left_number = number_operand(left)?;
     let right_number = number_operand(right)?;

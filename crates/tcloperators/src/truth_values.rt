@@ -1,6 +1,7 @@
 //! Truth values (expr(n), OPERANDS).
 ghost use Rattle.std.specs.Prelude.{◌≡◌};
-ghost use Rattle.tcloperators.specs.Faults.{Gives};
+ghost use Rattle.tclchars.specs.Answers.{Gives};
+ghost use Rattle.tcloperators.specs.Faults.{reason_of};
 ghost use Rattle.tcloperators.specs.Operators.{is_front, is_true_word, is_false_word, word_truth, truth};
 
 use crate::fault::ValueFault;
@@ -14,7 +15,7 @@ use tcltext::{Numeral, read_number};
 /// Errors: `NumberTooLarge` and `FractionOperand` for other numbers, `TclError` for any other text, `OutOfMemory` where
 /// memory for its message runs out.
 pub fn truth(alloc: Global, text: &str) -> Result<bool, ValueFault>
-    ensures { Gives (λ b. b) result (truth text.now) }
+    ensures { Gives reason_of (λ b. b) result (truth text.now) }
 {
     match read_number(text) {
         Numeral::Whole(number) => Ok(number != 0),
@@ -25,7 +26,7 @@ pub fn truth(alloc: Global, text: &str) -> Result<bool, ValueFault>
 }
 
 fn word_truth(alloc: Global, word: &str) -> Result<bool, ValueFault>
-    ensures { Gives (λ b. b) result (word_truth word.now) }
+    ensures { Gives reason_of (λ b. b) result (word_truth word.now) }
 {
     if is_true_word(word) {
         Ok(true)

@@ -5,7 +5,7 @@ use Rattle.tclpattern.specs.Patterns as pattern
 use Rattle.tclpattern.specs.Patterns.{star, question, backslash, IsMatch}
 use Rattle.tclpattern.specs.Search.Tails.{IsTail}
 use Rattle.tclpattern.specs.Search.Steps as steps
-use Rattle.tclpattern.specs.Search.Steps.{OneStep, StepsNowhere, StepsOnly, Run, RunsBy}
+use Rattle.tclpattern.specs.Search.Steps.{OneStep, StepsOnly, Run, RunsBy}
 use Rattle.tclpattern.proofs.SetLemmas.{tail-itself, tail-more, tail-under, holds_tail}
 use Rattle.tclpattern.proofs.StepLemmas.{step_matches, step_no_star}
 use Rattle.tclpattern.proofs.TextLemmas.{AreLeft, left-end, chars_length}

@@ -5,7 +5,7 @@ use Rattle.std.specs.Str.{chars}
 use denote.Ref.{Bor}
 use Rattle.std.proofs.lemmas.Bool.Decides.{nat_tests}
 use Rattle.tclpattern.specs.Patterns as pattern
-use Rattle.tclpattern.specs.Patterns.{star, question, open_bracket, backslash, is_ordinary, close_bracket, behind_close, HoldsIn, IsMatch}
+use Rattle.tclpattern.specs.Patterns.{star, question, open_bracket, backslash, is_ordinary, HoldsIn, IsMatch}
 use Rattle.tclpattern.specs.Search.Tails.{HoldsNowhere, HoldsOnly}
 use Rattle.tclpattern.specs.Search.Steps as steps
 use Rattle.tclpattern.specs.Search.Steps.{OneStep, StepsNowhere, StepsOnly}

@@ -1,7 +1,7 @@
 -- A tail of a pattern with one more character in front, at a character of the text.
 use Rattle.std.proofs.Common.{◌≡◌, ◌≢◌, ◌↔◌, ℕ, List, [], ◌∷◌, ◌++◌, true, false, Some, None, IsTrue, refl, sym, ap, subst, arith, ◌⊎◌, inl, inr}
 use Rattle.tclpattern.specs.Patterns as pattern
-use Rattle.tclpattern.specs.Patterns.{star, question, open_bracket, backslash, HoldsIn, IsMatch}
+use Rattle.tclpattern.specs.Patterns.{star, question, open_bracket, backslash, IsMatch}
 use Rattle.tclpattern.specs.Search.Tails.{SetMatches}
 use Rattle.tclpattern.specs.Search.Windows.{first_of, behind_first}
 use Rattle.tclpattern.proofs.PatternLemmas as parts

@@ -9,26 +9,26 @@ use Rattle.tclrules.specs.Playing.{Played, go_on, play}
 abbrev to : {R : Type 0} → Outcome R → World → Played R
 to o w = Some (o, w)
 
-abbrev Gives : {J R : Type 0} → Oracle → ℕ → (J → Plan J R) → ℕ → Plan J R → World → Outcome R → World → Type 0
-Gives oracle most rule n p w o w' = play oracle most rule n p w ≡ to o w'
+abbrev PlaysTo : {J R : Type 0} → Oracle → ℕ → (J → Plan J R) → ℕ → Plan J R → World → Outcome R → World → Type 0
+PlaysTo oracle most rule n p w o w' = play oracle most rule n p w ≡ to o w'
 
 -- what a test chooses of a plan that counts
 abbrev branch : {J R : Type 0} → Oracle → ℕ → (J → Plan J R) → ℕ → Plan J R → World → Bool → Played R
 branch {R = R} oracle most rule n p w b = elim b as (λ _. Played R) [ true ↦ play oracle most rule n p (count w) | false ↦ Some (Halted TooManyCommands, w) ]
 
-on_branch : {J R : Type 0} (oracle : Oracle) (most : ℕ) (rule : J → Plan J R) (n : ℕ) (p : Plan J R) (w : World) (o : Outcome R) (w' : World) (b : Bool) → (Gives oracle most rule n p (count w) o w' → Gives oracle most rule (suc n) p (count w) o w')
+on_branch : {J R : Type 0} (oracle : Oracle) (most : ℕ) (rule : J → Plan J R) (n : ℕ) (p : Plan J R) (w : World) (o : Outcome R) (w' : World) (b : Bool) → (PlaysTo oracle most rule n p (count w) o w' → PlaysTo oracle most rule (suc n) p (count w) o w')
     → branch oracle most rule n p w b ≡ to o w' → branch oracle most rule (suc n) p w b ≡ to o w'
 on_branch oracle most rule n p w o w' true h e = h e
 on_branch oracle most rule n p w o w' false h e = e
 
-on_run : {J R : Type 0} (oracle : Oracle) (most : ℕ) (rule : J → Plan J R) (n : ℕ) (k : R → Plan J R) (o : Outcome R) (w' : World) (r r' : Played R) → ((a : Outcome R) (v : World) → r ≡ to a v → r' ≡ to a v) → ((a : R) (v : World) → Gives oracle most rule n (k a) v o w' → Gives oracle most rule (suc n) (k a) v o w')
+on_run : {J R : Type 0} (oracle : Oracle) (most : ℕ) (rule : J → Plan J R) (n : ℕ) (k : R → Plan J R) (o : Outcome R) (w' : World) (r r' : Played R) → ((a : Outcome R) (v : World) → r ≡ to a v → r' ≡ to a v) → ((a : R) (v : World) → PlaysTo oracle most rule n (k a) v o w' → PlaysTo oracle most rule (suc n) (k a) v o w')
     → go_on (λ a v. play oracle most rule n (k a) v) r ≡ to o w' → go_on (λ a v. play oracle most rule (suc n) (k a) v) r' ≡ to o w'
 on_run oracle most rule n k o w' None r' first next e = absurd (cc)
 on_run oracle most rule n k o w' (Some (Ended a, v)) r' first next e = rw (first (Ended a) v refl) (next a v e)
 on_run oracle most rule n k o w' (Some (Halted f, v)) r' first next e = rw (first (Halted f) v refl) e
 
 -- one step more gives the same
-more : {J R : Type 0} (oracle : Oracle) (most : ℕ) (rule : J → Plan J R) (n : ℕ) (p : Plan J R) (w : World) (o : Outcome R) (w' : World) → Gives oracle most rule n p w o w' → Gives oracle most rule (suc n) p w o w'
+more : {J R : Type 0} (oracle : Oracle) (most : ℕ) (rule : J → Plan J R) (n : ℕ) (p : Plan J R) (w : World) (o : Outcome R) (w' : World) → PlaysTo oracle most rule n p w o w' → PlaysTo oracle most rule (suc n) p w o w'
 more oracle most rule zero p w o w' e = absurd (cc)
 more oracle most rule (suc n) (Ends q) w o w' e = e
 more oracle most rule (suc n) (Counts p) w o w' e = on_branch oracle most rule n p w o w' (nat_lt w.used most) (more oracle most rule n p (count w) o w') e
@@ -45,20 +45,20 @@ is_sum : (d n : ℕ) → raised d n ≡ d + n
 is_sum zero n = omega arith
 is_sum (suc d) n = omega (arith, is_sum d n)
 
-rise : {J R : Type 0} (oracle : Oracle) (most : ℕ) (rule : J → Plan J R) (d n : ℕ) (p : Plan J R) (w : World) (o : Outcome R) (w' : World) → Gives oracle most rule n p w o w' → Gives oracle most rule (raised d n) p w o w'
+rise : {J R : Type 0} (oracle : Oracle) (most : ℕ) (rule : J → Plan J R) (d n : ℕ) (p : Plan J R) (w : World) (o : Outcome R) (w' : World) → PlaysTo oracle most rule n p w o w' → PlaysTo oracle most rule (raised d n) p w o w'
 rise oracle most rule zero n p w o w' e = e
 rise oracle most rule (suc d) n p w o w' e = more oracle most rule (raised d n) p w o w' (rise oracle most rule d n p w o w' e)
 
 -- both of two ways fit in as many steps as they have together
-left : {J R : Type 0} (oracle : Oracle) (most : ℕ) (rule : J → Plan J R) (n m : ℕ) (p : Plan J R) (w : World) (o : Outcome R) (w' : World) → Gives oracle most rule n p w o w' → Gives oracle most rule (n + m) p w o w'
+left : {J R : Type 0} (oracle : Oracle) (most : ℕ) (rule : J → Plan J R) (n m : ℕ) (p : Plan J R) (w : World) (o : Outcome R) (w' : World) → PlaysTo oracle most rule n p w o w' → PlaysTo oracle most rule (n + m) p w o w'
 left oracle most rule n m p w o w' e =
     let s : raised m n ≡ n + m = omega (arith, is_sum m n) in
-    subst (λ i. Gives oracle most rule i p w o w') s (rise oracle most rule m n p w o w' e)
+    subst (λ i. PlaysTo oracle most rule i p w o w') s (rise oracle most rule m n p w o w' e)
 
-right : {J R : Type 0} (oracle : Oracle) (most : ℕ) (rule : J → Plan J R) (n m : ℕ) (p : Plan J R) (w : World) (o : Outcome R) (w' : World) → Gives oracle most rule m p w o w' → Gives oracle most rule (n + m) p w o w'
-right oracle most rule n m p w o w' e = subst (λ i. Gives oracle most rule i p w o w') (is_sum n m) (rise oracle most rule n m p w o w' e)
+right : {J R : Type 0} (oracle : Oracle) (most : ℕ) (rule : J → Plan J R) (n m : ℕ) (p : Plan J R) (w : World) (o : Outcome R) (w' : World) → PlaysTo oracle most rule m p w o w' → PlaysTo oracle most rule (n + m) p w o w'
+right oracle most rule n m p w o w' e = subst (λ i. PlaysTo oracle most rule i p w o w') (is_sum n m) (rise oracle most rule n m p w o w' e)
 
-below : {J R : Type 0} (oracle : Oracle) (most : ℕ) (rule : J → Plan J R) (n : ℕ) (p : Plan J R) (w : World) (o : Outcome R) (w' : World) (b : Bool) → b ≡ true → Gives oracle most rule n p (count w) o w' → branch oracle most rule n p w b ≡ to o w'
+below : {J R : Type 0} (oracle : Oracle) (most : ℕ) (rule : J → Plan J R) (n : ℕ) (p : Plan J R) (w : World) (o : Outcome R) (w' : World) (b : Bool) → b ≡ true → PlaysTo oracle most rule n p (count w) o w' → branch oracle most rule n p w b ≡ to o w'
 below oracle most rule n p w o w' true h e = e
 below oracle most rule n p w o w' false h e = absurd (cc)
 

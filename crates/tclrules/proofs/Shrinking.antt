@@ -18,10 +18,10 @@ use Rattle.tclvalue.specs.Operators.{truth, truth_text, unary_value, binary_valu
 use Rattle.tclrules.specs.Messages.{no_variable}
 use Rattle.tclrules.specs.Variables.{State, Place, Plain, Element, place_of, place_named, with_value, writable, env}
 use Rattle.tclrules.specs.Plans as plans
-use Rattle.tclrules.specs.Plans.{Ending, Normal, Raised, Returned, Broken, Continued, Items, Job, File, Script, Bracket, Step, Next, Bounds, fault, given, sized, begin, inside, raise, halt, ended, on_normal}
+use Rattle.tclrules.specs.Plans.{Ending, Normal, Raised, Returned, Broken, Continued, Job, File, Script, Bracket, Step, Next, Bounds, fault, given, sized, inside, on_normal}
 use Rattle.tclrules.specs.Words.{found, read_plain, read_place, read, read_element, parts, one}
 use Rattle.tclrules.specs.Expressions as expressions
-use Rattle.tclrules.specs.Expressions.{operand_value, expr, express, decide, normal}
+use Rattle.tclrules.specs.Expressions.{operand_value, expr, decide, normal}
 use Rattle.tclrules.specs.Rules.{assign, turn_pairs, are_done, commands, file_commands, parsed, rule}
 use Rattle.tclrules.proofs.Totals.{Shrinks}
 

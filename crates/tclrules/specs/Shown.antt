@@ -93,15 +93,15 @@ Leaves globals script left = Shows (from_globals globals script) left_by (Some l
 
 -- The same with the example host
 
-abbrev pub Gives : Text → Text → ℕ → Type 0
-Gives script result used = Sees (recorded standard script) (Result result used)
+abbrev pub HostResults : Text → Text → ℕ → Type 0
+HostResults script result used = Sees (recorded standard script) (Result result used)
 
-abbrev pub Meets : Limits → Text → Halt → Type 0
-Meets l script h = Sees (recorded l script) (Halts h)
+abbrev pub HostStops : Limits → Text → Halt → Type 0
+HostStops l script h = Sees (recorded l script) (Halts h)
 
 -- it is told these records and messages, and is asked or not
-abbrev pub Tells : Text → List Record → List Text → Bool → Type 0
-Tells script records messages asked = Shows (recorded standard script) told_to (record { records = records; messages = messages; asked = asked })
+abbrev pub HostIsTold : Text → List Record → List Text → Bool → Type 0
+HostIsTold script records messages asked = Shows (recorded standard script) told_to (record { records = records; messages = messages; asked = asked })
 
 -- the words of a setenv
 abbrev pub setting : Text → Text → Record

@@ -4,7 +4,7 @@ ghost use Rattle.std.specs.Prelude.{[], ◌∷◌, ◌++◌, true, false, codes}
 ghost use Rattle.std.specs.List.{repeat};
 ghost use Rattle.tclchars.specs.declared.fault.TextFault.TheVariants as text;
 ghost use Rattle.tclrules.specs.Derivation.{BadText, TooManyCommands, TooDeep, ValueTooLong, NumberTooLarge, FractionOperand, LeftOut, Stopped, ByHost};
-ghost use Rattle.tclrules.specs.Shown.{standard, with_commands, with_depth, with_bytes, setting, Results, Raises, RaisesOn, Stops, Leaves, Gives, Meets, Tells};
+ghost use Rattle.tclrules.specs.Shown.{standard, with_commands, with_depth, with_bytes, setting, Results, Raises, RaisesOn, Stops, Leaves, HostResults, HostStops, HostIsTold};
 
 /// The worked rows of the profile, with their counts.
 pub fn profile_rows()
@@ -281,34 +281,34 @@ pub fn limit_rows()
 
 /// What the example host is told, and whether it was asked.
 pub fn told_rows()
-    ensures kept_record { Tells (codes "setenv ME x") (setting (codes "ME") (codes "x") ∷ []) [] false }
-    ensures kept_before_an_error { Tells (codes "catch {setenv A 1; error x}; setenv B 2") (setting (codes "A") (codes "1") ∷ setting (codes "B") (codes "2") ∷ []) [] false }
-    ensures kept_before_a_fault { Tells (codes "catch {setenv A 1} a(b)") (setting (codes "A") (codes "1") ∷ []) [] false }
-    ensures kept_before_a_refusal { Tells (codes "setenv A 1; catch {conflict b}; setenv B 2") (setting (codes "A") (codes "1") ∷ []) [] false }
-    ensures asked_mode { Tells (codes "if {[mode] eq \"unload\"} {setenv A 1}") (setting (codes "A") (codes "1") ∷ []) [] true }
-    ensures asked_environment { Tells (codes "proc p {} {return [info exists ::env(PATH)]}; if {[p]} {setenv X 1}") [] [] true }
-    ensures environment_out_of_sight { Tells (codes "proc p {} {info exists env(HOME)}; if {[p]} {setenv X 1}") [] [] false }
-    ensures whole_environment_exists { Tells (codes "info exists env") [] [] false }
-    ensures environment_not_read { Tells (codes "proc p {} {catch {set env(HOME)}; catch {expr {$env(HOME)}}}; p") [] [] false }
-    ensures environment_read { Tells (codes "catch {set a $env(HOME)}") [] [] true }
-    ensures said { Tells (codes "puts stderr hi; puts -nonewline stderr {a b}") [] ((codes "hi\n") ∷ (codes "a b") ∷ []) false }
-    ensures said_in_catch { Tells (codes "catch {puts stderr x; error y}; setenv A 1") (setting (codes "A") (codes "1") ∷ []) ((codes "x\n") ∷ []) false }
-    ensures not_said { Tells (codes "catch {puts stdout x}") [] [] false }
+    ensures kept_record { HostIsTold (codes "setenv ME x") (setting (codes "ME") (codes "x") ∷ []) [] false }
+    ensures kept_before_an_error { HostIsTold (codes "catch {setenv A 1; error x}; setenv B 2") (setting (codes "A") (codes "1") ∷ setting (codes "B") (codes "2") ∷ []) [] false }
+    ensures kept_before_a_fault { HostIsTold (codes "catch {setenv A 1} a(b)") (setting (codes "A") (codes "1") ∷ []) [] false }
+    ensures kept_before_a_refusal { HostIsTold (codes "setenv A 1; catch {conflict b}; setenv B 2") (setting (codes "A") (codes "1") ∷ []) [] false }
+    ensures asked_mode { HostIsTold (codes "if {[mode] eq \"unload\"} {setenv A 1}") (setting (codes "A") (codes "1") ∷ []) [] true }
+    ensures asked_environment { HostIsTold (codes "proc p {} {return [info exists ::env(PATH)]}; if {[p]} {setenv X 1}") [] [] true }
+    ensures environment_out_of_sight { HostIsTold (codes "proc p {} {info exists env(HOME)}; if {[p]} {setenv X 1}") [] [] false }
+    ensures whole_environment_exists { HostIsTold (codes "info exists env") [] [] false }
+    ensures environment_not_read { HostIsTold (codes "proc p {} {catch {set env(HOME)}; catch {expr {$env(HOME)}}}; p") [] [] false }
+    ensures environment_read { HostIsTold (codes "catch {set a $env(HOME)}") [] [] true }
+    ensures said { HostIsTold (codes "puts stderr hi; puts -nonewline stderr {a b}") [] ((codes "hi\n") ∷ (codes "a b") ∷ []) false }
+    ensures said_in_catch { HostIsTold (codes "catch {puts stderr x; error y}; setenv A 1") (setting (codes "A") (codes "1") ∷ []) ((codes "x\n") ∷ []) false }
+    ensures not_said { HostIsTold (codes "catch {puts stdout x}") [] [] false }
 {}
 
 /// What the example host gives, and its environment.
 pub fn host_rows()
-    ensures variable_of_the_environment { Gives (codes "set a $env(HOME)") (codes "/home/me") 1 }
-    ensures shared_environment { Gives (codes "proc f {} {global env; return $env(HOME)}; f") (codes "/home/me") 4 }
-    ensures environment_there { Gives (codes "info exists env(HOME)") (codes "1") 1 }
-    ensures environment_by_a_name { Gives (codes "set n env(HOME); set $n") (codes "/home/me") 2 }
-    ensures result_of_puts { Gives (codes "puts stderr hi") [] 1 }
-    ensures result_of_a_command { Gives (codes "list [mode] x") (codes "unload x") 2 }
-    ensures unknown_command { Gives (codes "catch {nosuch x} m; set m") (codes "invalid command name \"nosuch\"") 3 }
-    ensures refused_in_catch { Meets standard (codes "catch {conflict b}") (ByHost 51) }
-    ensures long_answer { Meets (with_bytes 5) (codes "mode") ValueTooLong }
-    ensures long_variable { Meets (with_bytes 7) (codes "set a $::env(HOME)") ValueTooLong }
-    ensures long_variable_exists { Gives (codes "info exists env(HOME)") (codes "1") 1 }
+    ensures variable_of_the_environment { HostResults (codes "set a $env(HOME)") (codes "/home/me") 1 }
+    ensures shared_environment { HostResults (codes "proc f {} {global env; return $env(HOME)}; f") (codes "/home/me") 4 }
+    ensures environment_there { HostResults (codes "info exists env(HOME)") (codes "1") 1 }
+    ensures environment_by_a_name { HostResults (codes "set n env(HOME); set $n") (codes "/home/me") 2 }
+    ensures result_of_puts { HostResults (codes "puts stderr hi") [] 1 }
+    ensures result_of_a_command { HostResults (codes "list [mode] x") (codes "unload x") 2 }
+    ensures unknown_command { HostResults (codes "catch {nosuch x} m; set m") (codes "invalid command name \"nosuch\"") 3 }
+    ensures refused_in_catch { HostStops standard (codes "catch {conflict b}") (ByHost 51) }
+    ensures long_answer { HostStops (with_bytes 5) (codes "mode") ValueTooLong }
+    ensures long_variable { HostStops (with_bytes 7) (codes "set a $::env(HOME)") ValueTooLong }
+    ensures long_variable_exists { HostResults (codes "info exists env(HOME)") (codes "1") 1 }
 {}
 
 /// Variables that a script is given, and those that it leaves.

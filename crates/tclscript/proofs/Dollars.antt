@@ -22,7 +22,7 @@ use Rattle.tclscript.specs.Reading.{Inner, closed, index_at, braced_name_at, pla
 use Rattle.tclscript.proofs.PassedOver.{pass_whole}
 use Rattle.tclscript.proofs.Names.{name_longest, name_again, longest_before}
 use Rattle.tclscript.proofs.Exact.{Took, Exact}
-use Rattle.tclscript.proofs.Marks.{Without, mark_at, on_mark-at, on_mark-not, closed_ok, closed_err, closed-at, none_before, run_taken, front_run, back_run}
+use Rattle.tclscript.proofs.Marks.{Without, mark_or_none, on_mark-at, on_mark-not, closed_ok, closed_err, closed-at, none_before, run_taken, front_run, back_run}
 
 abbrev pub Anywhere : Text → Type 0
 Anywhere bs = Unit {0}
@@ -169,7 +169,7 @@ module _ (d : ℕ) (inner : Inner) (exact : IsExactInner d inner) where
   name_sound c name rest p r free is h =
       let found = λ (bs : Text). read_map (indexed name) (index_at inner bs) in
       let other : Read Part = Ok (plain_variable name, rest) in
-      elim (mark_at 40 rest) [
+      elim (mark_or_none 40 rest) [
         | inl k ↦ (
             let x = read_map_ok (indexed name) (index_at inner k.0) p r (sym (on_mark-at 40 rest k.0 found other k.1) ∙ h) in
             let made = index_sound c name k.0 x.0 r is.0 x.1 in
@@ -186,7 +186,7 @@ module _ (d : ℕ) (inner : Inner) (exact : IsExactInner d inner) where
   name_faulty name rest f is h =
       let found = λ (bs : Text). read_map (indexed name) (index_at inner bs) in
       let other : Read Part = Ok (plain_variable name, rest) in
-      elim (mark_at 40 rest) [
+      elim (mark_or_none 40 rest) [
         | inl k ↦ subst (λ ys. PartFault d (36 ∷ (name ++ ys)) f) (sym k.1) (index_faulty name k.0 f is (read_map_err (indexed name) (index_at inner k.0) f (sym (on_mark-at 40 rest k.0 found other k.1) ∙ h)))
         | inr k ↦ absurd (ok_err (plain_variable name, rest) f (sym (on_mark-not 40 rest found other k) ∙ h))
       ]
@@ -227,7 +227,7 @@ module _ (d : ℕ) (inner : Inner) (exact : IsExactInner d inner) where
 
   pub dollar_sound : (c : Context) (bs : Text) (p : Part) (r : Text) → dollar_at inner bs ≡ Ok (p, r) → Took (DollarIs d c) (36 ∷ bs) p r
   unfolding dollar_at
-  dollar_sound c bs p r h = elim (mark_at 123 bs) [
+  dollar_sound c bs p r h = elim (mark_or_none 123 bs) [
     | inl k ↦ subst (λ ys. Took (DollarIs d c) (36 ∷ ys) p r) (sym k.1) (braced_sound c k.0 p r (sym (on_mark-at 123 bs k.0 braced_name_at (after_name inner (pass Name bs)) k.1) ∙ h))
     | inr k ↦ (
         let whole = pass_whole Name bs in
@@ -238,7 +238,7 @@ module _ (d : ℕ) (inner : Inner) (exact : IsExactInner d inner) where
 
   pub dollar_faulty : (bs : Text) (f : Fault) → dollar_at inner bs ≡ Err f → PartFault d (36 ∷ bs) f
   unfolding dollar_at
-  dollar_faulty bs f h = elim (mark_at 123 bs) [
+  dollar_faulty bs f h = elim (mark_or_none 123 bs) [
     | inl k ↦ subst (λ ys. PartFault d (36 ∷ ys) f) (sym k.1) (braced_faulty k.0 f (sym (on_mark-at 123 bs k.0 braced_name_at (after_name inner (pass Name bs)) k.1) ∙ h))
     | inr k ↦ (
         let whole = pass_whole Name bs in

@@ -14,7 +14,7 @@ use Rattle.tclscript.specs.Tree as tree
 use Rattle.tclscript.specs.Tree.{Commands, no_commands, command, Words, no_words, word, Word, word_of, Parts, no_parts, part, Part, literal, variable, indexed, bracket}
 use Rattle.tclscript.specs.Ends.{script_ends, command_ends, word_ends, stands_before, parts_end, class_of, bare}
 use Rattle.tclscript.specs.Grammar as grammar
-use Rattle.tclscript.specs.Grammar.{IsGap, IsLongestName, IsRun, IsDollar, IsLastBackslash, IsLiteral, IsPlainWord, IsCommands, IsCommand, IsWords, IsWord, IsParts, IsPart}
+use Rattle.tclscript.specs.Grammar.{IsGap, IsLongestName, IsLiteral, IsPlainWord, IsCommands, IsCommand, IsWords, IsWord, IsParts, IsPart}
 use Rattle.tclscript.proofs.PassedOver.{pass-on, pass-stop}
 use Rattle.tclscript.proofs.Names.{name_longest, name_again}
 use Rattle.tclscript.proofs.NextByte.{same_escape, shorter_escape}

@@ -25,9 +25,9 @@ byte_at mark b bs true h = inl (bs, ap (λ x. x ∷ bs) (is_byte b mark h)) wher
   is_byte b c h = grind (arith, nat_tests)
 byte_at mark b bs false h = inr (ap not h)
 
-pub mark_at : (mark : ℕ) (bs : Text) → ((rest : Text) × (bs ≡ mark ∷ rest)) ⊎ Without mark bs
-mark_at mark [] = inr tt
-mark_at mark (b ∷ bs) = byte_at mark b bs (b == mark) refl
+pub mark_or_none : (mark : ℕ) (bs : Text) → ((rest : Text) × (bs ≡ mark ∷ rest)) ⊎ Without mark bs
+mark_or_none mark [] = inr tt
+mark_or_none mark (b ∷ bs) = byte_at mark b bs (b == mark) refl
 
 same_byte : (b : ℕ) → (b == b) ≡ true
 same_byte b = grind (arith, nat_tests)
@@ -40,7 +40,7 @@ on_mark-not mark [] f other h = refl
 on_mark-not mark (b ∷ bs) f other h = rw (not_true (b == mark) h) refl
 
 pub closed_ok : (mark : ℕ) (fault : Fault) (bs rest : Text) → closed mark fault bs ≡ Ok rest → bs ≡ mark ∷ rest
-closed_ok mark fault bs rest h = elim (mark_at mark bs) [
+closed_ok mark fault bs rest h = elim (mark_or_none mark bs) [
   | inl k ↦ (
       let e : (let ok : Result Text Fault = Ok k.0 in ok) ≡ Ok rest = sym (on_mark-at mark bs k.0 (λ rest. Ok rest) (Err fault) k.1) ∙ h in
       let same : k.0 ≡ rest = cc in
@@ -55,7 +55,7 @@ closed_ok mark fault bs rest h = elim (mark_at mark bs) [
   apart e = cc
 
 pub closed_err : (mark : ℕ) (fault : Fault) (bs : Text) (f : Fault) → closed mark fault bs ≡ Err f → (fault ≡ f) × Without mark bs
-closed_err mark fault bs f h = elim (mark_at mark bs) [
+closed_err mark fault bs f h = elim (mark_or_none mark bs) [
   | inl k ↦ absurd (apart k.0 (sym (on_mark-at mark bs k.0 (λ rest. Ok rest) (Err fault) k.1) ∙ h))
   | inr k ↦ (
       let e : (let err : Result Text Fault = Err fault in err) ≡ Err f = sym (on_mark-not mark bs (λ rest. Ok rest) (Err fault) k) ∙ h in

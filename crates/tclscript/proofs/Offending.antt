@@ -13,7 +13,7 @@ use Rattle.tclscript.specs.Tree.{Words, Word, Parts, Part, words_nesting, word_n
 use Rattle.tclscript.specs.Ends.{word_ends, parts_end, bare}
 use Rattle.tclscript.specs.Grammar.{IsBlanks, IsGap, IsCommand, IsName, IsWord, IsParts, IsPart}
 use Rattle.tclscript.specs.Faults as faults
-use Rattle.tclscript.specs.Faults.{Expands, CommandsFault, CommandFault, WordsFault, WordFault, PlainFault, PartsFault, PartFault, IsFault}
+use Rattle.tclscript.specs.Faults.{Expands, CommandsFault, CommandFault, WordsFault, WordFault, PlainFault, PartsFault, PartFault}
 use Rattle.tclscript.specs.Reading.{inner_at, plain_word_at}
 use Rattle.tclscript.proofs.WordsExact.{plain_met, plain_fault_goes_on, star_joined}
 use Rattle.tclscript.proofs.Whole.{inner_exact}

@@ -12,16 +12,16 @@ use Rattle.tclchars.proofs.Results.{bind_err, bind_ok, err_same, ok_err, ok_pair
 use Rattle.tclscript.specs.declared.context.Context.{Context}
 use Rattle.tclscript.specs.declared.context.Context.TheVariants.{InScript, InBracket, InIndex, InQuotes}
 use Rattle.tclscript.specs.Tree as tree
-use Rattle.tclscript.specs.Tree.{Commands, no_commands, command, Parts, no_parts, part, Part, literal, variable, indexed, bracket, parts_of, nesting, parts_nesting, part_nesting}
+use Rattle.tclscript.specs.Tree.{Commands, no_commands, command, Parts, part, Part, literal, variable, indexed, bracket, nesting}
 use Rattle.tclscript.specs.Ends.{script_ends, stands_before, parts_end, class_of}
 use Rattle.tclscript.specs.Grammar.{IsRun, IsLiteral, IsCommands, IsPart}
 use Rattle.tclscript.specs.Faults as faults
-use Rattle.tclscript.specs.Faults.{CommandsFault, PartsFault, PartFault}
+use Rattle.tclscript.specs.Faults.{PartFault}
 use Rattle.tclscript.specs.Reading.{Inner, on_mark, closed, bracket_at, dollar_at, escaped, backslash_at, literal_at, part_at}
 use Rattle.tclscript.specs.Pieces.{IsEndOf}
 use Rattle.tclscript.proofs.Escapes.{LeavesSome, backslash_end}
 use Rattle.tclscript.proofs.Exact.{Took}
-use Rattle.tclscript.proofs.Marks.{true_false, Without, mark_at, on_mark-not, closed_ok, closed_err, closed-at, none_before, run_taken, front_run, back_run}
+use Rattle.tclscript.proofs.Marks.{true_false, Without, mark_or_none, on_mark-not, closed_ok, closed_err, closed-at, none_before, run_taken, front_run, back_run}
 use Rattle.tclscript.proofs.Dollars.{ScriptFault, IsExactInner, DollarIs, dollar_sound, dollar_faulty, dollar_alone, variable_again, braced_variable_again, indexed_again}
 
 -- commands go on up to their end
@@ -261,22 +261,22 @@ module _ (d : ℕ) (inner : Inner) (exact : IsExactInner d inner) where
   abbrev pub PartIs : Context → Part → Text → Text → Type 0
   PartIs c p t r = (parts_end c (t ++ r) ≡ false) × DollarIs d c p t r
 
-  abbrev pub GoesOn : Context → Text → Type 0
-  GoesOn c bs = parts_end c bs ≡ false
+  abbrev pub PartsFollow : Context → Text → Type 0
+  PartsFollow c bs = parts_end c bs ≡ false
 
-  there : (c : Context) (bs bs' : Text) (p : Part) (r : Text) → bs ≡ bs' → GoesOn c bs → Took (DollarIs d c) bs' p r → Took (PartIs c) bs p r
-  there c bs bs' p r e b k = record { taken = k.taken; whole = e ∙ k.whole; is = (subst (GoesOn c) (e ∙ k.whole) b, k.is) }
+  there : (c : Context) (bs bs' : Text) (p : Part) (r : Text) → bs ≡ bs' → PartsFollow c bs → Took (DollarIs d c) bs' p r → Took (PartIs c) bs p r
+  there c bs bs' p r e b k = record { taken = k.taken; whole = e ∙ k.whole; is = (subst (PartsFollow c) (e ∙ k.whole) b, k.is) }
 
-  begun : (c : Context) (b : ℕ) (bs : Text) → GoesOn c (b ∷ bs) → Without 36 (b ∷ bs) → Without 91 (b ∷ bs) → Without 92 (b ∷ bs) → DoesBegin (in_class (class_of c)) (front (in_class (class_of c)) (b ∷ bs))
+  begun : (c : Context) (b : ℕ) (bs : Text) → PartsFollow c (b ∷ bs) → Without 36 (b ∷ bs) → Without 91 (b ∷ bs) → Without 92 (b ∷ bs) → DoesBegin (in_class (class_of c)) (front (in_class (class_of c)) (b ∷ bs))
   begun c b bs h x y z = rw (other_byte c b bs h x y z) (other_byte c b bs h x y z)
 
-  some_text : (c : Context) → GoesOn c [] → ⊥
+  some_text : (c : Context) → PartsFollow c [] → ⊥
   some_text InScript h = true_false (sym h)
   some_text InBracket h = true_false (sym h)
   some_text InIndex h = true_false (sym h)
   some_text InQuotes h = true_false (sym h)
 
-  literal_sound : (c : Context) (bs : Text) (p : Part) (r : Text) → GoesOn c bs → Without 36 bs → Without 91 bs → Without 92 bs → literal_at c bs ≡ Ok (p, r) → Took (DollarIs d c) bs p r
+  literal_sound : (c : Context) (bs : Text) (p : Part) (r : Text) → PartsFollow c bs → Without 36 bs → Without 91 bs → Without 92 bs → literal_at c bs ≡ Ok (p, r) → Took (DollarIs d c) bs p r
   literal_sound c [] p r h x y z e = absurd (some_text c h)
   literal_sound c (b ∷ bs) p r h x y z e =
       let test = in_class (class_of c) in
@@ -289,24 +289,24 @@ module _ (d : ℕ) (inner : Inner) (exact : IsExactInner d inner) where
       } in
       subst (λ p. Took (DollarIs d c) (b ∷ bs) p r) two.0 (subst (λ ys. Took (DollarIs d c) (b ∷ bs) (literal (front test (b ∷ bs))) ys) two.1 made)
 
-  pub part_sound : (c : Context) (bs : Text) (p : Part) (r : Text) → GoesOn c bs → part_at c inner bs ≡ Ok (p, r) → Took (PartIs c) bs p r
-  part_sound c bs p r b h = elim (mark_at 36 bs) [
+  pub part_sound : (c : Context) (bs : Text) (p : Part) (r : Text) → PartsFollow c bs → part_at c inner bs ≡ Ok (p, r) → Took (PartIs c) bs p r
+  part_sound c bs p r b h = elim (mark_or_none 36 bs) [
     | inl k ↦ there c bs (36 ∷ k.0) p r k.1 b (dollar_sound d inner exact c k.0 p r (sym (ap (part_at c inner) k.1 ∙ at_dollar c k.0) ∙ h))
-    | inr x ↦ elim (mark_at 91 bs) [
+    | inr x ↦ elim (mark_or_none 91 bs) [
       | inl k ↦ there c bs (91 ∷ k.0) p r k.1 b (bracket_sound c k.0 p r (sym (ap (part_at c inner) k.1 ∙ at_bracket c k.0) ∙ h))
-      | inr y ↦ elim (mark_at 92 bs) [
+      | inr y ↦ elim (mark_or_none 92 bs) [
         | inl k ↦ there c bs (92 ∷ k.0) p r k.1 b (backslash_sound c k.0 p r (sym (ap (part_at c inner) k.1 ∙ at_backslash c k.0) ∙ h))
         | inr z ↦ there c bs bs p r refl b (literal_sound c bs p r b x y z (sym (at_literal c bs x y z) ∙ h))
       ]
     ]
   ]
 
-  pub part_faulty : (c : Context) (bs : Text) (f : Fault) → GoesOn c bs → part_at c inner bs ≡ Err f → PartFault d bs f
-  part_faulty c bs f b h = elim (mark_at 36 bs) [
+  pub part_faulty : (c : Context) (bs : Text) (f : Fault) → PartsFollow c bs → part_at c inner bs ≡ Err f → PartFault d bs f
+  part_faulty c bs f b h = elim (mark_or_none 36 bs) [
     | inl k ↦ subst (λ xs. PartFault d xs f) (sym k.1) (dollar_faulty d inner exact k.0 f (sym (ap (part_at c inner) k.1 ∙ at_dollar c k.0) ∙ h))
-    | inr x ↦ elim (mark_at 91 bs) [
+    | inr x ↦ elim (mark_or_none 91 bs) [
       | inl k ↦ subst (λ xs. PartFault d xs f) (sym k.1) (bracket_faulty k.0 f (sym (ap (part_at c inner) k.1 ∙ at_bracket c k.0) ∙ h))
-      | inr y ↦ elim (mark_at 92 bs) [
+      | inr y ↦ elim (mark_or_none 92 bs) [
         | inl k ↦ subst (λ xs. PartFault d xs f) (sym k.1) (backslash_faulty k.0 f (sym (ap (part_at c inner) k.1 ∙ at_backslash c k.0) ∙ h))
         | inr z ↦ absurd (ok_err (literal (front (in_class (class_of c)) bs), back (in_class (class_of c)) bs) f (sym (at_literal c bs x y z) ∙ h))
       ]

@@ -7,7 +7,7 @@ use Rattle.tclscript.specs.declared.runs.Passing.{Passing}
 use Rattle.tclscript.specs.declared.runs.Passing.TheVariants.{Blanks, Joined, Gap, Comment, Escaped}
 use Rattle.tclscript.specs.Passing.{step, put_before, pass_on, pass, skip_blanks, skip_gap}
 use Rattle.tclscript.specs.Grammar as grammar
-use Rattle.tclscript.specs.Grammar.{IsBlanks, IsComment, IsGap, IsName, IsLongestName, is_colon}
+use Rattle.tclscript.specs.Grammar.{IsBlanks, IsComment, IsGap}
 
 whole_on : (b : ℕ) (bs : Text) (next : Option Passing) → ((p : Passing) → bs ≡ (pass p bs).0 ++ (pass p bs).1) → b ∷ bs ≡ (pass_on b bs (λ p. pass p bs) next).0 ++ (pass_on b bs (λ p. pass p bs) next).1
 whole_on b bs None all = refl

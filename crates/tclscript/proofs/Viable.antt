@@ -16,7 +16,7 @@ use Rattle.tclscript.specs.Tree as tree
 use Rattle.tclscript.specs.Tree.{Commands, no_commands, command, Words, no_words, word, Word, word_of, Parts, no_parts, part, Part, braced, variable, indexed, bracket}
 use Rattle.tclscript.specs.Ends.{script_ends, command_ends, word_ends, parts_end, bare}
 use Rattle.tclscript.specs.Grammar as grammar
-use Rattle.tclscript.specs.Grammar.{Split, IsBlanks, IsGap, IsName, IsPlainWord, IsCommands, IsCommand, IsWords, IsWord, IsParts, IsPart, IsScript}
+use Rattle.tclscript.specs.Grammar.{IsBlanks, IsGap, IsName, IsPlainWord, IsCommands, IsCommand, IsWords, IsWord, IsParts, IsPart, IsScript}
 use Rattle.tclscript.specs.Faults as faults
 use Rattle.tclscript.specs.Offending.{GoesOn, IsOpenMark}
 use Rattle.tclscript.specs.Faults.{NeverCloses, CommandsFault, CommandFault, WordsFault, WordFault, PlainFault, PartsFault, PartFault, IsFault}

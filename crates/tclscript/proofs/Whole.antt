@@ -1,8 +1,8 @@
 -- The tree and the fault of a whole text.
-use Rattle.std.proofs.Common.{◌≡◌, ◌≢◌, ℕ, zero, suc, ◌+◌, ◌-◌, ◌<◌, ◌≤◌, [], ◌∷◌, ◌++◌, length, Bool, true, false, Result, Ok, Err, refl, sym, ap, subst, ◌∙◌, arith, append-nil, length-append, ◌⊎◌, inl, inr}
+use Rattle.std.proofs.Common.{◌≡◌, ◌≢◌, ℕ, zero, suc, ◌+◌, ◌-◌, ◌<◌, ◌≤◌, [], ◌∷◌, ◌++◌, length, Bool, true, false, Result, Ok, Err, refl, sym, ap, subst, ◌∙◌, arith, append-nil, length-append, inl, inr}
 use Rattle.std.specs.Prelude.{IfOk, IfErr, MatchResult}
 use Rattle.tclchars.specs.Runs.{Text}
-use Rattle.tclchars.specs.Faults.{max_bytes, max_nesting}
+use Rattle.tclchars.specs.Faults.{max_nesting}
 use Rattle.tclchars.specs.Reading.{◌>>=◌, Read, left_of}
 use Rattle.tclchars.specs.declared.fault.Fault.{Fault}
 use Rattle.tclchars.specs.declared.fault.Fault.TheVariants as marks
@@ -17,7 +17,7 @@ use Rattle.tclscript.specs.Ends.{script_ends}
 use Rattle.tclscript.specs.Grammar.{IsCommands, IsParts, IsScript}
 use Rattle.tclscript.specs.Faults as faults
 use Rattle.tclscript.specs.Faults.{CommandsFault, CommandFault, WordsFault, WordFault, PlainFault, PartsFault, PartFault, IsFault, IsTextFault}
-use Rattle.tclscript.specs.Reading.{inner_at, script_with, parts_with, script_at}
+use Rattle.tclscript.specs.Reading.{inner_at, script_with, parts_with, whole_script}
 use Rattle.tclscript.specs.Text.{IsWithin, script_of}
 use Rattle.tclchars.proofs.Whole as whole
 use Rattle.tclscript.proofs.Exact.{Exact}
@@ -60,8 +60,8 @@ at_end [] h = refl
 at_end (b ∷ r) h = cc
 
 -- What is read is a script, in which no more than d brackets and indexes nest.
-pub sound : (d : ℕ) (bs : Text) (s : Commands) → script_at d bs ≡ Ok s → IsScript bs s × (nesting s ≤ d)
-unfolding script_at
+pub sound : (d : ℕ) (bs : Text) (s : Commands) → whole_script d bs ≡ Ok s → IsScript bs s × (nesting s ≤ d)
+unfolding whole_script
 sound d bs s h =
     let x = bind_ok (script_with false (inner_at d) bs) (λ x. Ok x.0) s h in
     let t = (script_exact d (inner_at d) (inner_exact d) false).sound bs x.0.0 x.0.1 tt x.1 in
@@ -71,23 +71,23 @@ sound d bs s h =
     subst (λ s. IsScript bs s × (nesting s ≤ d)) (ok_same x.0.0 s x.2) (is, t.is.1)
 
 -- What is such a script is read.
-pub complete : (d : ℕ) (bs : Text) (s : Commands) → IsScript bs s → nesting s ≤ d → script_at d bs ≡ Ok s
-unfolding script_at
+pub complete : (d : ℕ) (bs : Text) (s : Commands) → IsScript bs s → nesting s ≤ d → whole_script d bs ≡ Ok s
+unfolding whole_script
 complete d bs s h deep =
     let read = (script_exact d (inner_at d) (inner_exact d) false).again s bs [] (h, deep) in
     ap (λ x. x >>= (λ x. Ok x.0)) (ap (script_with false (inner_at d)) (sym (append-nil bs)) ∙ read)
 
 -- A fault that is met is the first in the text.
-pub faulty : (d : ℕ) (bs : Text) (f : Fault) → script_at d bs ≡ Err f → IsFault d bs f
-unfolding script_at
+pub faulty : (d : ℕ) (bs : Text) (f : Fault) → whole_script d bs ≡ Err f → IsFault d bs f
+unfolding whole_script
 faulty d bs f h = elim (bind_err (script_with false (inner_at d) bs) (λ x. Ok x.0) f h) [
   | inl bad ↦ (script_exact d (inner_at d) (inner_exact d) false).faulty bs f tt bad
   | inr k ↦ absurd (ok_err k.0.0 f k.2)
 ]
 
 -- The first fault of a text is met.
-pub met : (d : ℕ) (bs : Text) (f : Fault) → IsFault d bs f → script_at d bs ≡ Err f
-unfolding script_at
+pub met : (d : ℕ) (bs : Text) (f : Fault) → IsFault d bs f → whole_script d bs ≡ Err f
+unfolding whole_script
 met d bs f h = ap (λ x. x >>= (λ x. Ok x.0)) ((script_exact d (inner_at d) (inner_exact d) false).met bs f h)
 
 -- A text has one tree at most, one first fault at most, and not both.
@@ -144,7 +144,7 @@ mutual
   part_within (faults.PartFault.in_index name bs h k) = omega (arith, length-append name (40 ∷ bs), parts_within k)
   part_within (faults.PartFault.open_index name bs ps h k less) = omega (arith, length-append name (40 ∷ bs))
 
-pub within : (d : ℕ) (bs : Text) (f : Fault) → script_at d bs ≡ Err f → left_of f ≤ length bs
+pub within : (d : ℕ) (bs : Text) (f : Fault) → whole_script d bs ≡ Err f → left_of f ≤ length bs
 within d bs f h = commands_within (faulty d bs f h)
 
 -- The answer of a whole text
@@ -152,18 +152,18 @@ within d bs f h = commands_within (faulty d bs f h)
 module _ (bs : Text) where
   pub tree_is : (s : Commands) → script_of bs ≡ Ok s → IsWithin bs s
   tree_is s h =
-      let v = whole.value_is (script_at max_nesting) bs s h in
+      let v = whole.value_is (whole_script max_nesting) bs s h in
       let k = sound max_nesting bs s v.0 in
       (k.0, k.1, v.1)
 
   pub tree_met : (s : Commands) → IsWithin bs s → script_of bs ≡ Ok s
-  tree_met s h = whole.value_met (script_at max_nesting) bs s h.2 (complete max_nesting bs s h.0 h.1)
+  tree_met s h = whole.value_met (whole_script max_nesting) bs s h.2 (complete max_nesting bs s h.0 h.1)
 
   pub fault_is : (f : TextFault) → script_of bs ≡ Err f → IsTextFault bs f × (f ≢ OutOfMemory)
-  fault_is f h = whole.fault_is (script_at max_nesting) (IsFault max_nesting) (faulty max_nesting) (met max_nesting) (within max_nesting) bs f h
+  fault_is f h = whole.fault_is (whole_script max_nesting) (IsFault max_nesting) (faulty max_nesting) (met max_nesting) (within max_nesting) bs f h
 
   pub fault_met : (f : TextFault) → f ≢ OutOfMemory → IsTextFault bs f → script_of bs ≡ Err f
-  fault_met f some h = whole.fault_met (script_at max_nesting) (IsFault max_nesting) (faulty max_nesting) (met max_nesting) (within max_nesting) bs f some h
+  fault_met f some h = whole.fault_met (whole_script max_nesting) (IsFault max_nesting) (faulty max_nesting) (met max_nesting) (within max_nesting) bs f some h
 
 -- a text with a fault has no tree within the limits, and one fault
 pub fault_excludes : (bs : Text) (f : TextFault) (s : Commands) → f ≢ OutOfMemory → IsTextFault bs f → IsWithin bs s → ⊥
@@ -176,10 +176,10 @@ fault_unique bs f g x y h k = err_same {A = Commands} f g (sym (fault_met bs f x
 
 module _ {X : Type 0} (view : X → Commands) (bs : Text) where
   pub reads_found : (r : Result X TextFault) → Reads view r (script_of bs) → IfOk r (λ x. IsWithin bs (view x))
-  reads_found r h = whole.reads_found (script_at max_nesting) view bs (IsWithin bs) (tree_is bs) r h
+  reads_found r h = whole.reads_found (whole_script max_nesting) view bs (IsWithin bs) (tree_is bs) r h
 
   pub reads_only : (r : Result X TextFault) → Reads view r (script_of bs) → (s : Commands) → IsWithin bs s → MatchResult r (λ t. view t ≡ s) (λ e. e ≡ OutOfMemory)
-  reads_only r h s is = whole.reads_only (script_at max_nesting) view bs r h s (tree_met bs s is)
+  reads_only r h s is = whole.reads_only (whole_script max_nesting) view bs r h s (tree_met bs s is)
 
   pub reads_fault : (r : Result X TextFault) → Reads view r (script_of bs) → IfErr r (IsTextFault bs)
-  reads_fault r h = whole.reads_fault (script_at max_nesting) (IsFault max_nesting) (faulty max_nesting) (met max_nesting) (within max_nesting) view bs r h
+  reads_fault r h = whole.reads_fault (whole_script max_nesting) (IsFault max_nesting) (faulty max_nesting) (met max_nesting) (within max_nesting) view bs r h

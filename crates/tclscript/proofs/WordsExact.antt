@@ -19,7 +19,7 @@ use Rattle.tclscript.specs.Faults as faults
 use Rattle.tclscript.specs.Faults.{NeverCloses, Expands, PartsFault, PlainFault, WordFault}
 use Rattle.tclscript.specs.Reading.{Inner, on_mark, closed, ended, parts_with, word_in_braces, braced_word_at, quoted_word_at, plain_word_at, unless_word_ends, after_expansion, word_from, word_at}
 use Rattle.tclscript.proofs.Exact.{Took, Exact}
-use Rattle.tclscript.proofs.Marks.{true_false, Without, mark_at, on_mark-not, closed_ok, closed_err, closed-at, none_before, ended_ok, ended_err, ended-at, ended-not}
+use Rattle.tclscript.proofs.Marks.{true_false, Without, mark_or_none, on_mark-not, closed_ok, closed_err, closed-at, none_before, ended_ok, ended_err, ended-at, ended-not}
 use Rattle.tclscript.proofs.Dollars.{IsExactInner, parts_close}
 use Rattle.tclscript.proofs.PartsExact.{faulty_goes_on}
 use Rattle.tclscript.proofs.PartFaults.{parts_sound, parts_faulty, parts_again, parts_met}
@@ -100,13 +100,13 @@ no_third nested bs h = on_mark-not 125 bs (unless_word_ends nested) None h
 
 -- whether a text begins with the mark, where the word goes on
 pub expansion : (nested : Bool) (bs : Text) → ((k : Expands nested bs) × (after_expansion nested bs ≡ Some k.0)) ⊎ ((Expands nested bs → ⊥) × (after_expansion nested bs ≡ None))
-expansion nested bs = elim (mark_at 123 bs) [
+expansion nested bs = elim (mark_or_none 123 bs) [
   | inr none ↦ inr (no_mark (no_first nested bs none))
-  | inl a ↦ elim (mark_at 42 a.0) [
+  | inl a ↦ elim (mark_or_none 42 a.0) [
     | inr none ↦ inr (no_mark (ap (after_expansion nested) a.1 ∙ no_second nested a.0 none))
     | inl b ↦ (
         let two : bs ≡ 123 ∷ (42 ∷ b.0) = a.1 ∙ ap (λ xs. 123 ∷ xs) b.1 in
-        elim (mark_at 125 b.0) [
+        elim (mark_or_none 125 b.0) [
           | inr none ↦ inr (no_mark (ap (after_expansion nested) two ∙ no_third nested b.0 none))
           | inl c ↦ (
               let three : bs ≡ 123 ∷ (42 ∷ (125 ∷ c.0)) = two ∙ ap (λ xs. 123 ∷ (42 ∷ xs)) c.1 in
@@ -155,8 +155,8 @@ pub word_fault_goes_on : {d : ℕ} {nested : Bool} {bs : Text} {f : Fault} → W
 word_fault_goes_on (faults.WordFault.plain h k) = plain_fault_goes_on k
 word_fault_goes_on (faults.WordFault.expanding {d} {nested} {body} h k) = brace_goes_on nested (42 ∷ (125 ∷ body))
 
-abbrev pub Stands : Parts → Context → Text → Text → Type 0
-Stands ps c inside more = IsParts c ps inside more
+abbrev pub PartsStand : Parts → Context → Text → Text → Type 0
+PartsStand ps c inside more = IsParts c ps inside more
 
 parts_goes_on : (c : Context) (ps : Parts) (t r : Text) → IsParts c ps t r → 0 < length t → parts_end c (t ++ r) ≡ false
 parts_goes_on c no_parts t r h less = absurd (omega (arith, ap length h.0))
@@ -333,9 +333,9 @@ module _ (d : ℕ) (inner : Inner) (exact : IsExactInner d inner) (nested : Bool
       record { taken = k.taken; whole = k.whole; is = ((end, inr (inr (bare_first nested bs k.taken r k.whole b end x y, k.is.0))), k.is.1) }
 
   pub plain_sound : (bs : Text) (ps : Parts) (r : Text) → WordGoesOn bs → plain_word_at nested inner bs ≡ Ok (ps, r) → Took PlainIs bs ps r
-  plain_sound bs ps r b h = elim (mark_at 123 bs) [
+  plain_sound bs ps r b h = elim (mark_or_none 123 bs) [
     | inl k ↦ subst (λ xs. Took PlainIs xs ps r) (sym k.1) (braced_sound k.0 ps r (sym (ap (plain_word_at nested inner) k.1 ∙ at_brace k.0) ∙ h))
-    | inr x ↦ elim (mark_at 34 bs) [
+    | inr x ↦ elim (mark_or_none 34 bs) [
       | inl k ↦ subst (λ xs. Took PlainIs xs ps r) (sym k.1) (quoted_sound k.0 ps r (sym (ap (plain_word_at nested inner) k.1 ∙ at_quote k.0) ∙ h))
       | inr y ↦ bare_sound bs ps r b x y (sym (at_bare bs x y) ∙ h)
     ]
@@ -346,9 +346,9 @@ module _ (d : ℕ) (inner : Inner) (exact : IsExactInner d inner) (nested : Bool
   bare_start (c ∷ bs) b x y = either_mark c x y
 
   pub plain_faulty : (bs : Text) (f : Fault) → WordGoesOn bs → plain_word_at nested inner bs ≡ Err f → PlainFault d nested bs f
-  plain_faulty bs f b h = elim (mark_at 123 bs) [
+  plain_faulty bs f b h = elim (mark_or_none 123 bs) [
     | inl k ↦ subst (λ xs. PlainFault d nested xs f) (sym k.1) (braced_faulty k.0 f (sym (ap (plain_word_at nested inner) k.1 ∙ at_brace k.0) ∙ h))
-    | inr x ↦ elim (mark_at 34 bs) [
+    | inr x ↦ elim (mark_or_none 34 bs) [
       | inl k ↦ subst (λ xs. PlainFault d nested xs f) (sym k.1) (quoted_faulty k.0 f (sym (ap (plain_word_at nested inner) k.1 ∙ at_quote k.0) ∙ h))
       | inr y ↦ faults.PlainFault.in_bare (bare_start bs b x y) (parts_faulty d inner exact (bare nested) bs f tt (sym (at_bare bs x y) ∙ h))
     ]

@@ -82,7 +82,7 @@ pub record Split (bs : Text) (First : Text → Text → Type 0) (Second : Text �
   pub is_first : First first second
   pub is_second : Second second
 
--- A word in braces, in quotes or bare, of these parts: Stands says of which texts they are the parts. A word ends
+-- A word in braces, in quotes or bare, of these parts: ArePartsOf says of which texts they are the parts. A word ends
 -- behind it.
 abbrev pub IsBracedWord : Parts → Text → Type 0
 IsBracedWord ps bs =
@@ -90,17 +90,17 @@ IsBracedWord ps bs =
     × Balanced inside
 
 abbrev pub IsQuotedWord : (Context → Text → Text → Type 0) → Text → Text → Type 0
-IsQuotedWord Stands bs after =
-    (inside : Text) × (bs ≡ quote ∷ (inside ++ quote ∷ [])) × Stands InQuotes inside (quote ∷ after)
+IsQuotedWord ArePartsOf bs after =
+    (inside : Text) × (bs ≡ quote ∷ (inside ++ quote ∷ [])) × ArePartsOf InQuotes inside (quote ∷ after)
 
 abbrev pub IsBareWord : Bool → (Context → Text → Text → Type 0) → Text → Text → Type 0
-IsBareWord nested Stands bs after =
-    DoesBegin (λ b. not (b == left_brace || b == quote)) bs × Stands (bare nested) bs after
+IsBareWord nested ArePartsOf bs after =
+    DoesBegin (λ b. not (b == left_brace || b == quote)) bs × ArePartsOf (bare nested) bs after
 
 abbrev pub IsPlainWord : Bool → Parts → (Context → Text → Text → Type 0) → Text → Text → Type 0
-IsPlainWord nested ps Stands bs after =
+IsPlainWord nested ps ArePartsOf bs after =
     (word_ends nested after ≡ true) × (IsBracedWord ps bs
-    ⊎ (IsQuotedWord Stands bs after ⊎ IsBareWord nested Stands bs after))
+    ⊎ (IsQuotedWord ArePartsOf bs after ⊎ IsBareWord nested ArePartsOf bs after))
 
 -- the mark {*} and a text, where the word doesn't end between them
 abbrev pub IsExpanding : Bool → (Text → Type 0) → Text → Text → Type 0

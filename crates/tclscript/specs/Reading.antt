@@ -177,5 +177,5 @@ inner_at zero = record { script = λ bs. Err TooDeep; index = λ bs. Err TooDeep
 inner_at (suc depth) =
     record { script = script_with true (inner_at depth); index = parts_with InIndex (inner_at depth) }
 
-unfoldable pub script_at : ℕ → Text → Result Commands Fault
-script_at depth bs = script_with false (inner_at depth) bs >>= (λ x. Ok x.0)
+unfoldable pub whole_script : ℕ → Text → Result Commands Fault
+whole_script depth bs = script_with false (inner_at depth) bs >>= (λ x. Ok x.0)

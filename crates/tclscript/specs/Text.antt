@@ -6,7 +6,7 @@ use Rattle.tclchars.specs.Faults.{max_bytes, max_nesting}
 use Rattle.tclchars.specs.declared.fault.TextFault.{TextFault}
 use Rattle.tclscript.specs.Tree.{Commands, nesting}
 use Rattle.tclscript.specs.Grammar.{IsScript}
-use Rattle.tclscript.specs.Reading.{script_at}
+use Rattle.tclscript.specs.Reading.{whole_script}
 
 -- the text is a script with this tree, within the limits
 abbrev pub IsWithin : Text → Commands → Type 0
@@ -14,4 +14,4 @@ IsWithin bs s = IsScript bs s × (nesting s ≤ max_nesting) × (length bs ≤ m
 
 -- the tree of a script, or what is wrong with it
 abbrev pub script_of : Text → Result Commands TextFault
-script_of bs = whole_of (script_at max_nesting) bs
+script_of bs = whole_of (whole_script max_nesting) bs

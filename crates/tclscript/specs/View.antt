@@ -2,7 +2,7 @@
 use Rattle.std.specs.Prelude.{List, map, encode_utf8}
 use Rattle.tclchars.specs.Runs.{Text}
 use Rattle.tclscript.specs.Tree as tree
-use Rattle.tclscript.specs.Tree.{Commands, Words, Word, word_of, Part, literal, braced, backslash, variable, indexed, bracket, Parts, commands_of, words_of, parts_of}
+use Rattle.tclscript.specs.Tree.{Commands, Word, word_of, Part, literal, braced, backslash, variable, indexed, bracket, Parts, commands_of, words_of, parts_of}
 use Rattle.tclscript.specs.declared.tree.Script.{Script, Script-F, fold-Script}
 use Rattle.tclscript.specs.declared.tree.Command.{Command, Command-F, fold-Command}
 use Rattle.tclscript.specs.declared.tree.Word as rust_word

@@ -1,9 +1,10 @@
 ghost use Rattle.std.specs.Prelude.{◌≡◌, ◌∷◌, ◌<◌, length, suc, option_map};
 ghost use Rattle.tclchars.specs.Bytes.{dollar, backslash};
-ghost use Rattle.tclchars.specs.Reading.{Gives};
+ghost use Rattle.tclchars.specs.Answers.{Gives};
+ghost use Rattle.tclchars.specs.Reading.{stopped_by};
 ghost use Rattle.tclscript.specs.Pieces.{IsEndOf, IsFrontOf};
 ghost use Rattle.tclscript.specs.Tree as tree;
-ghost use Rattle.tclscript.specs.Reading.{closed, ended, after_expansion, inner_at, script_with, command_at, word_at, plain_word_at, braced_word_at, quoted_word_at, quotes_at, parts_with, part_at, literal_at, dollar_at, braced_name_at, index_at, bracket_at, backslash_at, plain_variable, taken, script_at};
+ghost use Rattle.tclscript.specs.Reading.{closed, ended, after_expansion, inner_at, script_with, command_at, word_at, plain_word_at, braced_word_at, quoted_word_at, quotes_at, parts_with, part_at, literal_at, dollar_at, braced_name_at, index_at, bracket_at, backslash_at, plain_variable, taken, whole_script};
 ghost use Rattle.tclscript.specs.View.{script_view, command_view, word_view, part_view, parts_view};
 
 use crate::context::{Context, bare, class_of, command_ends, parts_end, script_ends, word_ends};
@@ -16,7 +17,7 @@ use tclchars::{Class, Fault, ReadError, after_mark, read_backslash, split_close,
 // What follows the mark that closes, or the fault where it is missing.
 fn closed(text: &str, mark: u8, fault: Fault) -> Result<&str, ReadError>
     requires { mark < 128 }
-    ensures { Gives (λ rest. rest.now) result (closed mark fault text.now) }
+    ensures { Gives stopped_by (λ rest. rest.now) result (closed mark fault text.now) }
 {
     match after_mark(text, mark) {
         Some(rest) => Ok(rest),
@@ -26,7 +27,7 @@ fn closed(text: &str, mark: u8, fault: Fault) -> Result<&str, ReadError>
 
 // What follows a closing brace or quote, where the word ends.
 fn ended(text: &str, nested: bool) -> Result<&str, ReadError>
-    ensures { Gives (λ rest. rest.now) result (ended nested text.now) }
+    ensures { Gives stopped_by (λ rest. rest.now) result (ended nested text.now) }
 {
     if word_ends(text, nested) {
         Ok(text)
@@ -105,7 +106,7 @@ fn read_escape<'a, S: Source<P>, P: Drop>(
 ) -> Result<(Part<P>, &'a str), ReadError>
     requires text { IsEndOf (S.text source.now) text.now }
     requires mark { text.now ≡ backslash ∷ behind.now }
-    ensures { Gives (λ x. (part_view (S.shown source.now) x.0, x.1.now)) result (backslash_at behind.now) }
+    ensures { Gives stopped_by (λ x. (part_view (S.shown source.now) x.0, x.1.now)) result (backslash_at behind.now) }
 {
     match read_backslash(behind) {
         Some((c, rest)) => Ok((Part::Backslash(c), rest)),
@@ -126,7 +127,7 @@ fn read_braced_name<'a, S: Source<P>, P: Drop>(
     text: &'a str,
 ) -> Result<(Part<P>, &'a str), ReadError>
     requires { IsEndOf (S.text source.now) text.now }
-    ensures { Gives (λ x. (part_view (S.shown source.now) x.0, x.1.now)) result (braced_name_at text.now) }
+    ensures { Gives stopped_by (λ x. (part_view (S.shown source.now) x.0, x.1.now)) result (braced_name_at text.now) }
 {
     let (name, after) = split_front(text, Class::InName);
     let rest = closed(after, b'}', Fault::OpenBrace(left_with_mark(text)))?;
@@ -142,7 +143,7 @@ fn read_braced<'a, S: Source<P>, P: Drop>(
     nested: bool,
 ) -> Result<(Vec<Part<P>>, &'a str), ReadError>
     requires { IsEndOf (S.text source.now) text.now }
-    ensures { Gives (λ x. (parts_view (S.shown source.now) x.0.items, x.1.now)) result
+    ensures { Gives stopped_by (λ x. (parts_view (S.shown source.now) x.0.items, x.1.now)) result
         (braced_word_at nested text.now) }
 {
     let Some((inner, after)) = split_close(text) else {
@@ -155,13 +156,13 @@ fn read_braced<'a, S: Source<P>, P: Drop>(
 }
 
 // The tree of a source, where so many brackets and indexes nest at most.
-#[tactic(auto, unfolding(crate::specs::Reading::script_at))]
+#[tactic(auto, unfolding(crate::specs::Reading::whole_script))]
 pub(crate) fn read_source<S: Source<P>, P: Drop>(
     alloc: Global,
     source: &S,
     depth: usize,
 ) -> Result<Script<P>, ReadError>
-    ensures { Gives (script_view (S.shown source.now)) result (script_at depth (S.text source.now)) }
+    ensures { Gives stopped_by (script_view (S.shown source.now)) result (whole_script depth (S.text source.now)) }
 {
     let (script, _) = read_script(alloc, source, source.as_str(), depth, false)?;
     Ok(script)
@@ -177,7 +178,7 @@ fn read_script<'a, S: Source<P>, P: Drop>(
     nested: bool,
 ) -> Result<(Script<P>, &'a str), ReadError>
     requires { IsEndOf (S.text source.now) text.now }
-    ensures { Gives (λ x. (script_view (S.shown source.now) x.0, x.1.now)) result
+    ensures { Gives stopped_by (λ x. (script_view (S.shown source.now) x.0, x.1.now)) result
         (script_with nested (inner_at depth) text.now) }
 {
     let mut commands = Vec::new(alloc);
@@ -205,7 +206,7 @@ fn read_command<'a, S: Source<P>, P: Drop>(
     nested: bool,
 ) -> Result<(Command<P>, &'a str), ReadError>
     requires { IsEndOf (S.text source.now) text.now }
-    ensures { Gives (λ x. (command_view (S.shown source.now) x.0, x.1.now)) result
+    ensures { Gives stopped_by (λ x. (command_view (S.shown source.now) x.0, x.1.now)) result
         (command_at place nested (inner_at depth) text.now) }
 {
     let (first, behind) = read_word(alloc, source, text, depth, nested)?;
@@ -242,7 +243,7 @@ fn read_word<'a, S: Source<P>, P: Drop>(
     nested: bool,
 ) -> Result<(Word<P>, &'a str), ReadError>
     requires { IsEndOf (S.text source.now) text.now }
-    ensures { Gives (λ x. (word_view (S.shown source.now) x.0, x.1.now)) result
+    ensures { Gives stopped_by (λ x. (word_view (S.shown source.now) x.0, x.1.now)) result
         (word_at nested (inner_at depth) text.now) }
 {
     match after_expansion(text, nested) {
@@ -280,7 +281,7 @@ fn read_plain_word<'a, S: Source<P>, P: Drop>(
     nested: bool,
 ) -> Result<(Vec<Part<P>>, &'a str), ReadError>
     requires { IsEndOf (S.text source.now) text.now }
-    ensures { Gives (λ x. (parts_view (S.shown source.now) x.0.items, x.1.now)) result
+    ensures { Gives stopped_by (λ x. (parts_view (S.shown source.now) x.0.items, x.1.now)) result
         (plain_word_at nested (inner_at depth) text.now) }
 {
     if let Some(behind) = after_mark(text, b'{') {
@@ -305,7 +306,7 @@ pub fn read_quotes<'a, S: Source<P>, P: Drop>(
     depth: usize,
 ) -> Result<(Vec<Part<P>>, &'a str), ReadError>
     requires { IsEndOf (S.text source.now) text.now }
-    ensures { Gives (λ x. (parts_view (S.shown source.now) x.0.items, x.1.now)) result
+    ensures { Gives stopped_by (λ x. (parts_view (S.shown source.now) x.0.items, x.1.now)) result
         (quotes_at (inner_at depth) text.now) }
 {
     let (parts, close) = read_parts(alloc, source, text, depth, Context::InQuotes)?;
@@ -324,7 +325,7 @@ fn read_quoted<'a, S: Source<P>, P: Drop>(
     nested: bool,
 ) -> Result<(Vec<Part<P>>, &'a str), ReadError>
     requires { IsEndOf (S.text source.now) text.now }
-    ensures { Gives (λ x. (parts_view (S.shown source.now) x.0.items, x.1.now)) result
+    ensures { Gives stopped_by (λ x. (parts_view (S.shown source.now) x.0.items, x.1.now)) result
         (quoted_word_at nested (inner_at depth) text.now) }
 {
     let (parts, after) = read_quotes(alloc, source, text, depth)?;
@@ -342,7 +343,7 @@ fn read_parts<'a, S: Source<P>, P: Drop>(
     context: Context,
 ) -> Result<(Vec<Part<P>>, &'a str), ReadError>
     requires { IsEndOf (S.text source.now) text.now }
-    ensures { Gives (λ x. (parts_view (S.shown source.now) x.0.items, x.1.now)) result
+    ensures { Gives stopped_by (λ x. (parts_view (S.shown source.now) x.0.items, x.1.now)) result
         (parts_with context (inner_at depth) text.now) }
 {
     let mut parts = Vec::new(alloc);
@@ -368,7 +369,7 @@ fn read_part<'a, S: Source<P>, P: Drop>(
     context: Context,
 ) -> Result<(Part<P>, &'a str), ReadError>
     requires { IsEndOf (S.text source.now) text.now }
-    ensures { Gives (λ x. (part_view (S.shown source.now) x.0, x.1.now)) result
+    ensures { Gives stopped_by (λ x. (part_view (S.shown source.now) x.0, x.1.now)) result
         (part_at context (inner_at depth) text.now) }
 {
     if let Some(behind) = after_mark(text, b'$') {
@@ -400,7 +401,7 @@ pub fn read_dollar<'a, S: Source<P>, P: Drop>(
 ) -> Result<(Part<P>, &'a str), ReadError>
     requires text { IsEndOf (S.text source.now) text.now }
     requires dollar { text.now ≡ dollar ∷ behind.now }
-    ensures { Gives (λ x. (part_view (S.shown source.now) x.0, x.1.now)) result
+    ensures { Gives stopped_by (λ x. (part_view (S.shown source.now) x.0, x.1.now)) result
         (dollar_at (inner_at depth) behind.now) }
 {
     if let Some(inner) = after_mark(behind, b'{') {
@@ -441,7 +442,7 @@ fn read_index<'a, S: Source<P>, P: Drop>(
     depth: usize,
 ) -> Result<(Vec<Part<P>>, &'a str), ReadError>
     requires { IsEndOf (S.text source.now) text.now }
-    ensures { Gives (λ x. (parts_view (S.shown source.now) x.0.items, x.1.now)) result
+    ensures { Gives stopped_by (λ x. (parts_view (S.shown source.now) x.0.items, x.1.now)) result
         (index_at (inner_at depth) text.now) }
 {
     if depth == 0 {
@@ -465,7 +466,7 @@ pub fn read_bracket<'a, S: Source<P>, P: Drop>(
     depth: usize,
 ) -> Result<(Part<P>, &'a str), ReadError>
     requires { IsEndOf (S.text source.now) text.now }
-    ensures { Gives (λ x. (part_view (S.shown source.now) x.0, x.1.now)) result (bracket_at (inner_at depth) text.now) }
+    ensures { Gives stopped_by (λ x. (part_view (S.shown source.now) x.0, x.1.now)) result (bracket_at (inner_at depth) text.now) }
 {
     if depth == 0 {
         return Err(ReadError::Fault(Fault::TooDeep));

@@ -1,19 +1,18 @@
 -- The class of a text is that of a fraction exactly where the text is a number with one.
-use Rattle.std.proofs.Common.{◌≡◌, ◌≢◌, ℕ, zero, suc, ◌+◌, ◌^◌, ◌<◌, ◌≤◌, [], ◌∷◌, ◌++◌, length, map, Bool, true, false, not, ◌||◌, ◌&&◌, ◌==◌, nat_lt, nat_le, Option, Some, None, refl, sym, ap, subst, ◌∙◌, arith, append_assoc, append-nil, ◌⊎◌, inl, inr, lit≤, lit<}
+use Rattle.std.proofs.Common.{◌≡◌, ◌≢◌, ℕ, zero, suc, ◌+◌, ◌^◌, ◌<◌, ◌≤◌, [], ◌∷◌, ◌++◌, map, Bool, true, false, not, ◌||◌, ◌&&◌, ◌==◌, nat_lt, Option, Some, None, refl, sym, ap, subst, ◌∙◌, arith, append-nil, ◌⊎◌, inl, inr, lit≤}
 use Rattle.std.specs.Prelude.{codes, bytes_eq, pos, negsuc}
 use Rattle.std.specs.Char.{to_ascii_lowercase}
 use Rattle.std.proofs.lemmas.Slice.Eq.{bytes_eq-Decides}
 use Rattle.std.proofs.lemmas.Bool.Decides.{nat_tests}
 use Rattle.std.specs.Char.{digit_value}
 use Rattle.std.specs.Str.Parse.{AllDigits}
-use Rattle.tclchars.specs.Bytes.{is_space, AllPass, DoesBegin}
+use Rattle.tclchars.specs.Bytes.{is_space, AllPass}
 use Rattle.tclchars.specs.Runs.{Text, front, back}
-use Rattle.tcltext.specs.declared.number.Numeral.{Numeral}
 use Rattle.tcltext.specs.declared.number.Numeral.TheVariants as numerals
 use Rattle.tcltext.specs.Numerals.{trimmed, is_minus, is_sign, without_sign, base_of, magnitude, is_digit, begins_digit, is_nil, are_digits, whole_of, is_exponent, may_be_exponent, is_fraction_end, is_word, is_fraction, class_of, numeral_of, numeral}
 use Rattle.tcltext.specs.Numbers as numbers
-use Rattle.tcltext.specs.Numbers.{IsDigits, IsMagnitude, IsSigned, IsSpaced, IsExponent, IsFraction, IsFractional}
-use Rattle.tcltext.proofs.WholeNumbers.{not_true, either, no_sign, Ends, magnitude_read, magnitude_found, Unspaced, signed_read, signed_found, trimmed_is, spaced, back_over}
+use Rattle.tcltext.specs.Numbers.{IsMagnitude, IsSigned, IsExponent, IsFraction, IsFractional}
+use Rattle.tcltext.proofs.WholeNumbers.{not_true, either, no_sign, magnitude_read, magnitude_found, Unspaced, signed_found, trimmed_is, spaced}
 
 none_some : {A : Type 0} {x : A} → (let none : Option A = None in none) ≡ Some x → ⊥
 none_some h = cc

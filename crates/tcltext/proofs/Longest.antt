@@ -1,9 +1,9 @@
 -- A number in an expression is the longest front that is a number.
-use Rattle.std.proofs.Common.{◌≡◌, ◌≢◌, ℕ, zero, suc, ◌+◌, ◌<◌, ◌≤◌, [], ◌∷◌, ◌++◌, length, Bool, true, false, not, ◌||◌, ◌&&◌, ◌==◌, nat_lt, nat_le, Option, Some, None, refl, sym, ap, ap₂, subst, ◌∙◌, arith, append_assoc, append-nil, length-append, ◌⊎◌, inl, inr, lit≤, lit<}
+use Rattle.std.proofs.Common.{◌≡◌, ◌≢◌, ℕ, zero, ◌+◌, ◌<◌, ◌≤◌, [], ◌∷◌, ◌++◌, length, Bool, true, false, not, ◌||◌, ◌&&◌, ◌==◌, Option, Some, None, refl, sym, ap, subst, ◌∙◌, arith, append_assoc, append-nil, ◌⊎◌, inl, inr, lit≤}
 use Rattle.std.proofs.lemmas.Bool.Decides.{nat_tests}
 use Rattle.std.specs.Char.{digit_value}
 use Rattle.std.specs.Str.Parse.{AllDigits, digits_value}
-use Rattle.tclchars.specs.Bytes.{AllPass, DoesBegin}
+use Rattle.tclchars.specs.Bytes.{AllPass}
 use Rattle.tclchars.specs.Runs.{Text, front, back}
 use Rattle.tclexpr.specs.declared.numbers.Digits.{Digits}
 use Rattle.tclexpr.specs.declared.numbers.Digits.TheVariants.{Binary, Octal, Decimal, Hexadecimal}
@@ -13,7 +13,7 @@ use Rattle.tcltext.specs.Numerals as numerals
 use Rattle.tcltext.specs.Numbers as numbers
 use Rattle.tcltext.proofs.WholeNumbers.{either, magnitude_read, magnitude_found}
 use Rattle.tcltext.proofs.Fractions.{Named, named_is, fraction_begun}
-use Rattle.tcltext.specs.Numbers.{IsDigits, IsMagnitude, IsSigned, IsExponent, IsFraction, IsNumber, IsNumberIn}
+use Rattle.tcltext.specs.Numbers.{IsMagnitude, IsSigned, IsExponent, IsFraction, IsNumber, IsNumberIn}
 
 -- the digits of a base, by their number
 abbrev base_number : Digits → ℕ

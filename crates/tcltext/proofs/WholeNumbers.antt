@@ -1,11 +1,10 @@
 -- The class of a text is that of a whole number exactly where the text is one.
-use Rattle.std.proofs.Common.{◌≡◌, ◌≢◌, ℕ, suc, ◌+◌, ◌*◌, ◌<◌, ◌≤◌, [], ◌∷◌, ◌++◌, length, Bool, true, false, not, ◌||◌, ◌&&◌, ◌==◌, nat_lt, nat_le, Option, Some, None, refl, sym, ap, subst, ◌∙◌, arith, append_assoc, append-nil, ◌⊎◌, inl, inr, lit≤, lit<}
+use Rattle.std.proofs.Common.{◌≡◌, ◌≢◌, ℕ, ◌+◌, ◌*◌, ◌<◌, ◌≤◌, [], ◌∷◌, ◌++◌, Bool, true, false, not, ◌||◌, ◌==◌, nat_lt, Option, Some, None, refl, sym, ap, subst, ◌∙◌, arith, append_assoc, append-nil, ◌⊎◌, inl, inr, lit≤, lit<}
 use Rattle.std.proofs.lemmas.Bool.Decides.{nat_tests}
 use Rattle.std.specs.Char.{digit_value}
-use Rattle.std.specs.Str.Parse.{AllDigits, digits_value, digits_value_after}
+use Rattle.std.specs.Str.Parse.{AllDigits, digits_value_after}
 use Rattle.tclchars.specs.Bytes.{is_space, AllPass, DoesBegin}
 use Rattle.tclchars.specs.Runs.{Text, front, back}
-use Rattle.tcltext.specs.declared.number.Numeral.{Numeral}
 use Rattle.tcltext.specs.declared.number.Numeral.TheVariants as numerals
 use Rattle.tcltext.specs.Numerals.{before_space, without_end, trimmed, is_minus, is_sign, without_sign, digits_from, digits_in, base_of, prefixed, behind_zero, magnitude, is_fraction, whole_of, class_of, numeral_of, numeral}
 use Rattle.tcltext.specs.Numbers as numbers

@@ -1,7 +1,8 @@
 //! The commands of values.
 ghost use Rattle.std.specs.Prelude.{map, string_bytes};
 ghost use Rattle.std.specs.Option.{option_map};
-ghost use Rattle.tcloperators.specs.Faults.{Gives};
+ghost use Rattle.tclchars.specs.Answers.{Gives};
+ghost use Rattle.tcloperators.specs.Faults.{reason_of};
 ghost use Rattle.tclvalue.specs.Commands.{command_value};
 
 use crate::list_commands::value_of;
@@ -22,7 +23,7 @@ pub fn value_command(
     words: &[String],
     value_bytes: usize,
 ) -> Result<Option<String>, ValueFault>
-    ensures { Gives (option_map string_bytes) result (command_value (map string_bytes words.now) value_bytes) }
+    ensures { Gives reason_of (option_map string_bytes) result (command_value (map string_bytes words.now) value_bytes) }
 {
     let [name, rest @ ..] = words else {
         return Ok(None);

@@ -1,7 +1,8 @@
 //! Indexes of lists and texts (lindex(n), string(n)).
 ghost use Rattle.std.specs.Prelude.{◌≡◌, ◌+ℤ◌, pos, min, length, Some};
 ghost use Rattle.tcltext.specs.Numerals.{numeral};
-ghost use Rattle.tcloperators.specs.Faults.{Gives};
+ghost use Rattle.tclchars.specs.Answers.{Gives};
+ghost use Rattle.tcloperators.specs.Faults.{reason_of};
 ghost use Rattle.tclvalue.specs.Indexes.{index_of, index_behind, index_number, begins_space, count_of};
 ghost use Rattle.tclvalue.specs.Indexes.{place, place_among, at_least_0, items_between};
 ghost use Rattle.tclvalue.specs.Views.{index_view};
@@ -70,7 +71,7 @@ impl Index {
 
 /// The index that a word names: a whole number, `end`, or `end-` and a whole number.
 pub(crate) fn index_of(alloc: Global, word: &str) -> Result<Index, ValueFault>
-    ensures { Gives index_view result (index_of word.now) }
+    ensures { Gives reason_of index_view result (index_of word.now) }
 {
     if word == "end" {
         return Ok(Index::FromEnd(0));
@@ -83,7 +84,7 @@ pub(crate) fn index_of(alloc: Global, word: &str) -> Result<Index, ValueFault>
 
 /// The index that a word names with what follows its `end-`.
 fn index_behind(alloc: Global, word: &str, rest: &str) -> Result<Index, ValueFault>
-    ensures { Gives index_view result (index_behind word.now (Some rest.now)) }
+    ensures { Gives reason_of index_view result (index_behind word.now (Some rest.now)) }
 {
     if begins_space(rest) {
         return Err(bad_index(alloc, word));
@@ -102,7 +103,7 @@ fn begins_space(text: &str) -> bool
 
 /// The number that is a part of an index.
 fn number_in(alloc: Global, word: &str, number: &str) -> Result<i64, ValueFault>
-    ensures { Gives (λ n. n) result (index_number word.now (numeral number.now)) }
+    ensures { Gives reason_of (λ n. n) result (index_number word.now (numeral number.now)) }
 {
     match read_number(number) {
         Numeral::Whole(number) => Ok(number),
@@ -117,7 +118,7 @@ fn number_in(alloc: Global, word: &str, number: &str) -> Result<i64, ValueFault>
 /// Errors: `NumberTooLarge`, `FractionOperand`, `TclError` for another text, `OutOfMemory` where memory for its message
 /// runs out.
 pub fn count_of(alloc: Global, word: &str) -> Result<i64, ValueFault>
-    ensures { Gives (λ n. n) result (count_of word.now) }
+    ensures { Gives reason_of (λ n. n) result (count_of word.now) }
 {
     match read_number(word) {
         Numeral::Whole(number) => Ok(number),

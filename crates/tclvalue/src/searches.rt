@@ -2,7 +2,8 @@
 ghost use Rattle.std.specs.Prelude.{◌≡◌, ◌<◌, ◌-◌, ◌++◌, length, drop, map, string_bytes, IfOk, IfErr, OnOk};
 ghost use Rattle.std.specs.Option.{option_map, option_copied};
 ghost use Rattle.std.specs.Str.{chars};
-ghost use Rattle.tcloperators.specs.Faults.{Gives, GivesText};
+ghost use Rattle.tclchars.specs.Answers.{Gives};
+ghost use Rattle.tcloperators.specs.Faults.{reason_of, GivesText};
 ghost use Rattle.tclvalue.specs.Limits.{limited};
 ghost use Rattle.tclvalue.specs.Growing.{Appends, Exceeds};
 ghost use Rattle.tclvalue.specs.Searches.{first_place, last_place, fits, first_fit, pairs_of, mapped};
@@ -143,7 +144,7 @@ pub(crate) fn replacements(
     alloc: Global,
     elements: &[String],
 ) -> Result<Vec<Replacement<'_>>, ValueFault>
-    ensures { Gives (λ v. map pair_view v.items) result (pairs_of (map string_bytes elements.entry.now)) }
+    ensures { Gives reason_of (λ v. map pair_view v.items) result (pairs_of (map string_bytes elements.entry.now)) }
 {
     let mut replacements = Vec::new(alloc);
     let mut rest = elements;

@@ -1,6 +1,7 @@
 //! Where the names of variables lead.
 ghost use Rattle.std.specs.Prelude.{◌≡◌, option_map};
-ghost use Rattle.tclvalue.specs.Faults.{Gives, HasReason, left_out};
+ghost use Rattle.tclchars.specs.Answers.{Gives};
+ghost use Rattle.tclvalue.specs.Faults.{reason_of, HasReason, left_out};
 ghost use Rattle.tclrules.specs.Variables.{apart, has_colons, unqualified, indexed, place_of, place_named, writable};
 ghost use Rattle.tclchars.specs.Runs.{front, back};
 ghost use Rattle.tclvariables.specs.Places.{place_view, no_opening, shared_name};
@@ -75,7 +76,7 @@ fn unqualified_place<'a>(
     name: &'a str,
     index: Option<&'a str>,
 ) -> Result<Place<'a>, ValueFault>
-    ensures { Gives place_view result
+    ensures { Gives reason_of place_view result
         (unqualified name.now (indexed global name.now (option_map (λ i. i.now) index.entry))) }
 {
     if has_colons(name) {
@@ -102,7 +103,7 @@ pub fn place_of<'a>(
     name: &'a str,
     index: Option<&'a str>,
 ) -> Result<Place<'a>, ValueFault>
-    ensures { Gives place_view result (place_of variables.now name.now (option_map (λ i. i.now) index.entry)) }
+    ensures { Gives reason_of place_view result (place_of variables.now name.now (option_map (λ i. i.now) index.entry)) }
 {
     match name.strip_prefix("::") {
         Some(rest) => unqualified_place(alloc, true, rest, index),
@@ -121,7 +122,7 @@ pub fn place_named<'a>(
     alloc: Global,
     name: &'a str,
 ) -> Result<Place<'a>, ValueFault>
-    ensures { Gives place_view result (place_named variables.now name.now) }
+    ensures { Gives reason_of place_view result (place_named variables.now name.now) }
 {
     let (array, index) = apart(name);
     place_of(variables, alloc, array, index)
@@ -136,7 +137,7 @@ pub fn writable<'a>(
     alloc: Global,
     name: &'a str,
 ) -> Result<(bool, &'a str), ValueFault>
-    ensures { Gives (λ p. (p.0, p.1.now)) result (writable variables.now name.now) }
+    ensures { Gives reason_of (λ p. (p.0, p.1.now)) result (writable variables.now name.now) }
 {
     match place_named(variables, alloc, name)? {
         Place::Plain(global, name) => {
@@ -157,7 +158,7 @@ pub fn sharable<'a>(
     alloc: Global,
     name: &'a str,
 ) -> Result<&'a str, ValueFault>
-    ensures { Gives (λ n. n.now) result (shared_name variables.now name.now) }
+    ensures { Gives reason_of (λ n. n.now) result (shared_name variables.now name.now) }
 {
     match place_named(variables, alloc, name)? {
         Place::Plain(_, name) => Ok(name),

@@ -1,7 +1,5 @@
 use Rattle.std.proofs.Common.{◌≡◌, List, [], ◌++◌, sym, subst, append-nil}
 use Rattle.environment.specs.Environment.{Environment}
-use Rattle.reversal.specs.Runs.{live_after}
-use Rattle.requests.specs.Requests.{Request}
 use Rattle.requests.specs.Returning.{AreNew, AreFitting}
 use Rattle.requests.specs.Sessions.{Response, Session, session_moves}
 use Rattle.shelltext.specs.Sequences.{MakeOf}

@@ -1,12 +1,8 @@
-use Rattle.std.proofs.Common.{◌≡◌, ℕ, List, Bor, true, false, None, sym, ap, ◌∙◌, refl, rules, arith, map, option_map}
-use Rattle.std.specs.Prelude.{string_bytes}
-use Rattle.tclrules.specs.Variables.{State}
-use Rattle.tclrules.proofs.Leading.{stay, go_on, starve}
-use Rattle.tclchars.specs.Runs.{Text}
-use Rattle.tclrules.specs.Leads.{point}
+use Rattle.std.proofs.Common.{ℕ, List, Bor, arith, option_map}
+use Rattle.tclrules.proofs.Leading.{stay, go_on}
 use Rattle.tclsteps.specs.Machine.{bounds}
-use Rattle.tclsteps.proofs.Leading.{starved_end, starved_after, passed_on}
-use Rattle.tcleval.proofs.Running.{same_as, fault_stops}
+use Rattle.tclsteps.proofs.Leading.{passed_on}
+use Rattle.tcleval.proofs.Running.{same_as}
 use Rattle.tcleval.proofs.endings.after_catch.Goals as goal
 
 pub returns-in_err-caught : goal.returns-in_err-caught

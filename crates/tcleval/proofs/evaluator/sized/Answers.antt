@@ -1,5 +1,4 @@
 use Rattle.std.proofs.Common.{◌≤◌, ◌<◌, length, string_bytes, arith}
-use Rattle.tclrules.proofs.Leading.{stay}
 use Rattle.tclsteps.proofs.Leading.{sized_on, sized_stops}
 use Rattle.tcleval.proofs.evaluator.sized.Goals as goal
 

@@ -1,12 +1,5 @@
-use Rattle.std.proofs.Common.{◌≡◌, ℕ, List, Bor, true, false, None, sym, ap, ◌∙◌, refl, rules, arith, map, option_map}
-use Rattle.std.specs.Prelude.{string_bytes}
-use Rattle.tclrules.specs.Variables.{State}
-use Rattle.tclrules.proofs.Leading.{stay, go_on, starve}
-use Rattle.tclchars.specs.Runs.{Text}
-use Rattle.tclrules.specs.Leads.{point}
-use Rattle.tclsteps.specs.Machine.{bounds}
-use Rattle.tclsteps.proofs.Leading.{starved_end, starved_after, passed_on}
-use Rattle.tcleval.proofs.Running.{same_as, fault_stops}
+use Rattle.std.proofs.Common.{arith}
+use Rattle.tclrules.proofs.Leading.{stay, starve}
 use Rattle.tcleval.proofs.plain.ending_of.Goals as goal
 
 pub returns-in-Return : goal.returns-in-Return

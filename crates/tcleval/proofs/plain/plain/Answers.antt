@@ -1,12 +1,6 @@
-use Rattle.std.proofs.Common.{◌≡◌, ℕ, List, Bor, true, false, None, sym, ap, ◌∙◌, refl, rules, arith, map, option_map}
-use Rattle.std.specs.Prelude.{string_bytes}
-use Rattle.tclrules.specs.Variables.{State}
-use Rattle.tclrules.proofs.Leading.{stay, go_on, starve}
-use Rattle.tclchars.specs.Runs.{Text}
-use Rattle.tclrules.specs.Leads.{point}
-use Rattle.tclsteps.specs.Machine.{bounds}
-use Rattle.tclsteps.proofs.Leading.{starved_end, starved_after, passed_on}
-use Rattle.tcleval.proofs.Running.{same_as, fault_stops}
+use Rattle.std.proofs.Common.{arith}
+use Rattle.tclrules.proofs.Leading.{go_on}
+use Rattle.tclsteps.proofs.Leading.{passed_on}
 use Rattle.std.proofs.Common.{[]}
 use Rattle.tcleval.specs.Runs.{sized_next}
 use Rattle.std.proofs.lemmas.Result.{err_from_is_err_and}

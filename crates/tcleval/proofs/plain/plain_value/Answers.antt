@@ -1,12 +1,6 @@
-use Rattle.std.proofs.Common.{◌≡◌, ℕ, List, Bor, true, false, None, sym, ap, ◌∙◌, refl, rules, arith, map, option_map}
-use Rattle.std.specs.Prelude.{string_bytes}
-use Rattle.tclrules.specs.Variables.{State}
-use Rattle.tclrules.proofs.Leading.{stay, go_on, starve}
-use Rattle.tclchars.specs.Runs.{Text}
+use Rattle.std.proofs.Common.{arith}
 use Rattle.tclrules.specs.Leads.{point}
 use Rattle.tclsteps.specs.Machine.{bounds}
-use Rattle.tclsteps.proofs.Leading.{starved_end, starved_after, passed_on}
-use Rattle.tcleval.proofs.Running.{same_as, fault_stops}
 use Rattle.tcleval.proofs.plain.plain_value.Goals as goal
 
 pub returns-in-Get : goal.returns-in-Get

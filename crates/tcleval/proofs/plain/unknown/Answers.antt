@@ -1,15 +1,9 @@
-use Rattle.std.proofs.Common.{◌≡◌, codes, ℕ, List, Bor, true, false, None, sym, ap, ◌∙◌, refl, rules, arith, map, option_map}
-use Rattle.std.specs.Prelude.{string_bytes}
-use Rattle.tclrules.specs.Variables.{State}
-use Rattle.tclrules.proofs.Leading.{stay, go_on, starve}
-use Rattle.tclchars.specs.Runs.{Text}
-use Rattle.tclrules.specs.Leads.{point}
-use Rattle.tclsteps.specs.Machine.{bounds}
-use Rattle.tclsteps.proofs.Leading.{starved_end, starved_after, passed_on}
-use Rattle.tcleval.proofs.Running.{same_as, fault_stops}
+use Rattle.std.proofs.Common.{◌≡◌, true, false, sym, ◌∙◌, arith}
+use Rattle.tclrules.proofs.Leading.{go_on}
+use Rattle.tclsteps.proofs.Leading.{passed_on}
+use Rattle.tcleval.proofs.Running.{fault_stops}
 use Rattle.tclrules.specs.Names.{is_among, left_out_commands}
-use Rattle.tclvalue.specs.Faults.{error, left_out}
-use Rattle.tclrules.specs.Messages.{outside_loop}
+use Rattle.tclvalue.specs.Faults.{left_out}
 use Rattle.std.proofs.Common.{[]}
 use Rattle.tcleval.specs.Runs.{sized_next}
 use Rattle.std.proofs.lemmas.Result.{err_from_is_err_and}

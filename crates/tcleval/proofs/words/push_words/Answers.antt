@@ -1,4 +1,4 @@
-use Rattle.std.proofs.Common.{refl, map, sym, ap, ◌∙◌, ◌∷◌, [], rules}
+use Rattle.std.proofs.Common.{refl, map, ap, ◌∙◌, ◌∷◌, []}
 use Rattle.std.specs.Prelude.{string_bytes}
 use Rattle.std.proofs.lemmas.List.{map-append}
 use Rattle.tcleval.proofs.words.push_words.Goals as goal

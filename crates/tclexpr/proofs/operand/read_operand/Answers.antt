@@ -1,5 +1,6 @@
 use Rattle.std.proofs.Common.{sym, subst}
-use Rattle.tclchars.specs.Reading.{Gives}
+use Rattle.tclchars.specs.Answers.{Gives}
+use Rattle.tclchars.specs.Reading.{stopped_by}
 use Rattle.tclscript.proofs.Ends.{end_through, end_mark}
 use Rattle.tclexpr.specs.View.{operand_view}
 use Rattle.tclexpr.proofs.OperandSteps.{at_variable, at_script, at_quote, at_brace, at_numeric}
@@ -7,22 +8,22 @@ use Rattle.tclexpr.proofs.operand.read_operand.Goals as goal
 
 pub returns-in-Some : goal.returns-in-Some
 returns-in-Some g c =
-    subst (λ r. Gives (λ x. ((operand_view (g.S.Source.shown c.args.source.now) x.0, x.1), x.2.now)) c.read_variable.result r)
+    subst (λ r. Gives stopped_by (λ x. ((operand_view (g.S.Source.shown c.args.source.now) x.0, x.1), x.2.now)) c.read_variable.result r)
     (sym (at_variable c.args.depth c.args.text.now c.in-Some.behind.now c.in-Some.ensures)) c.read_variable.ensures
 
 pub returns-in-Some-after_mark : goal.returns-in-Some-after_mark
 returns-in-Some-after_mark g c =
-    subst (λ r. Gives (λ x. ((operand_view (g.S.Source.shown c.args.source.now) x.0, x.1), x.2.now)) c.read_script.result r)
+    subst (λ r. Gives stopped_by (λ x. ((operand_view (g.S.Source.shown c.args.source.now) x.0, x.1), x.2.now)) c.read_script.result r)
     (sym (at_script c.args.depth c.args.text.now c.in-Some-after_mark.behind.now c.in-Some-after_mark.ensures)) c.read_script.ensures
 
 pub returns-in-Some-after_mark-2 : goal.returns-in-Some-after_mark-2
 returns-in-Some-after_mark-2 g c =
-    subst (λ r. Gives (λ x. ((operand_view (g.S.Source.shown c.args.source.now) x.0, x.1), x.2.now)) c.read_quoted.result r)
+    subst (λ r. Gives stopped_by (λ x. ((operand_view (g.S.Source.shown c.args.source.now) x.0, x.1), x.2.now)) c.read_quoted.result r)
     (sym (at_quote c.args.depth c.args.text.now c.in-Some-after_mark-2.behind.now c.in-Some-after_mark-2.ensures)) c.read_quoted.ensures
 
 pub returns-in-Some-after_mark-3 : goal.returns-in-Some-after_mark-3
 returns-in-Some-after_mark-3 g c =
-    subst (λ r. Gives (λ x. ((operand_view (g.S.Source.shown c.args.source.now) x.0, x.1), x.2.now)) c.read_braced.result r)
+    subst (λ r. Gives stopped_by (λ x. ((operand_view (g.S.Source.shown c.args.source.now) x.0, x.1), x.2.now)) c.read_braced.result r)
     (sym (at_brace c.args.depth c.args.text.now c.in-Some-after_mark-3.behind.now c.in-Some-after_mark-3.ensures)) c.read_braced.ensures
 
 pub read_quoted-requires : goal.read_quoted-requires
@@ -33,5 +34,5 @@ read_braced-requires g c = end_through (g.S.Source.text c.args.source.now) c.arg
 
 pub returns-in-None : goal.returns-in-None
 returns-in-None g c =
-    subst (λ r. Gives (λ x. ((operand_view (g.S.Source.shown c.args.source.now) x.0, x.1), x.2.now)) c.read_numeric.result r)
+    subst (λ r. Gives stopped_by (λ x. ((operand_view (g.S.Source.shown c.args.source.now) x.0, x.1), x.2.now)) c.read_numeric.result r)
     (sym (at_numeric c.args.depth c.args.text.now c.in_default.ensures c.in_default-after_mark.ensures c.in_default-after_mark-2.ensures c.in-None.ensures)) c.read_numeric.ensures

@@ -1,6 +1,7 @@
 use Rattle.std.proofs.Common.{◌≡◌, ◌<◌, ◌≤◌, ◌-◌, Some, None, Ok, true, false, sym, ap, subst, ◌∙◌, arith, rules}
 use Rattle.std.proofs.lemmas.Result.{err_from_is_err_and}
-use Rattle.tclchars.specs.Reading.{Gives}
+use Rattle.tclchars.specs.Answers.{Gives}
+use Rattle.tclchars.specs.Reading.{stopped_by}
 use Rattle.tclscript.specs.Pieces.{IsEndOf}
 use Rattle.tclscript.proofs.Ends.{end_through}
 use Rattle.tclexpr.specs.declared.operators.Mark.TheVariants as marks
@@ -163,7 +164,7 @@ read_prefix-read_signed-requires g t c =
 pub read_right-returns : goal.read_right-returns
 read_right-returns g t c =
     let lower : c.args.height < c.args.depth = omega arith in
-    subst (λ r. Gives (λ x. (with_height_view (g.S.Source.shown c.args.source.now) x.0, x.1.now)) c.read_chain.result r)
+    subst (λ r. Gives stopped_by (λ x. (with_height_view (g.S.Source.shown c.args.source.now) x.0, x.1.now)) c.read_chain.result r)
     (sym (right-chain c.args.depth c.args.height (level c.args.between - 1) c.args.text.now lower ∙ ap (λ k. chain_at operand_at (c.args.depth - 1) (below_at operand_at (c.args.depth - 1)) k c.args.text.now) (sym c.right_level.ensures))) c.read_chain.ensures
 
 pub read_signed-returns-then-depth-eq0 : goal.read_signed-returns-then-depth-eq0
@@ -194,20 +195,20 @@ read_whole-returns-in_err-condition g t c =
 pub read_prefix-returns-in_default : goal.read_prefix-returns-in_default
 read_prefix-returns-in_default g t c =
     let none : mark_at c.skip_white-start.result.now ≡ None = sym c.in_default.ensures in
-    subst (λ r. Gives (λ x. (with_height_view (g.S.Source.shown c.args.source.now) x.0, x.1.now)) c.read_leaf.result r)
+    subst (λ r. Gives stopped_by (λ x. (with_height_view (g.S.Source.shown c.args.source.now) x.0, x.1.now)) c.read_leaf.result r)
     (sym (prefix-leaf c.args.depth c.args.text.now c.skip_white-start.result.now c.skip_white-start.ensures none)) c.read_leaf.ensures
 
 pub read_prefix-returns-then-is_open : goal.read_prefix-returns-then-is_open
 read_prefix-returns-then-is_open g t c =
     let found : mark_at c.skip_white-start.result.now ≡ Some (c.in-Some.mark, c.in-Some.behind.now) = sym c.in-Some.ensures in
     let opens : is_open c.in-Some.mark ≡ true = sym c.is_open.ensures ∙ c.if-is_open.true in
-    subst (λ r. Gives (λ x. (with_height_view (g.S.Source.shown c.args.source.now) x.0, x.1.now)) c.read_enclosed.result r)
+    subst (λ r. Gives stopped_by (λ x. (with_height_view (g.S.Source.shown c.args.source.now) x.0, x.1.now)) c.read_enclosed.result r)
     (sym (prefix-open c.args.depth c.args.text.now c.skip_white-start.result.now c.in-Some.behind.now c.skip_white-start.ensures (found ∙ ap (λ m. Some (m, c.in-Some.behind.now)) (open_is c.in-Some.mark opens)))) c.read_enclosed.ensures
 
 pub read_prefix-returns-in-Some-sign_of : goal.read_prefix-returns-in-Some-sign_of
 read_prefix-returns-in-Some-sign_of g t c =
     let found : mark_at c.skip_white-start.result.now ≡ Some (c.in-Some.mark, c.in-Some.behind.now) = sym c.in-Some.ensures in
-    subst (λ r. Gives (λ x. (with_height_view (g.S.Source.shown c.args.source.now) x.0, x.1.now)) c.read_signed.result r)
+    subst (λ r. Gives stopped_by (λ x. (with_height_view (g.S.Source.shown c.args.source.now) x.0, x.1.now)) c.read_signed.result r)
     (sym (prefix-signed c.args.depth c.args.text.now c.skip_white-start.result.now c.in-Some.mark c.in-Some-sign_of.operator c.in-Some.behind.now c.skip_white-start.ensures found (sym c.sign_of.ensures ∙ c.in-Some-sign_of.is))) c.read_signed.ensures
 
 pub read_prefix-returns-in-None : goal.read_prefix-returns-in-None
@@ -237,7 +238,7 @@ pub read_whole-returns-then-is_question : goal.read_whole-returns-then-is_questi
 read_whole-returns-then-is_question g t c =
     let found : mark_at c.skip_white.result.now ≡ Some (c.in-Some.mark, c.in-Some.behind.now) = sym c.in-Some.ensures in
     let asks : is_question c.in-Some.mark ≡ true = sym c.is_question.ensures ∙ c.if-is_question.true in
-    subst (λ r. Gives (λ x. (with_height_view (g.S.Source.shown c.args.source.now) x.0, x.1.now)) c.read_branches.result r)
+    subst (λ r. Gives stopped_by (λ x. (with_height_view (g.S.Source.shown c.args.source.now) x.0, x.1.now)) c.read_branches.result r)
     (sym (whole-asks c.args.depth c.args.text.now (with_height_view (g.S.Source.shown c.args.source.now) c.in_ok-condition.condition) c.in_ok-condition.rest.now c.skip_white.result.now c.in-Some.behind.now
     c.in_ok-condition.ensures c.skip_white.ensures (found ∙ ap (λ m. Some (m, c.in-Some.behind.now)) (question_is c.in-Some.mark asks)))) c.read_branches.ensures
 

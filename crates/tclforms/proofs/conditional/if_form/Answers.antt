@@ -1,7 +1,8 @@
 use Rattle.std.proofs.Common.{◌≡◌, map, [], ◌∷◌, ◌++◌, sym, ap, ◌∙◌}
 use Rattle.std.specs.Prelude.{string_bytes}
 use Rattle.std.proofs.lemmas.List.{map-append}
-use Rattle.tcloperators.specs.Faults.{Gives}
+use Rattle.tclchars.specs.Answers.{Gives}
+use Rattle.tcloperators.specs.Faults.{reason_of}
 use Rattle.tclrules.specs.Forms.{branches, last_words}
 use Rattle.tclforms.specs.Views.{form_view, pair_texts}
 use Rattle.tclforms.specs.Branches.{behind_pairs, if_of}
@@ -22,5 +23,5 @@ returns-in-None c =
     let p : pair_texts c.push.new.self.items ≡ pair_texts c.loop-branch.branches.items ++ (b.condition.now, b.body.now) ∷ [] = ap pair_texts (c.in_ok-push.ensures.items) ∙ map-append _ c.loop-branch.branches.items _ in
     let q : branches (map string_bytes c.args.words.now) ≡ behind_pairs (pair_texts c.loop-branch.branches.items ++ (b.condition.now, b.body.now) ∷ []) (last_words (map string_bytes b.rest.now)) =
     ends_there (map string_bytes c.args.words.now) (map string_bytes c.loop-branch.rest.now) (map string_bytes b.rest.now) (pair_texts c.loop-branch.branches.items) b.condition.now b.body.now c.loop-branch.invariant (sym c.in-Some.ensures.branch) (sym c.in-None.ensures.rest) in
-    let r : Gives form_view c.last_words.result (if_of (behind_pairs (pair_texts c.loop-branch.branches.items ++ (b.condition.now, b.body.now) ∷ []) (last_words (map string_bytes b.rest.now)))) = rw p at c.last_words.ensures in
+    let r : Gives reason_of form_view c.last_words.result (if_of (behind_pairs (pair_texts c.loop-branch.branches.items ++ (b.condition.now, b.body.now) ∷ []) (last_words (map string_bytes b.rest.now)))) = rw p at c.last_words.ensures in
     rw q r

@@ -1,7 +1,8 @@
 use Rattle.std.proofs.Common.{◌≡◌, ◌^◌, ◌*ℤ◌, ◌∙◌, pos, w64, ℤ, ap, sym, subst}
 use Rattle.std.specs.Option.{ok_or}
 use Rattle.std.proofs.lemmas.Int.{to_z-of_z}
-use Rattle.tcloperators.specs.Faults.{Gives}
+use Rattle.tclchars.specs.Answers.{Gives}
+use Rattle.tcloperators.specs.Faults.{reason_of}
 use Rattle.tcloperators.specs.Numbers.{within_64_bits}
 use Rattle.tcloperators.specs.declared.fault.ValueFault.TheVariants.{NumberTooLarge}
 use Rattle.tcloperators.proofs.NumberLemmas.{checked, one_shifted, doubled_outside}
@@ -12,8 +13,8 @@ factors {b = b} {x = x} e f = ap (λ n. n *ℤ b) e ∙ ap (λ p. x *ℤ p) f
 
 pub returns-then-times-lt63 : goal.returns-then-times-lt63
 returns-then-times-lt63 c =
-    subst (λ r. Gives (λ (z : ℤ). z) r (within_64_bits (c.args.number *ℤ pos (2 ^ c.args.times)))) (sym c.ok_or.ensures.value) (
-    subst (λ z. Gives (λ (x : ℤ). x) (ok_or c.checked_mul.result NumberTooLarge) (within_64_bits z))
+    subst (λ r. Gives reason_of (λ (z : ℤ). z) r (within_64_bits (c.args.number *ℤ pos (2 ^ c.args.times)))) (sym c.ok_or.ensures.value) (
+    subst (λ z. Gives reason_of (λ (x : ℤ). x) (ok_or c.checked_mul.result NumberTooLarge) (within_64_bits z))
     (factors (to_z-of_z w64 c.args.number c.ranges.number) (one_shifted c.args.times c.if-times-lt63.true))
     (checked _ _ c.checked_mul.ensures))
 

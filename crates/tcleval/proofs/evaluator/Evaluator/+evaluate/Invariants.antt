@@ -1,16 +1,16 @@
-use Rattle.std.proofs.Common.{◌≡◌, ◌<◌, [], Bool, true, List, map, option_map, reverse, drop, IfOk, Ok, string_bytes, ℕ, ◌+◌, ◌-◌, ◌*◌, ◌≤◌, length}
+use Rattle.std.proofs.Common.{[], List, map, option_map, reverse, drop, Ok, string_bytes, ◌+◌, ◌-◌, ◌*◌}
 use Rattle.tclchars.specs.Runs.{Text}
 use Rattle.tclscript.specs.Tree.{commands_of, words_of}
 use Rattle.tclscript.specs.View.{script_view, command_view, word_view}
 use Rattle.tclscript.specs.declared.tree.Script.{out-Script}
 use Rattle.tclscript.specs.declared.piece.ByteRange.{ByteRange}
-use Rattle.tclrules.specs.Derivation.{Counts, Runs}
+use Rattle.tclrules.specs.Derivation.{Runs}
 use Rattle.tclrules.specs.Leads.{Leads, point}
 use Rattle.tclrules.specs.Variables.{State}
 use Rattle.tclrules.specs.Plans as plans
 use Rattle.tclrules.specs.Words as pieces
 use Rattle.tclrules.specs.Rules as rules
-use Rattle.tclrules.specs.Plans.{Next, on_normal, sized}
+use Rattle.tclrules.specs.Plans.{Next, on_normal}
 use Rattle.tclrules.specs.Rules.{rule}
 use Rattle.tclforms.specs.Views.{pair_texts}
 use Rattle.tclsteps.specs.Machine.{shown, bounds, control_plan, behind_all, control_weight, frames_weight}

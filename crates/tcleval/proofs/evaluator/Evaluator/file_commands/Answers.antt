@@ -1,35 +1,16 @@
-use Rattle.std.proofs.Common.{rules, arith, refl, sym, ap, ◌∙◌, ◌≡◌, ◌<◌, [], Bool, true, false, None, List, Bor, get_or, map, option_map, IfOk, string_bytes, ℕ, ◌+◌, ◌-◌, ◌*◌, ◌≤◌, length, ◌∷◌, ◌++◌, drop, reverse}
+use Rattle.std.proofs.Common.{rules, arith, refl, true, false, map, ◌+◌, ◌-◌, drop}
 use Rattle.tclchars.specs.Runs.{Text}
-use Rattle.tclscript.specs.Tree.{commands_of, words_of}
-use Rattle.tclscript.specs.View.{script_view, command_view, word_view}
-use Rattle.tclrules.specs.Derivation.{Counts, Runs}
-use Rattle.tclrules.specs.Leads.{Leads, point}
+use Rattle.tclscript.specs.Tree.{commands_of}
+use Rattle.tclscript.specs.View.{command_view}
 use Rattle.tclrules.specs.Variables.{State}
-use Rattle.tclrules.specs.Plans as plans
-use Rattle.tclrules.specs.Words as pieces
-use Rattle.tclrules.specs.Plans.{Next, on_normal, sized}
-use Rattle.tclrules.specs.Expressions.{express, decide}
-use Rattle.tclrules.specs.Rules.{rule, called, turn}
-use Rattle.tclforms.specs.Views.{form_view, pair_texts}
-use Rattle.tclsteps.specs.Machine.{shown, bounds, control_plan}
-use Rattle.tclsteps.specs.Stops.{after}
-use Rattle.tcleval.specs.Runs.{finish, turned, guarded}
-use Rattle.tcleval.specs.Later.{Later}
+use Rattle.tclsteps.specs.Machine.{shown, bounds}
 use Rattle.tclrules.specs.Rules as table
-use Rattle.std.proofs.lemmas.Bool.{false≢true}
-use Rattle.std.proofs.lemmas.Result.{err_from_is_err_and}
 use Rattle.std.proofs.lemmas.List.{drop_all}
-use Rattle.tclscript.specs.declared.tree.Word.{out-Word}
 use Rattle.tclscript.specs.declared.tree.Script.{out-Script}
 use Rattle.tclscript.specs.declared.piece.ByteRange.{ByteRange}
-use Rattle.tcltext.specs.Numerals.{numeral}
-use Rattle.tclrules.specs.Plans.{given}
-use Rattle.tclrules.specs.Words.{expanded}
-use Rattle.tclrules.specs.Expressions.{normal}
-use Rattle.tclrules.proofs.Leading.{stay, go_on, starve, count_on, count_over, run_on, run_halts, run_tail}
-use Rattle.tclsteps.proofs.Leading.{passed_on, starved_end, starved_after, given_on, value_stops, sized_on, run_stops}
-use Rattle.tclsteps.proofs.Trees.{empty_of, first_and_rest}
-use Rattle.tcleval.proofs.Running.{run_after, run_normal, begin_on, begin_stops, drop_here, same_as, script_commands, command_words, command_place, word_parts, later_refl, later_on, later_still, later_counted, later_beside, later_begun, later_parsed, text_stops, limited_stops, limited_on, ok_any, counted_on, core_stops, turned_some, turned_none, foreach_done, foreach_more, on_branch, branch_on}
+use Rattle.tclrules.proofs.Leading.{stay, go_on}
+use Rattle.tclsteps.proofs.Leading.{passed_on}
+use Rattle.tcleval.proofs.Running.{drop_here, script_commands, command_place, later_refl, later_on, later_beside}
 use Rattle.tcleval.proofs.evaluator.Evaluator.file_commands.Goals as goal
 
 pub loop-command-init : goal.loop-command-init

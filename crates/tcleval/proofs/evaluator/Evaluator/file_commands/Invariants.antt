@@ -1,19 +1,12 @@
-use Rattle.std.proofs.Common.{◌≡◌, ◌<◌, [], Bool, true, List, map, option_map, reverse, drop, IfOk, string_bytes, ℕ, ◌+◌, ◌-◌, ◌*◌, ◌≤◌, length}
-use Rattle.tclchars.specs.Runs.{Text}
-use Rattle.tclscript.specs.Tree.{commands_of, words_of}
-use Rattle.tclscript.specs.View.{script_view, command_view, word_view}
+use Rattle.std.proofs.Common.{[], map, drop, string_bytes, ◌-◌}
+use Rattle.tclscript.specs.Tree.{commands_of}
+use Rattle.tclscript.specs.View.{script_view, command_view}
 use Rattle.tclscript.specs.declared.tree.Script.{out-Script}
 use Rattle.tclscript.specs.declared.piece.ByteRange.{ByteRange}
-use Rattle.tclrules.specs.Derivation.{Counts, Runs}
 use Rattle.tclrules.specs.Leads.{Leads, point}
-use Rattle.tclrules.specs.Variables.{State}
-use Rattle.tclrules.specs.Plans as plans
-use Rattle.tclrules.specs.Words as pieces
 use Rattle.tclrules.specs.Rules as rules
-use Rattle.tclrules.specs.Plans.{Next, on_normal, sized}
 use Rattle.tclrules.specs.Rules.{rule}
-use Rattle.tclforms.specs.Views.{pair_texts}
-use Rattle.tclsteps.specs.Machine.{shown, bounds, control_plan, behind_all, control_weight, frames_weight}
+use Rattle.tclsteps.specs.Machine.{shown, bounds}
 use Rattle.tcleval.specs.Later.{Later}
 use Rattle.tcleval.proofs.evaluator.Evaluator.file_commands.Given as goal
 

@@ -1,7 +1,7 @@
-use Rattle.std.proofs.Common.{◌≡◌, ℕ, ◌+◌, ◌-◌, length, sym, subst, ◌∙◌, arith}
+use Rattle.std.proofs.Common.{◌≡◌, ◌-◌, sym, subst, ◌∙◌, arith}
 use Rattle.std.specs.Str.{IsUtf8}
 use Rattle.tclchars.specs.Runs.{Text}
-use Rattle.tclscript.specs.Pieces.{IsFrontOf, between}
+use Rattle.tclscript.specs.Pieces.{IsFrontOf}
 use Rattle.tclscript.proofs.Ends.{end_cut, end_drop, front_cut, front_take}
 use Rattle.tclscript.proofs.Ranges.{between_at}
 use Rattle.tclscript.proofs.piece.RefStrSource.cut.Goals as goal
