@@ -1,4 +1,5 @@
--- What the evaluation of a default file leaves (modulefile(5), module-version). The rules of evaluation are those of Tcl.
+-- What the evaluation of a default file leaves (modulefile(5), module-version). The rules of evaluation are those of
+-- Tcl.
 use Rattle.std.specs.Prelude.{◌≡◌, false, List, [], ◌∷◌, codes, bytes_eq, if◌then◌else◌, Option, Some, None}
 use Rattle.modulename.specs.ModuleName.{Text}
 use Rattle.tclrules.specs.Oracle.{Oracle, Told, Answer, Nothing, Kept, Done, Unknown, LeftOut, Refused}
@@ -18,7 +19,8 @@ version_answer words = Refused 56 false
 -- These are refused: to pass over them could load another module than the one that is meant.
 unfoldable pub renaming_commands : List Text
 renaming_commands =
-    codes "module-alias" ∷ codes "module-virtual" ∷ codes "module-hide" ∷ codes "module-forbid" ∷ codes "module-tag" ∷ []
+    codes "module-alias" ∷ codes "module-virtual" ∷ codes "module-hide" ∷ codes "module-forbid" ∷ codes "module-tag" ∷
+    []
 
 -- Besides `module-version` a default file has no command of modulefiles. What it writes is dropped.
 abbrev pub named_answer : Text → List Text → Answer

@@ -59,7 +59,8 @@ fn version_reply(words: &[String]) -> Reply<'static>
 
 /// What a command is answered by its name and all its words.
 fn named_reply<'a>(name: &'a str, words: &[String]) -> Reply<'a>
-    ensures { reply_view result (map string_bytes words.now) ≡ named_answer name.entry.now (map string_bytes words.now) }
+    ensures { reply_view result (map string_bytes words.now)
+        ≡ named_answer name.entry.now (map string_bytes words.now) }
 {
     if name == "module-version" {
         version_reply(words)

@@ -2,8 +2,8 @@
 //!
 //! The calls of a paragraph are made one after the other over an environment, and over a working one beside it, which
 //! have to answer alike. A paragraph may begin with `from NAME=VALUE...`, the variables before its first call. Words
-//! stand between blanks; `''` is the empty word, and as a delimiter a blank; `^@`, `^_` and `^?` are the characters 0, 31
-//! and 127. Behind each call the answer is printed: of an edit the variables after it, or `!NUMBER` for its refusal,
+//! stand between blanks; `''` is the empty word, and as a delimiter a blank; `^@`, `^_` and `^?` are the characters 0,
+//! 31 and 127. Behind each call the answer is printed: of an edit the variables after it, or `!NUMBER` for its refusal,
 //! which leaves them. At the end of a paragraph stands what its calls have changed.
 #![tactic(auto)]
 

@@ -15,10 +15,10 @@ use std::{fs, io};
 
 /// The files and directories of a disk. Each answer is kept, and given again.
 ///
-/// There is nothing at a path where another kind of thing is, as a directory where a file is asked for, a pipe, a socket
-/// or a device, which are never opened; where a link leads to nothing; and where a name in the path is a file. Any
-/// other fault is the device's: a missing permission, links in a ring, a path that the system refuses, or a directory
-/// with a name that is not UTF-8.
+/// There is nothing at a path where another kind of thing is, as a directory where a file is asked for, a pipe, a
+/// socket or a device, which are never opened; where a link leads to nothing; and where a name in the path is a file.
+/// Any other fault is the device's: a missing permission, links in a ring, a path that the system refuses, or a
+/// directory with a name that is not UTF-8.
 #[derive(Drop)]
 pub struct DiskTree<R: Files + AllocGlobal + Clone + Drop> {
     rt: R,

@@ -1,7 +1,7 @@
 //! Messages of faults, in parts, so that they are shown and written without taking memory.
 //!
-//! The fault of a layer has one function that makes its message, with a clause that names its text. Its `Display` and the
-//! error line of a command are both made from it.
+//! The fault of a layer has one function that makes its message, with a clause that names its text. Its `Display` and
+//! the error line of a command are both made from it.
 #![tactic(auto)]
 
 ghost use Rattle.std.specs.Prelude.{◌≡◌, Some};

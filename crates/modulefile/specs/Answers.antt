@@ -17,8 +17,8 @@ use Rattle.shells.specs.Shells.{shell_name, shell_family}
 use Rattle.modulefile.specs.Calls.{Topic, mode, shell, shell_type, Call, keeps, says, getenv, is_loaded, own_name, typed_name, tells, tests, CallReason, unknown, left_out, bad_arguments, bad_record, Form, call_of}
 
 -- What a file is evaluated in: the mode, and whether it is half of a switch; the module's full name and the path of its
--- file; the shell; the name as it was typed; the names of the modules that are loaded before the file, and the environment
--- before it.
+-- file; the shell; the name as it was typed; the names of the modules that are loaded before the file, and the
+-- environment before it.
 pub record Context : Type 0 where
   pub mode : Mode
   pub in_switch : Bool
@@ -147,8 +147,8 @@ abbrev pub or_start : Environment → Result Environment CallReason → Environm
 or_start start (Ok e) = e
 or_start start (Err reason) = start
 
--- The environment that the file finds there. The records of accepted commands always have their effects, so the start doesn't
--- stand for them.
+-- The environment that the file finds there. The records of accepted commands always have their effects, so the start
+-- doesn't stand for them.
 abbrev pub found_after : Context → List oracle.Record → Environment
 found_after c told = or_start c.start (effects_so_far c told)
 

@@ -38,7 +38,8 @@ abbrev pub call_view : Call → calls.Call
 call_view (code.Set var value) = calls.keeps (records.Set var.now value.now)
 call_view (code.Unset var value) = calls.keeps (records.Unset var.now (option_map (λ v. v.now) value))
 call_view (code.Push var value) = calls.keeps (records.Push var.now value.now)
-call_view (code.Path edit delim var values) = calls.keeps (edit_record edit delim var.now (elements_of delim (texts_of values.now)))
+call_view (code.Path edit delim var values) = calls.keeps
+    (edit_record edit delim var.now (elements_of delim (texts_of values.now)))
 call_view (code.Conflict names) = calls.keeps (records.Conflict (texts_of names.now))
 call_view (code.Prereq names) = calls.keeps (records.Prereq (texts_of names.now))
 call_view (code.Whatis words) = calls.keeps (description (texts_of words.now))

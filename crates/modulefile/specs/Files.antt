@@ -91,8 +91,8 @@ abbrev pub IsSameOrRefused : Ran → Result Ran Stop → Type 0
 IsSameOrRefused ran o =
     ((again : Ran) × (o ≡ Ok again) × (again.records ≡ ran.records)) ⊎ ((n : ℕ) × (o ≡ Err (halted (ByHost n))))
 
--- A file played: the definition as a function that computes. The number bounds how long a way may be; None where that is
--- too little.
+-- A file played: the definition as a function that computes. The number bounds how long a way may be; None where that
+-- is too little.
 abbrev pub ran_shown : Result Ran CallReason → Option (Result Ran Stop)
 ran_shown (Ok ran) = Some (Ok ran)
 ran_shown (Err reason) = None

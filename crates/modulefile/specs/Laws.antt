@@ -27,7 +27,8 @@ IsDone (Unknown asks) = ⊥
 IsDone (LeftOut name asks) = ⊥
 IsDone (Refused n asks) = ⊥
 
--- What a command that is done adds, and whether it asks, its words say: not the mode, the environment or what went before.
+-- What a command that is done adds, and whether it asks, its words say: not the mode, the environment or what went
+-- before.
 abbrev pub WordsSay : Type 0
 WordsSay =
     (c : Context) (told : List oracle.Record) (words : List Text) → IsDone ((oracle_of c).command told words)

@@ -45,6 +45,7 @@ IsJudged (Ok u) refusal = refusal ≡ None
 IsJudged (Err fault) refusal = IfSome (fault_reason fault) (λ r. refusal ≡ Some r)
 
 -- An edit ends as the outcome says, or for want of memory. A refused edit leaves the environment as it was.
-abbrev pub IsEdited : Result (Unit {0}) RecordFault → Environment → Environment → Result Environment RecordReason → Type 0
+abbrev pub IsEdited : Result (Unit {0}) RecordFault → Environment → Environment → Result Environment RecordReason
+    → Type 0
 IsEdited (Ok u) old new outcome = outcome ≡ Ok new
 IsEdited (Err fault) old new outcome = (new ≡ old) × IfSome (fault_reason fault) (λ r. outcome ≡ Err r)

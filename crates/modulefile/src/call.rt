@@ -119,7 +119,8 @@ fn set_form(words: &[String]) -> Result<Call<'_>, CallFault>
 }
 
 fn push_form(words: &[String]) -> Result<Call<'_>, CallFault>
-    ensures { Gives reason_of call_view result (without_option (var_and_value Push) (map string_bytes words.entry.now)) }
+    ensures { Gives reason_of call_view result
+        (without_option (var_and_value Push) (map string_bytes words.entry.now)) }
 {
     match no_option(words)? {
         [var, value] => Ok(Call::Push { var, value }),
@@ -200,7 +201,8 @@ fn path_form(edit: PathEdit, words: &[String]) -> Result<Call<'_>, CallFault>
 }
 
 fn conflict_form(words: &[String]) -> Result<Call<'_>, CallFault>
-    ensures { Gives reason_of call_view result (without_option (some_words Conflict) (map string_bytes words.entry.now)) }
+    ensures { Gives reason_of call_view result
+        (without_option (some_words Conflict) (map string_bytes words.entry.now)) }
 {
     match no_option(words)? {
         [] => Err(CallFault::BadArguments),
@@ -324,8 +326,8 @@ fn unknown_or_left_out(alloc: Global, name: &str) -> CallFault
 
 /// The command that these words call, the first of which is its name. Nothing of the environment is looked at.
 ///
-/// Errors: no such command is known; it, or this part of it, is left out (19); the words don't fit it, as a wrong number of
-/// them, an option, or a delimiter that isn't one character (56); or want of memory.
+/// Errors: no such command is known; it, or this part of it, is left out (19); the words don't fit it, as a wrong
+/// number of them, an option, or a delimiter that isn't one character (56); or want of memory.
 #[tactic(auto, unfolding(crate::specs::Calls::call_of))]
 pub fn call_of<'a>(alloc: Global, words: &'a [String]) -> Result<Call<'a>, CallFault>
     ensures { Gives reason_of call_view result (call_of (map string_bytes words.entry.now)) }

@@ -39,7 +39,8 @@ fn bad_value(alloc: Global, var: &str) -> RecordFault
 
 /// Refuses variables that can't be edited, and then a value with NUL.
 fn judge_plain(alloc: Global, var: &str, value: Option<&str>) -> Result<(), RecordFault>
-    ensures { IsJudged result (option_map bad_edit (plain_reason var.now (values_of (option_map (λ v. v.now) value.entry)))) }
+    ensures { IsJudged result
+        (option_map bad_edit (plain_reason var.now (values_of (option_map (λ v. v.now) value.entry)))) }
 {
     if let Err(fault) = judge_name(alloc, var) {
         return Err(RecordFault::Env(fault));
@@ -161,7 +162,8 @@ fn drop<V: Vars>(
 
 /// What loading makes of a record.
 fn load<V: Vars>(alloc: Global, owner: &str, kept: &Record, env: &mut V) -> Result<(), EnvFault>
-    ensures edits { Edits result (V.vars env.old) (V.vars env.new) (loaded_by owner.now (record_view kept.now) (V.vars env.old)) }
+    ensures edits { Edits result (V.vars env.old) (V.vars env.new)
+        (loaded_by owner.now (record_view kept.now) (V.vars env.old)) }
     ensures under { V.under env.new ≡ V.under env.old }
 {
     match kept {
@@ -186,7 +188,8 @@ fn load<V: Vars>(alloc: Global, owner: &str, kept: &Record, env: &mut V) -> Resu
 
 /// What unloading makes of a record.
 fn unload<V: Vars>(alloc: Global, owner: &str, kept: &Record, env: &mut V) -> Result<(), EnvFault>
-    ensures edits { Edits result (V.vars env.old) (V.vars env.new) (unloaded_by owner.now (record_view kept.now) (V.vars env.old)) }
+    ensures edits { Edits result (V.vars env.old) (V.vars env.new)
+        (unloaded_by owner.now (record_view kept.now) (V.vars env.old)) }
     ensures under { V.under env.new ≡ V.under env.old }
 {
     match kept {
@@ -232,11 +235,11 @@ fn edit<V: Vars>(
     }
 }
 
-/// Makes the effect of a record of a module, in a mode: the record is judged in every mode, and then loading or unloading
-/// edits the environment.
+/// Makes the effect of a record of a module, in a mode: the record is judged in every mode, and then loading or
+/// unloading edits the environment.
 ///
-/// It is refused, in this order, by 32, 33 and 37, or by 44 of the first name that is ill spelled, in every mode, and then by 34
-/// or 36; or for want of memory. The environment is then as it was.
+/// It is refused, in this order, by 32, 33 and 37, or by 44 of the first name that is ill spelled, in every mode, and
+/// then by 34 or 36; or for want of memory. The environment is then as it was.
 pub fn effect<V: Vars>(
     alloc: Global,
     mode: Mode,

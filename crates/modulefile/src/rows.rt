@@ -153,6 +153,7 @@ pub fn report_rows()
     ensures unset { show_text (codes "/m/lg/1") (Unset (codes "LANG") (Some (codes "C")) ∷ Unset (codes "X") None ∷ [])
         ≡ codes "/m/lg/1:\nunsetenv LANG C\nunsetenv X\n" }
     ensures nothing { show_text (codes "/m/e/1") [] ≡ codes "/m/e/1:\n" }
-    ensures described { whatis_text (codes "d/1") (Whatis (codes "A B c") ∷ Set (codes "A") [] ∷ Whatis (codes "E") ∷ [])
+    ensures described { whatis_text (codes "d/1")
+        (Whatis (codes "A B c") ∷ Set (codes "A") [] ∷ Whatis (codes "E") ∷ [])
         ≡ codes "d/1: A B c\nd/1: E\n" }
 {}

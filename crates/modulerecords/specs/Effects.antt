@@ -62,7 +62,8 @@ abbrev pub effect : Mode → Text → Record → Environment → Result Environm
 effect mode owner r e = permitted (record_reason r) (by_edit (edited mode owner r e))
 
 -- what follows an effect that was had
-abbrev pub and_then : Result Environment RecordReason → (Environment → Result Environment RecordReason) → Result Environment RecordReason
+abbrev pub and_then : Result Environment RecordReason → (Environment → Result Environment RecordReason)
+    → Result Environment RecordReason
 and_then (Ok e) next = next e
 and_then (Err r) next = Err r
 

@@ -1,5 +1,5 @@
--- What forbids a record, whatever environment it finds: first its variable's name, then a variable that the tool keeps, then
--- a value, a delimiter or an element; of names of modules the first that is ill-spelled.
+-- What forbids a record, whatever environment it finds: first its variable's name, then a variable that the tool keeps,
+-- then a value, a delimiter or an element; of names of modules the first that is ill-spelled.
 use Rattle.std.specs.Prelude.{Bool, List, [], ◌∷◌, if◌then◌else◌, is_none, Option, Some, None}
 use Rattle.std.specs.List.{list_all}
 use Rattle.std.specs.Option.{option_map, option_or}
@@ -17,7 +17,8 @@ pub data RecordReason : Type 0 where
 
 -- the refusal of the variable's name, and then of values with NUL
 abbrev pub plain_reason : Text → List Text → Option EnvReason
-plain_reason var values = option_or (name_reason var) (if list_all is_plain_value values then None else Some (bad_value var))
+plain_reason var values = option_or (name_reason var) (if list_all is_plain_value values then None
+    else Some (bad_value var))
 
 -- a value or none
 abbrev pub values_of : Option Text → List Text

@@ -69,7 +69,8 @@ AreProper (m ∷ ms) = IsProper m × AreProper ms
 -- A module that is loaded isn't loaded already; one that is unloaded is, by this path.
 abbrev pub Fits : Move → Environment → Type 0
 Fits (Loads m) e = (xs : List Entry) × (loaded_in e ≡ Some xs) × (has m.name (names_of xs) ≡ false)
-Fits (Unloads m) e = (xs : List Entry) × (loaded_in e ≡ Some xs) × (list_any (λ x. bytes_eq m.name x.name && bytes_eq m.path x.path) xs ≡ true)
+Fits (Unloads m) e = (xs : List Entry) × (loaded_in e ≡ Some xs)
+    × (list_any (λ x. bytes_eq m.name x.name && bytes_eq m.path x.path) xs ≡ true)
 
 -- The moves lead from one environment to the other, and each fits where it is made.
 abbrev pub Lead : List Move → Environment → Environment → Type 0

@@ -1,4 +1,5 @@
--- What an accepted command of a modulefile leaves on record, one for each command of the table of modulefile(5), in every mode.
+-- What an accepted command of a modulefile leaves on record, one for each command of the table of modulefile(5), in
+-- every mode.
 use Rattle.std.specs.Prelude.{ℕ, List, [], ◌∷◌, ◌++◌, Option, Some, None}
 use Rattle.environment.specs.Texts.{Text}
 

@@ -17,8 +17,8 @@ pub record Holds (ways : Text → Way) (start : Environment) (live : List Module
   pub stands : Stands ways start live e
   pub returned : live ≡ [] → e ≡ start
 
--- Accepted loads and unloads of new modules that are reversible and apart lead from a start to an environment that is in
--- order and stands over it, and back to it where no module is live.
+-- Accepted loads and unloads of new modules that are reversible and apart lead from a start to an environment that is
+-- in order and stands over it, and back to it where no module is live.
 abbrev pub RunsReturn : Type 0
 RunsReturn =
     (ways : Text → Way) (start e : Environment) (ms : List Move) → IsStart ways start

@@ -7,7 +7,8 @@ use Rattle.modulerecords.specs.Effects.{load, unload, effects}
 
 -- the records are loaded, and then unloaded
 abbrev pub ThereAndBack : Text → List Record → Environment → Environment → Type 0
-ThereAndBack owner rs old new = (mid : Environment) × (effects load owner rs old ≡ Ok mid) × (effects unload owner rs mid ≡ Ok new)
+ThereAndBack owner rs old new = (mid : Environment) × (effects load owner rs old ≡ Ok mid)
+    × (effects unload owner rs mid ≡ Ok new)
 
 -- A set of a variable that had a value.
 abbrev pub SetLosesValue : Type 0

@@ -3,8 +3,8 @@ use Rattle.std.specs.Prelude.{◌≡◌, List, [], ◌∷◌, ◌++◌}
 use Rattle.environment.specs.Environment.{Environment}
 use Rattle.modulerecords.specs.Moves.{Move, Lead}
 
--- A request is accepted with its moves, the first of them first: one for each module that it loads or unloads, so that a
--- switch is an unload and then a load. Or it is refused.
+-- A request is accepted with its moves, the first of them first: one for each module that it loads or unloads, so that
+-- a switch is an unload and then a load. Or it is refused.
 pub data Outcome : Type 0 where
   accepted : (moves : List Move) → Outcome
   refused : Outcome

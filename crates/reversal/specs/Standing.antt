@@ -16,8 +16,8 @@ use Rattle.modulerecords.specs.Moves.{Module}
 use Rattle.reversal.specs.Ways.{Way, Untouched, Fixed, Pathed, Stacked}
 use Rattle.reversal.specs.Live.{live_set, live_adds, live_pushes, entries_over}
 
--- In order, for the variables that the ways name: the loaded list, each path by its delimiter, and each stack, whose owners
--- are loaded.
+-- In order, for the variables that the ways name: the loaded list, each path by its delimiter, and each stack, whose
+-- owners are loaded.
 pub record IsInOrder (ways : Text → Way) (e : Environment) : Type 0 where
   pub loaded : AreLoadedInOrder e
   pub paths : (v : Text) (delim : ℕ) → is_editable v ≡ true → ways v ≡ Pathed delim → IsPathInOrder e v delim
@@ -63,8 +63,8 @@ StandsAt (Fixed value) start v live e = HasValue start e v (unwrap_or (live_set 
 StandsAt (Pathed delim) start v live e = HasPath start e v delim (live_adds v live)
 StandsAt Stacked start v live e = HasStack start e v (live_pushes v live)
 
--- The environment stands over the start with these live modules: the entries are those of the start and then theirs, each
--- variable that may be edited stands by its way, and every name that is none of the tool's is as in the start.
+-- The environment stands over the start with these live modules: the entries are those of the start and then theirs,
+-- each variable that may be edited stands by its way, and every name that is none of the tool's is as in the start.
 pub record Stands (ways : Text → Way) (start : Environment) (live : List Module) (e : Environment) : Type 0 where
   pub entries : (xs : List Entry) → loaded_in start ≡ Some xs → loaded_in e ≡ Some (entries_over xs live)
   pub variables : (v : Text) → is_editable v ≡ true → StandsAt (ways v) start v live e

@@ -1,5 +1,5 @@
-//! Why each premise is asked: worked examples in which the others hold, and a run of accepted moves loses the start. They
-//! are computed over the definitions.
+//! Why each premise is asked: worked examples in which the others hold, and a run of accepted moves loses the start.
+//! They are computed over the definitions.
 ghost use Rattle.reversal.specs.Examples.{EmptyPath, CounterOfNone, BottomAlone, HiddenValue, OtherEscapes, OwnerNotLoaded, ValueBeforeSet, OtherValue};
 ghost use Rattle.reversal.specs.Examples.{EmptyLists, NeedsOfNone, ConflictTwice, IllSpelled, EmptyGroup};
 ghost use Rattle.reversal.specs.Examples.{UnsetWithoutValue, ElementRemoved, OtherRecords, StartUnloaded};
@@ -37,7 +37,8 @@ pub fn kinds()
 {}
 
 /// From a start: two ways of one variable. And where two live modules set one variable, the unload of one takes the
-/// other's value away, so that the environment stands over the start no more (the start comes back when both are unloaded).
+/// other's value away, so that the environment stands over the start no more (the start comes back when both are
+/// unloaded).
 pub fn ways()
     ensures set_and_pushed { SetAndPushed }
     ensures unset_and_pushed { UnsetAndPushed }

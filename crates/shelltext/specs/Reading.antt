@@ -1,6 +1,6 @@
--- How shells read lines that set and unset variables. By cases, over whole texts; no shell's text says anything else here.
--- The sh family is read by POSIX XCU 2.2.1 (a backslash outside quotes) and 2.2.2 (single quotes), the csh family by
--- csh(1), Lexical structure and History substitutions, and fish by fish-language(1), Quotes.
+-- How shells read lines that set and unset variables. By cases, over whole texts; no shell's text says anything else
+-- here. The sh family is read by POSIX XCU 2.2.1 (a backslash outside quotes) and 2.2.2 (single quotes), the csh family
+-- by csh(1), Lexical structure and History substitutions, and fish by fish-language(1), Quotes.
 use Rattle.std.specs.Prelude.{◌≡◌, ◌<◌, length, ℕ, List, [], ◌∷◌, ◌++◌, Bool, not, ◌||◌, true, ◌==◌, Option, Some, None, codes}
 use Rattle.std.specs.List.{flat_map, list_all}
 use Rattle.environment.specs.Texts.{Text}

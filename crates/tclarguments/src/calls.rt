@@ -52,7 +52,8 @@ fn taken<'w>(
     words: &'w [String],
 ) -> Result<Allotment<'w>, ValueFault>
     ensures { Gives reason_of allotment_view result
-        (taken name.now (parameter_view parameter.now) (map parameter_view behind.now) (map string_bytes words.entry.now)) }
+        (taken name.now (parameter_view parameter.now) (map parameter_view behind.now)
+        (map string_bytes words.entry.now)) }
 {
     if parameter.name.as_str() == "args" && behind.is_empty() {
         return Ok(Allotment {

@@ -1,5 +1,5 @@
-//! The words of Tcl's core commands, judged and bound: what a foreach goes over, the body that a switch chooses, the parameters of
-//! a procedure and what a call gives them, and the names that are fixed.
+//! The words of Tcl's core commands, judged and bound: what a foreach goes over, the body that a switch chooses, the
+//! parameters of a procedure and what a call gives them, and the names that are fixed.
 #![tactic(auto)]
 
 mod calls;

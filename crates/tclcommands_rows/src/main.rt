@@ -1,6 +1,6 @@
-//! Answers commands of Tcl that evaluate no script, a line each on standard input, which is the list of their words. `enter`
-//! begins a procedure and `leave` ends it; `body NAME` is the script of a procedure, and `value TEXT` is what an expression
-//! without brackets comes to. A value has at most 64 bytes.
+//! Answers commands of Tcl that evaluate no script, a line each on standard input, which is the list of their words.
+//! `enter` begins a procedure and `leave` ends it; `body NAME` is the script of a procedure, and `value TEXT` is what
+//! an expression without brackets comes to. A value has at most 64 bytes.
 //!
 //! Each answer is a line: `ok RESULT`, `raised MESSAGE`, or `halted` with what halts.
 #![tactic(auto)]

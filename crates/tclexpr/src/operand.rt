@@ -143,7 +143,8 @@ fn read_quoted<'a, S: Source<P>, P: Drop>(
     depth: usize,
 ) -> Result<(Operand<P>, usize, &'a str), ReadError>
     requires { IsEndOf (S.text source.now) text.now }
-    ensures { Gives stopped_by (λ x. ((operand_view (S.shown source.now) x.0, x.1), x.2.now)) result (quoted_at depth text.now) }
+    ensures { Gives stopped_by (λ x. ((operand_view (S.shown source.now) x.0, x.1), x.2.now)) result
+        (quoted_at depth text.now) }
 {
     let (parts, rest) = read_quotes(alloc, source, text, depth)?;
     let height = parts_nesting(&parts);
@@ -156,7 +157,8 @@ fn read_braced<'a, S: Source<P>, P: Drop>(
     text: &'a str,
 ) -> Result<(Operand<P>, usize, &'a str), ReadError>
     requires { IsEndOf (S.text source.now) text.now }
-    ensures { Gives stopped_by (λ x. ((operand_view (S.shown source.now) x.0, x.1), x.2.now)) result (braced_text_at text.now) }
+    ensures { Gives stopped_by (λ x. ((operand_view (S.shown source.now) x.0, x.1), x.2.now)) result
+        (braced_text_at text.now) }
 {
     match split_close(text) {
         Some((inner, rest)) => Ok((Operand::Braced(source.cut(text, inner)), 0, rest)),
@@ -170,7 +172,8 @@ fn read_word<'a, S: Source<P>, P: Drop>(
     text: &'a str,
 ) -> Result<(Operand<P>, usize, &'a str), ReadError>
     requires { IsEndOf (S.text source.now) text.now }
-    ensures { Gives stopped_by (λ x. ((operand_view (S.shown source.now) x.0, x.1), x.2.now)) result (word_at text.now) }
+    ensures { Gives stopped_by (λ x. ((operand_view (S.shown source.now) x.0, x.1), x.2.now)) result
+        (word_at text.now) }
 {
     let (word, rest) = split_front(text, Class::Name);
     if !is_truth(word.as_bytes()) {
@@ -205,7 +208,8 @@ pub(crate) fn read_operand<'a, S: Source<P>, P: Drop>(
     depth: usize,
 ) -> Result<(Operand<P>, usize, &'a str), ReadError>
     requires { IsEndOf (S.text source.now) text.now }
-    ensures { Gives stopped_by (λ x. ((operand_view (S.shown source.now) x.0, x.1), x.2.now)) result (operand_at depth text.now) }
+    ensures { Gives stopped_by (λ x. ((operand_view (S.shown source.now) x.0, x.1), x.2.now)) result
+        (operand_at depth text.now) }
 {
     if let Some(behind) = after_mark(text, b'$') {
         return read_variable(alloc, source, text, behind, depth);

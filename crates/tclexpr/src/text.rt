@@ -71,7 +71,8 @@ fn read_limited<S: Source<P>, P: Drop>(alloc: Global, source: &S) -> Result<Expr
 
 // The tree of a source, with nothing but white space behind it.
 fn read_source<S: Source<P>, P: Drop>(alloc: Global, source: &S) -> Result<Expr<P>, ReadError>
-    ensures { Gives stopped_by (expr_view (S.shown source.now)) result (expr_at operand_at max_nesting (S.text source.now)) }
+    ensures { Gives stopped_by (expr_view (S.shown source.now)) result
+        (expr_at operand_at max_nesting (S.text source.now)) }
 {
     let (expression, rest) = read_whole(alloc, source, source.as_str(), MAX_NESTING)?;
     let left = skip_white(rest).len();

@@ -28,7 +28,8 @@ behind_elseif [] = None
 behind_elseif (w ∷ ws) = if bytes_eq w (codes "elseif") then Some ws else None
 
 -- more pairs of texts, and what is behind them
-abbrev pub behind_pairs : {A : Type 0} → List (Text × Text) → Answer (List (Text × Text) × A) → Answer (List (Text × Text) × A)
+abbrev pub behind_pairs : {A : Type 0} → List (Text × Text) → Answer (List (Text × Text) × A)
+    → Answer (List (Text × Text) × A)
 behind_pairs ps more = more >>= (λ m. Ok (ps ++ m.0, m.1))
 
 abbrev pub if_of : Answer Branches → Answer forms.Form

@@ -19,15 +19,16 @@ use tcloperators::ValueFault;
 
 /// The form of a core command, by its name and the words behind it; None for another name.
 ///
-/// Errors: what is wrong of the words alone. A wrong number of words, a bad option, patterns that are no list or whose last body
-/// is missing are 13; what is left out is 19; a list that is too long is 12. 11 comes where memory runs out.
+/// Errors: what is wrong of the words alone. A wrong number of words, a bad option, patterns that are no list or whose
+/// last body is missing are 13; what is left out is 19; a list that is too long is 12. 11 comes where memory runs out.
 #[tactic(auto, unfolding(tclrules::specs::Forms::core_form))]
 pub fn core_form<'a>(
     alloc: Global,
     name: &str,
     words: &'a [String],
 ) -> Result<Option<Form<'a>>, ValueFault>
-    ensures { Gives reason_of (option_map form_view) result (turned (core_form name.now (map string_bytes words.entry.now))) }
+    ensures { Gives reason_of (option_map form_view) result
+        (turned (core_form name.now (map string_bytes words.entry.now))) }
 {
     match name {
         "set" => Ok(Some(set_form(alloc, words)?)),

@@ -20,7 +20,8 @@ struct Branch<'a> {
 }
 
 fn behind_then<'a>(condition: &'a str, words: &'a [String]) -> Option<Branch<'a>>
-    ensures branch { option_map branch_view result ≡ behind_then condition.entry.now (map string_bytes words.entry.now) }
+    ensures branch { option_map branch_view result
+        ≡ behind_then condition.entry.now (map string_bytes words.entry.now) }
     ensures shorter { IfSome result (λ b. length b.rest.now < length words.entry.now) }
 {
     match words {
@@ -54,7 +55,8 @@ fn last_body<'a>(
     branches: Vec<(&'a str, &'a str)>,
     words: &'a [String],
 ) -> Result<Form<'a>, ValueFault>
-    ensures { Gives reason_of form_view result (if_of (behind_pairs (pair_texts branches.entry.items) (last_body (map string_bytes words.entry.now)))) }
+    ensures { Gives reason_of form_view result
+        (if_of (behind_pairs (pair_texts branches.entry.items) (last_body (map string_bytes words.entry.now)))) }
 {
     match words {
         [body] => Ok(Form::If(branches, Some(body))),
@@ -68,7 +70,8 @@ fn last_words<'a>(
     branches: Vec<(&'a str, &'a str)>,
     words: &'a [String],
 ) -> Result<Form<'a>, ValueFault>
-    ensures { Gives reason_of form_view result (if_of (behind_pairs (pair_texts branches.entry.items) (last_words (map string_bytes words.entry.now)))) }
+    ensures { Gives reason_of form_view result
+        (if_of (behind_pairs (pair_texts branches.entry.items) (last_words (map string_bytes words.entry.now)))) }
 {
     match words {
         [] => Ok(Form::If(branches, None)),

@@ -97,7 +97,8 @@ fn with_patterns<'a>(
     text: &'a str,
     patterns: Patterns<'a>,
 ) -> Result<Form<'a>, ValueFault>
-    ensures { Gives reason_of form_view result (with_patterns by_glob text.entry.now (in_twos (pattern_texts patterns.entry))) }
+    ensures { Gives reason_of form_view result
+        (with_patterns by_glob text.entry.now (in_twos (pattern_texts patterns.entry))) }
 {
     match bodiless(patterns.as_slice()) {
         Some(pattern) => Err(no_body(alloc, pattern)),
@@ -113,7 +114,8 @@ fn of_words<'a>(
     text: &'a str,
     patterns: &'a [String],
 ) -> Result<Form<'a>, ValueFault>
-    ensures { Gives reason_of form_view result (even_pairs text.entry.now (map string_bytes options.now) (paired (map string_bytes patterns.entry.now))) }
+    ensures { Gives reason_of form_view result
+        (even_pairs text.entry.now (map string_bytes options.now) (paired (map string_bytes patterns.entry.now))) }
 {
     if patterns.len() % 2 == 1 {
         return Err(wrong_words(alloc, "switch"));
@@ -130,7 +132,8 @@ fn of_list<'a>(
     text: &'a str,
     list: &str,
 ) -> Result<Form<'a>, ValueFault>
-    ensures { Gives reason_of form_view result (switch_with text.entry.now (map string_bytes options.now) (patterns_in list.now)) }
+    ensures { Gives reason_of form_view result
+        (switch_with text.entry.now (map string_bytes options.now) (patterns_in list.now)) }
 {
     let by_glob = by_glob(alloc, options)?;
     let patterns = elements(alloc, list)?;

@@ -197,7 +197,8 @@ fn without_newline<'a>(
     channel: &str,
     words: &'a [String],
 ) -> Result<Form<'a>, ValueFault>
-    ensures { Gives reason_of form_view result (without_newline option.now channel.now (map string_bytes words.entry.now)) }
+    ensures { Gives reason_of form_view result
+        (without_newline option.now channel.now (map string_bytes words.entry.now)) }
 {
     if option == "-nonewline" {
         to_stderr(alloc, channel, words)

@@ -30,13 +30,16 @@ abbrev pub is_full : {T : Type 0} → Trees T → Text → Bool
 is_full es t = nat_lt max_texts (length es + 1) || nat_lt max_bytes (bytes_of es + length t)
 
 -- a text that isn't kept yet is read, and added last; where it has a fault, or memory runs out, nothing changes
-abbrev pub Adds : {T : Type 0} → (Text → Result T TextFault) → Trees T → Text → Result (Option ℕ) TextFault → Trees T → Type 0
-Adds {T} read old t (Ok (Some place)) new = (place ≡ length old) × (tree : T) × (read t ≡ Ok tree) × (new ≡ old ++ (t, tree) ∷ [])
+abbrev pub Adds : {T : Type 0} → (Text → Result T TextFault) → Trees T → Text → Result (Option ℕ) TextFault → Trees T
+    → Type 0
+Adds {T} read old t (Ok (Some place)) new = (place ≡ length old) × (tree : T) × (read t ≡ Ok tree)
+    × (new ≡ old ++ (t, tree) ∷ [])
 Adds read old t (Ok None) new = ⊥
 Adds read old t (Err fault) new = FailsWith fault (read t) × (new ≡ old)
 
 -- what is answered to a text, and what is kept then
-pub record Answers {T : Type 0} (read : Text → Result T TextFault) (old : Trees T) (t : Text) (result : Result (Option ℕ) TextFault) (new : Trees T) : Type 0 where
+pub record Answers {T : Type 0} (read : Text → Result T TextFault) (old : Trees T) (t : Text)
+    (result : Result (Option ℕ) TextFault) (new : Trees T) : Type 0 where
   -- a text that is there is answered by its place
   pub there : (place : ℕ) → place_of old t ≡ Some place → (result ≡ Ok (Some place)) × (new ≡ old)
   -- one that would pass a limit isn't kept, and isn't read

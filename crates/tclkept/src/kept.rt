@@ -17,8 +17,8 @@ use tclchars::TextFault;
 use tclexpr::OwnedExpr;
 use tclscript::OwnedScript;
 
-/// Texts that were evaluated as scripts, and texts that were evaluated as expressions, each with its tree: of each kind at most
-/// 1,024 texts with together 8,388,608 bytes.
+/// Texts that were evaluated as scripts, and texts that were evaluated as expressions, each with its tree: of each kind
+/// at most 1,024 texts with together 8,388,608 bytes.
 #[derive(Drop)]
 pub struct Kept {
     alloc: Global,
@@ -76,8 +76,8 @@ impl Kept {
         }
     }
 
-    /// The place of a text among the scripts, from 0. A text that isn't kept is parsed and added last; it is not, and None is the
-    /// answer, where the limits would be passed.
+    /// The place of a text among the scripts, from 0. A text that isn't kept is parsed and added last; it is not, and
+    /// None is the answer, where the limits would be passed.
     ///
     /// Errors: the fault of a text that would be added (2 to 9), and want of memory (1). Then nothing changes.
     pub fn script(&mut self, text: &str) -> Result<Option<usize>, TextFault>
@@ -98,8 +98,8 @@ impl Kept {
         Ok(Some(place))
     }
 
-    /// The tree of a script: that which is kept, or else one that is kept from now on, or is made for this call alone where the
-    /// limits would be passed.
+    /// The tree of a script: that which is kept, or else one that is kept from now on, or is made for this call alone
+    /// where the limits would be passed.
     ///
     /// Errors: the fault of the text (2 to 9), and want of memory (1). Then nothing changes.
     pub fn script_tree(&mut self, text: &str) -> Result<Rc<OwnedScript>, TextFault>
@@ -124,7 +124,8 @@ impl Kept {
         requires room { is_full self.old.expressions text.now ≡ false }
         ensures text { IfOk result (λ tree. string_bytes tree.value.text ≡ text.now) }
         ensures tree { Reads (λ tree. expression.owned_view tree.value) result (expr_of text.now) }
-        ensures added { IfOk result (λ tree. self.new.expressions ≡ self.old.expressions ++ (text.now, tree.value) ∷ []) }
+        ensures added { IfOk result (λ tree.
+            self.new.expressions ≡ self.old.expressions ++ (text.now, tree.value) ∷ []) }
         ensures others { self.new.scripts ≡ self.old.scripts }
         ensures err { OnErr result (self.new ≡ self.old) }
         ensures kept { AreKept self.new }
@@ -137,8 +138,8 @@ impl Kept {
         }
     }
 
-    /// The place of a text among the expressions, from 0. A text that isn't kept is parsed and added last; it is not, and None is the
-    /// answer, where the limits would be passed.
+    /// The place of a text among the expressions, from 0. A text that isn't kept is parsed and added last; it is not,
+    /// and None is the answer, where the limits would be passed.
     ///
     /// Errors: the fault of a text that would be added (2 to 9), and want of memory (1). Then nothing changes.
     pub fn expr(&mut self, text: &str) -> Result<Option<usize>, TextFault>
@@ -159,8 +160,8 @@ impl Kept {
         Ok(Some(place))
     }
 
-    /// The tree of an expression: that which is kept, or else one that is kept from now on, or is made for this call alone where the
-    /// limits would be passed.
+    /// The tree of an expression: that which is kept, or else one that is kept from now on, or is made for this call
+    /// alone where the limits would be passed.
     ///
     /// Errors: the fault of the text (2 to 9), and want of memory (1). Then nothing changes.
     pub fn expr_tree(&mut self, text: &str) -> Result<Rc<OwnedExpr>, TextFault>

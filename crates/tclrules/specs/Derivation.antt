@@ -1,5 +1,5 @@
--- Derivations: what a plan comes to, for every table of rules. A plan says what is counted, asked and run, and in which order; a table
--- gives a plan for each job. The oracle and the limit on commands stand here alone.
+-- Derivations: what a plan comes to, for every table of rules. A plan says what is counted, asked and run, and in which
+-- order; a table gives a plan for each job. The oracle and the limit on commands stand here alone.
 use Rattle.std.specs.Prelude.{◌≡◌, ℕ, ◌+◌, ◌<◌, ◌≤◌, ◌⊎◌, ◌||◌, Bool, true, false, List, Option}
 use Rattle.tclchars.specs.Runs.{Text}
 use Rattle.tclchars.specs.declared.fault.TextFault.{TextFault}
@@ -72,17 +72,28 @@ replied k (Unknown asks) = k NotKnown
 replied k (host.LeftOut name asks) = Ends (Halted (LeftOut name))
 replied k (Refused n asks) = Ends (Halted (ByHost n))
 
--- derivations: a plan comes from one world to an outcome and another world. Where it may starve, want of memory can end it anywhere;
--- a host that wants memory may have set the mark before
-pub data Eval {J R : Type 0} (starving : Bool) (oracle : Oracle) (most : ℕ) (rule : J → Plan J R) : Plan J R → World → Outcome R → World → Type 0 where
+-- derivations: a plan comes from one world to an outcome and another world. Where it may starve, want of memory can end
+-- it anywhere; a host that wants memory may have set the mark before
+pub data Eval {J R : Type 0} (starving : Bool) (oracle : Oracle) (most : ℕ) (rule : J → Plan J R) : Plan J R → World
+    → Outcome R → World → Type 0 where
   ends : {o : Outcome R} {w : World} → Eval starving oracle most rule (Ends o) w o w
-  counts : {p : Plan J R} {w w' : World} {o : Outcome R} → w.used < most → Eval starving oracle most rule p (count w) o w' → Eval starving oracle most rule (Counts p) w o w'
-  over : {p : Plan J R} {w : World} → most ≤ w.used → Eval starving oracle most rule (Counts p) w (Halted TooManyCommands) w
-  consults : {words : List Text} {k : Reply → Plan J R} {w w' : World} {o : Outcome R} → Eval starving oracle most rule (replied k (oracle.command w.told.records words)) (hear w (oracle.command w.told.records words)) o w' → Eval starving oracle most rule (Consults words k) w o w'
-  reads : {name : Text} {k : Option Text → Plan J R} {w w' : World} {o : Outcome R} → Eval starving oracle most rule (k (oracle.variable w.told.records name)) (ask w) o w' → Eval starving oracle most rule (Reads name k) w o w'
-  runs : {j : J} {k : R → Plan J R} {w w' w'' : World} {r : R} {o : Outcome R} → Eval starving oracle most rule (rule j) w (Ended r) w' → Eval starving oracle most rule (k r) w' o w'' → Eval starving oracle most rule (Runs j k) w o w''
-  halts : {j : J} {k : R → Plan J R} {w w' : World} {f : Halt} → Eval starving oracle most rule (rule j) w (Halted f) w' → Eval starving oracle most rule (Runs j k) w (Halted f) w'
-  starves : {p : Plan J R} {w : World} (asked : Bool) → starving ≡ true → Eval starving oracle most rule p w (Halted OutOfMemory) (perhaps_ask asked w)
+  counts : {p : Plan J R} {w w' : World} {o : Outcome R} → w.used < most
+      → Eval starving oracle most rule p (count w) o w' → Eval starving oracle most rule (Counts p) w o w'
+  over : {p : Plan J R} {w : World} → most ≤ w.used
+      → Eval starving oracle most rule (Counts p) w (Halted TooManyCommands) w
+  consults : {words : List Text} {k : Reply → Plan J R} {w w' : World} {o : Outcome R}
+      → Eval starving oracle most rule (replied k (oracle.command w.told.records words))
+      (hear w (oracle.command w.told.records words)) o w' → Eval starving oracle most rule (Consults words k) w o w'
+  reads : {name : Text} {k : Option Text → Plan J R} {w w' : World} {o : Outcome R}
+      → Eval starving oracle most rule (k (oracle.variable w.told.records name)) (ask w) o w'
+      → Eval starving oracle most rule (Reads name k) w o w'
+  runs : {j : J} {k : R → Plan J R} {w w' w'' : World} {r : R} {o : Outcome R}
+      → Eval starving oracle most rule (rule j) w (Ended r) w' → Eval starving oracle most rule (k r) w' o w''
+      → Eval starving oracle most rule (Runs j k) w o w''
+  halts : {j : J} {k : R → Plan J R} {w w' : World} {f : Halt} → Eval starving oracle most rule (rule j) w (Halted f) w'
+      → Eval starving oracle most rule (Runs j k) w (Halted f) w'
+  starves : {p : Plan J R} {w : World} (asked : Bool) → starving ≡ true
+      → Eval starving oracle most rule p w (Halted OutOfMemory) (perhaps_ask asked w)
 
 -- what a host is consulted for
 pub data Query : Type 0 where
@@ -90,7 +101,9 @@ pub data Query : Type 0 where
   Variable : Text → Query
 
 -- this holds of each consultation of a derivation, with the records so far
-abbrev pub Throughout : {J R : Type 0} {starving : Bool} {oracle : Oracle} {most : ℕ} {rule : J → Plan J R} {p : Plan J R} {w : World} {o : Outcome R} {w' : World} → (List Record → Query → Type 0) → Eval starving oracle most rule p w o w' → Type 0
+abbrev pub Throughout : {J R : Type 0} {starving : Bool} {oracle : Oracle} {most : ℕ} {rule : J → Plan J R}
+    {p : Plan J R} {w : World} {o : Outcome R} {w' : World} → (List Record → Query → Type 0)
+    → Eval starving oracle most rule p w o w' → Type 0
 Throughout Holds ends = Unit {0}
 Throughout Holds (counts h d) = Throughout Holds d
 Throughout Holds (over h) = Unit {0}
@@ -102,7 +115,8 @@ Throughout Holds (starves asked h) = Unit {0}
 
 -- the second oracle answers as the first does, or refuses
 abbrev pub AnswersOrRefuses : Oracle → Oracle → List Record → Query → Type 0
-AnswersOrRefuses first second records (Command words) = (second.command records words ≡ first.command records words) ⊎ ((n : ℕ) × (asks : Bool) × (second.command records words ≡ Refused n asks))
+AnswersOrRefuses first second records (Command words) = (second.command records words ≡ first.command records words)
+    ⊎ ((n : ℕ) × (asks : Bool) × (second.command records words ≡ Refused n asks))
 AnswersOrRefuses first second records (Variable name) = second.variable records name ≡ first.variable records name
 
 -- a consultation that isn't refused
@@ -118,10 +132,12 @@ asks oracle records (Variable name) = true
 -- where the first oracle is asked no question and doesn't refuse, the second answers as it does, or refuses
 abbrev pub AgreesUnasked : Oracle → Oracle → Type 0
 AgreesUnasked first second =
-    (records : List Record) (words : List Text) → is_question (first.command records words) ≡ false → is_refusal (first.command records words) ≡ false
+    (records : List Record) (words : List Text) → is_question (first.command records words) ≡ false
+    → is_refusal (first.command records words) ≡ false
     → AnswersOrRefuses first second records (Command words)
 
 -- records that the oracle's answers to commands make of others
 pub data Grows (oracle : Oracle) : List Record → List Record → Type 0 where
   none : {rs : List Record} → Grows oracle rs rs
-  more : {rs qs : List Record} (words : List Text) → Grows oracle (records_with rs (addition (oracle.command rs words))) qs → Grows oracle rs qs
+  more : {rs qs : List Record} (words : List Text)
+      → Grows oracle (records_with rs (addition (oracle.command rs words))) qs → Grows oracle rs qs

@@ -34,7 +34,8 @@ is_operator t = bytes_eq t (codes "eq") || bytes_eq t (codes "ne") || bytes_eq t
 
 abbrev pub function_named : Text → Option Text
 function_named t =
-    if begins_letter t && begins 40 (back is_name t) && not (is_operator (front is_name t)) then Some (front is_name t) else None
+    if begins_letter t && begins 40 (back is_name t) && not (is_operator (front is_name t)) then Some (front is_name t)
+    else None
 
 abbrev pub or_function : Text → Option Text → Option Text
 or_function t (Some rest) = Some (codes "**")
@@ -66,15 +67,18 @@ operand_value b (operands.bracket cs) s k = Runs (Bracket b.left cs s) (on_norma
 operand_value b (operands.quoted ps) s k = parts b ps [] s k
 operand_value b (operands.braced t) s k = k (braced_text t) s
 
--- an operator's operands from left to right; && and the double bar go on to the second operand, and ? to one of the others, by the truth of the first
+-- an operator's operands from left to right; && and the double bar go on to the second operand, and ? to one of the
+-- others, by the truth of the first
 abbrev pub expr : Bounds → Expr Operand → State → Next → Step
 expr b (operand o) s k = operand_value b o s (λ t s'. sized b.bytes t (k t s'))
 expr b (unary u e) s k = expr b e s (λ t s'. given (unary_value u t) s' (λ v. k v s'))
 expr b (binary o l r) s k = expr b l s (λ t s1. expr b r s1 (λ u s2. given (binary_value o t u) s2 (λ v. k v s2)))
 expr b (conjunction l r) s k =
-    expr b l s (λ t s1. given (truth t) s1 (elim [ true ↦ expr b r s1 (λ u s2. given (truth u) s2 (λ v. k (truth_text v) s2)) | false ↦ k (codes "0") s1 ]))
+    expr b l s (λ t s1. given (truth t) s1
+    (elim [ true ↦ expr b r s1 (λ u s2. given (truth u) s2 (λ v. k (truth_text v) s2)) | false ↦ k (codes "0") s1 ]))
 expr b (disjunction l r) s k =
-    expr b l s (λ t s1. given (truth t) s1 (elim [ true ↦ k (codes "1") s1 | false ↦ expr b r s1 (λ u s2. given (truth u) s2 (λ v. k (truth_text v) s2)) ]))
+    expr b l s (λ t s1. given (truth t) s1
+    (elim [ true ↦ k (codes "1") s1 | false ↦ expr b r s1 (λ u s2. given (truth u) s2 (λ v. k (truth_text v) s2)) ]))
 expr b (choice c y n) s k =
     expr b c s (λ t s1. given (truth t) s1 (elim [ true ↦ expr b y s1 k | false ↦ expr b n s1 k ]))
 
@@ -87,7 +91,8 @@ normal t numerals.Text = Ok t
 
 -- a text evaluated as an expression
 abbrev pub express : Bounds → Text → State → Next → Step
-express b t s k = given (parsed t (expr_of t)) s (λ e. expr b e s (λ v s'. given (normal v (numeral v)) s' (λ u. sized b.bytes u (k u s'))))
+express b t s k = given (parsed t (expr_of t)) s
+    (λ e. expr b e s (λ v s'. given (normal v (numeral v)) s' (λ u. sized b.bytes u (k u s'))))
 
 -- and as a condition
 abbrev pub decide : Bounds → Text → State → (Bool → State → Step) → Step

@@ -1,5 +1,6 @@
--- The forms of the core commands, as the head of each one's page shows them: what the words behind a command's name are, or what is
--- wrong with them. A wrong number of words comes first; of incr it is judged later, since a name that can't be written goes before it.
+-- The forms of the core commands, as the head of each one's page shows them: what the words behind a command's name
+-- are, or what is wrong with them. A wrong number of words comes first; of incr it is judged later, since a name that
+-- can't be written goes before it.
 use Rattle.std.specs.Prelude.{List, [], ◌∷◌, ◌++◌, Bool, true, false, ◌&&◌, nat_lt, length, if◌then◌else◌, Option, Some, None, Ok, Err, codes, bytes_eq}
 use Rattle.tclchars.specs.Runs.{Text, begins}
 use Rattle.tclvalue.specs.Faults.{Answer, ◌>>=◌, error, left_out}
@@ -47,7 +48,8 @@ after_dashes (w ∷ ws) = if bytes_eq w (codes "--") then ws else w ∷ ws
 
 abbrev pub unset_form : List Text → Answer Form
 unset_form [] = Ok (Unset false [])
-unset_form (w ∷ ws) = if bytes_eq w (codes "-nocomplain") then Ok (Unset true (after_dashes ws)) else Ok (Unset false (after_dashes (w ∷ ws)))
+unset_form (w ∷ ws) = if bytes_eq w (codes "-nocomplain") then Ok (Unset true (after_dashes ws))
+    else Ok (Unset false (after_dashes (w ∷ ws)))
 
 -- append v x..., lappend v x...
 abbrev pub append_form : List Text → Answer Form
@@ -245,7 +247,8 @@ abbrev pub to_stderr : Text → List Text → Answer Form
 to_stderr channel ws = if bytes_eq channel (codes "stderr") then Ok (Put ws) else Err (left_out (codes "puts"))
 
 abbrev pub without_newline : Text → Text → List Text → Answer Form
-without_newline option channel ws = if bytes_eq option (codes "-nonewline") then to_stderr channel ws else wrong (codes "puts")
+without_newline option channel ws = if bytes_eq option (codes "-nonewline") then to_stderr channel ws
+    else wrong (codes "puts")
 
 abbrev pub puts_form : List Text → Answer Form
 puts_form (t ∷ []) = Err (left_out (codes "puts"))

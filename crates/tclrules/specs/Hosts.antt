@@ -15,13 +15,18 @@ IsTold answer given old new = (answer ≡ given) × (new ≡ tell old answer)
 
 -- an answer to the words of a command. Want of memory leaves the records and messages, and the mark may be set
 abbrev pub Answers : Oracle → host.Record → HostAnswer → Told → Told → Type 0
-Answers oracle words (Done t) old new = (adds : Addition) × (asks : Bool) × IsTold (oracle.command old.records words) (host.Done (string_bytes t) adds asks) old new
-Answers oracle words Unknown old new = (asks : Bool) × IsTold (oracle.command old.records words) (host.Unknown asks) old new
-Answers oracle words (LeftOut name) old new = (asks : Bool) × IsTold (oracle.command old.records words) (host.LeftOut (string_bytes name) asks) old new
-Answers oracle words (Refused n) old new = (asks : Bool) × IsTold (oracle.command old.records words) (host.Refused n asks) old new
+Answers oracle words (Done t) old new = (adds : Addition) × (asks : Bool)
+    × IsTold (oracle.command old.records words) (host.Done (string_bytes t) adds asks) old new
+Answers oracle words Unknown old new = (asks : Bool)
+    × IsTold (oracle.command old.records words) (host.Unknown asks) old new
+Answers oracle words (LeftOut name) old new = (asks : Bool)
+    × IsTold (oracle.command old.records words) (host.LeftOut (string_bytes name) asks) old new
+Answers oracle words (Refused n) old new = (asks : Bool)
+    × IsTold (oracle.command old.records words) (host.Refused n asks) old new
 Answers oracle words OutOfMemory old new = (asked : Bool) × (new ≡ perhaps_asked asked old)
 
 -- the value of an environment variable
 abbrev pub Reads : Oracle → Text → Result (Option (String Global)) AllocError → Told → Told → Type 0
-Reads oracle name (Ok value) old new = (oracle.variable old.records name ≡ option_map string_bytes value) × (new ≡ ask_told old)
+Reads oracle name (Ok value) old new = (oracle.variable old.records name ≡ option_map string_bytes value)
+    × (new ≡ ask_told old)
 Reads oracle name (Err e) old new = (asked : Bool) × (new ≡ perhaps_asked asked old)

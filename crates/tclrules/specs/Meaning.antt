@@ -17,10 +17,11 @@ plan_of l script globals = file (min l.depth 200) script (start globals)
 abbrev pub first : Told → World
 first told = record { used = 0; told = told }
 
--- the outcome of a script with these global variables, and the world then, from what was told before. Want of memory may end it early
--- only where it may starve
+-- the outcome of a script with these global variables, and the world then, from what was told before. Want of memory
+-- may end it early only where it may starve
 abbrev pub Comes : Bool → Limits → Text → Variables → Oracle → Told → Outcome Ending → World → Type 0
-Comes starving l script globals oracle told o w = Eval starving oracle l.commands (rule l.value_bytes) (plan_of l script globals) (first told) o w
+Comes starving l script globals oracle told o w = Eval starving oracle l.commands (rule l.value_bytes)
+    (plan_of l script globals) (first told) o w
 
 -- the line, from 1, of a place in a script, which is a count of bytes before it
 abbrev pub line_at : Text → ℕ → ℕ
@@ -55,8 +56,10 @@ IsSameOrRefused o w o2 w2 = ((o2 ≡ o) × (w2 ≡ w)) ⊎ ((n : ℕ) × (o2 ≡
 
 -- what holds of records holds with what an answer adds
 abbrev pub Keeps : Oracle → (List Record → Bool) → Type 0
-Keeps oracle holds = (rs : List Record) (words : List Text) → holds rs ≡ true → holds (records_with rs (addition (oracle.command rs words))) ≡ true
+Keeps oracle holds = (rs : List Record) (words : List Text) → holds rs ≡ true
+    → holds (records_with rs (addition (oracle.command rs words))) ≡ true
 
 -- a script played, in so many steps of the longest way
 abbrev pub play_file : Setting → ℕ → Played Ending
-play_file s steps = play s.oracle s.limits.commands (rule s.limits.value_bytes) steps (plan_of s.limits s.script s.globals) (first s.told)
+play_file s steps = play s.oracle s.limits.commands (rule s.limits.value_bytes) steps
+    (plan_of s.limits s.script s.globals) (first s.told)

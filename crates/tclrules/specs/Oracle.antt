@@ -12,8 +12,8 @@ pub data Addition : Type 0 where
   Kept : Record → Addition
   Message : Text → Addition
 
--- an answer to the words of a command. Only what was done leaves something behind; the flag says that the command asks for the
--- environment, the mode, the shell, the name as it was typed or the modules that are loaded
+-- an answer to the words of a command. Only what was done leaves something behind; the flag says that the command asks
+-- for the environment, the mode, the shell, the name as it was typed or the modules that are loaded
 pub data Answer : Type 0 where
   Done : Text → Addition → Bool → Answer
   Unknown : Bool → Answer
@@ -61,4 +61,8 @@ messages_with messages (Message m) = messages ++ m ∷ []
 
 -- what is told after an answer
 abbrev pub tell : Told → Answer → Told
-tell t a = record { records = records_with t.records (addition a); messages = messages_with t.messages (addition a); asked = t.asked || is_question a }
+tell t a = record {
+  records = records_with t.records (addition a);
+  messages = messages_with t.messages (addition a);
+  asked = t.asked || is_question a;
+}

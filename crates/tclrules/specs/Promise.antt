@@ -13,11 +13,13 @@ use Rattle.tclrules.specs.declared.outcome.Ending.{Ending}
 use Rattle.tclrules.specs.declared.outcome.EvalFault.{EvalFault}
 use Rattle.tclrules.specs.declared.outcome.EvalFault.TheVariants as fault
 
--- the outcome of a script that a fault reports. The line of an error is that on which the script's own command at hand begins
+-- the outcome of a script that a fault reports. The line of an error is that on which the script's own command at hand
+-- begins
 abbrev pub ReportsFault : Text → EvalFault → Outcome plans.Ending → Type 0
 ReportsFault script fault.OutOfMemory o = o ≡ Halted OutOfMemory
 ReportsFault script (fault.Text f) o = o ≡ Halted (BadText f)
-ReportsFault script (fault.TclError m n) o = (s : State) × (o ≡ Ended (Raised (string_bytes m) s)) × (n ≡ line_at script s.place)
+ReportsFault script (fault.TclError m n) o = (s : State) × (o ≡ Ended (Raised (string_bytes m) s))
+    × (n ≡ line_at script s.place)
 ReportsFault script fault.TooManyCommands o = o ≡ Halted TooManyCommands
 ReportsFault script fault.TooDeep o = o ≡ Halted TooDeep
 ReportsFault script fault.ValueTooLong o = o ≡ Halted ValueTooLong
@@ -47,6 +49,8 @@ texts_of vs = map (λ v. (string_bytes v.0, string_bytes v.1)) vs
 -- what a call returned is what the script comes to, with what the host was told before and after
 abbrev pub Evaluates : Limits → Text → Variables → Oracle → Told → Result Ending EvalFault → Told → Type 0
 Evaluates l script globals oracle old (Ok e) new =
-    (s : State) × Comes false l script globals oracle old (Ended (Normal (string_bytes e.result) s)) (record { used = e.used_commands; told = new }) × (s.globals ≡ texts_of e.globals.items)
+    (s : State) × Comes false l script globals oracle old (Ended (Normal (string_bytes e.result) s))
+    (record { used = e.used_commands; told = new }) × (s.globals ≡ texts_of e.globals.items)
 Evaluates l script globals oracle old (Err f) new =
-    (o : Outcome plans.Ending) × (used : ℕ) × ReportsFault script f o × Comes (is_want_of_memory f) l script globals oracle old o (record { used = used; told = new })
+    (o : Outcome plans.Ending) × (used : ℕ) × ReportsFault script f o
+    × Comes (is_want_of_memory f) l script globals oracle old o (record { used = used; told = new })

@@ -1,4 +1,5 @@
--- The table of rules: what each form of command does (the page of each command), one clause a form, and what each job is.
+-- The table of rules: what each form of command does (the page of each command), one clause a form, and what each job
+-- is.
 use Rattle.std.specs.Prelude.{ℕ, List, [], ◌∷◌, ◌++◌, Bool, true, false, ◌&&◌, if◌then◌else◌, length, Option, Some, None, Result, Ok, Err, codes, bytes_eq, drop}
 use Rattle.std.specs.Fmt.{signed_decimal}
 use Rattle.std.specs.Option.{unwrap_or}
@@ -94,7 +95,8 @@ otherwise b (Some t) s k = body b t s (on_normal k)
 
 abbrev pub branches : Bounds → List (Text × Text) → Option Text → State → Next → Step
 branches b [] other s k = otherwise b other s k
-branches b (p ∷ ps) other s k = decide b p.0 s (elim [ true ↦ (λ s'. body b p.1 s' (on_normal k)) | false ↦ (λ s'. branches b ps other s' k) ])
+branches b (p ∷ ps) other s k = decide b p.0 s
+    (elim [ true ↦ (λ s'. body b p.1 s' (on_normal k)) | false ↦ (λ s'. branches b ps other s' k) ])
 
 -- what a turn of a loop goes on with: break ends the loop, continue the turn
 abbrev pub after_turn : (State → Step) → Ending → Step
@@ -118,12 +120,19 @@ turn b t s again = Counts (body b t s (after_turn again))
 
 -- the turns of a loop that are left
 abbrev pub while_turns : Bounds → Text → Text → State → Step
-while_turns b c t s = decide b c s (elim [ true ↦ (λ s'. turn b t s' (λ s''. Runs (job.While b.left c t s'') ended)) | false ↦ (λ s'. ended (Normal [] s')) ])
+while_turns b c t s = decide b c s
+    (elim [
+      | true ↦ (λ s'. turn b t s' (λ s''. Runs (job.While b.left c t s'') ended))
+      | false ↦ (λ s'. ended (Normal [] s'))
+    ])
 
 abbrev pub for_turns : Bounds → Text → Text → Text → State → Step
 for_turns b c n t s =
     decide b c s
-    (elim [ true ↦ (λ s1. turn b t s1 (λ s2. body b n s2 (after_next (λ s3. Runs (job.For b.left c n t s3) ended)))) | false ↦ (λ s1. ended (Normal [] s1)) ])
+    (elim [
+      | true ↦ (λ s1. turn b t s1 (λ s2. body b n s2 (after_next (λ s3. Runs (job.For b.left c n t s3) ended))))
+      | false ↦ (λ s1. ended (Normal [] s1))
+    ])
 
 -- foreach: the names of each list, one at least, and its items are judged before the first turn
 abbrev pub named : List Text → Answer (List Text)
@@ -132,7 +141,8 @@ named (v ∷ vs) = Ok (v ∷ vs)
 
 abbrev pub loops : List (Text × Text) → Answer (List Items)
 loops [] = Ok []
-loops (p ∷ ps) = elements_of p.0 >>= named >>= (λ vs. elements_of p.1 >>= (λ es. loops ps >>= (λ ls. Ok ((vs, es) ∷ ls))))
+loops (p ∷ ps) = elements_of p.0 >>= named
+    >>= (λ vs. elements_of p.1 >>= (λ es. loops ps >>= (λ ls. Ok ((vs, es) ∷ ls))))
 
 -- the variables of a turn with their items; missing ones are empty
 abbrev pub pairs : List Text → List Text → List (Text × Text)
@@ -175,7 +185,8 @@ falls t (p ∷ ps) = if bytes_eq t (codes "-") then falls p.1 ps else t
 
 abbrev pub chosen : Bool → Text → List (Text × Text) → Option Text
 chosen by_glob t [] = None
-chosen by_glob t (p ∷ ps) = if is_default p.0 ps then Some p.1 else if fits by_glob t p.0 then Some (falls p.1 ps) else chosen by_glob t ps
+chosen by_glob t (p ∷ ps) = if is_default p.0 ps then Some p.1 else if fits by_glob t p.0 then Some (falls p.1 ps)
+    else chosen by_glob t ps
 
 -- catch: a code, and the result or the message in the variable
 abbrev pub catch_into : Bounds → Option Text → Text → Text → State → Next → Step
@@ -236,7 +247,8 @@ new_frame = Some (record { own = []; shared = [] })
 
 abbrev pub call : Bounds → Text → Procedure → List Text → State → Next → Step
 call b name p ws s k =
-    given (allotted name p.parameters ws) s (λ vs. assign b vs (in_frame s new_frame) (λ s'. body b p.body s' (after_call s.frame k)))
+    given (allotted name p.parameters ws) s
+    (λ vs. assign b vs (in_frame s new_frame) (λ s'. body b p.body s' (after_call s.frame k)))
 
 -- Commands
 
@@ -251,16 +263,19 @@ form b (Get v) s k = read v s k
 form b (Set v x) s k = write b v x s k
 form b (Unset quiet vs) s k = unset quiet vs s (k [])
 form b (Append v xs) s k = given (writable s v) s (λ p. write_at b p (value_or [] s p ++ joined [] xs) s k)
-form b (ListAppend v xs) s k = given (writable s v) s (λ p. given (lengthened (value_or [] s p) xs) s (λ t. write_at b p t s k))
+form b (ListAppend v xs) s k = given (writable s v) s
+    (λ p. given (lengthened (value_or [] s p) xs) s (λ t. write_at b p t s k))
 form b (Increase v ns) s k =
-    given (writable s v) s (λ p. given (increase_of ns >>= increased (value_or (codes "0") s p)) s (λ t. write_at b p t s k))
+    given (writable s v) s (λ p. given (increase_of ns >>= increased (value_or (codes "0") s p)) s
+    (λ t. write_at b p t s k))
 form b (Express xs) s k = sized b.bytes (concatenated xs) (express b (concatenated xs) s k)
 form b (If ps other) s k = branches b ps other s k
 form b (While c t) s k = Runs (job.While b.left c t s) (on_normal k)
 form b (For t c n u) s k = body b t s (on_normal (λ v s'. Runs (job.For b.left c n u s') (on_normal k)))
 form b (Foreach ps t) s k = given (loops ps) s (λ ls. Runs (job.Foreach b.left ls t s) (on_normal k))
 form b (Switch by_glob t ps) s k = otherwise b (chosen by_glob t ps) s k
-form b (Define name args t) s k = given (unless_kept name (elements_of args >>= parameters)) s (λ ps. k [] (with_procedure s name (record { parameters = ps; body = t })))
+form b (Define name args t) s k = given (unless_kept name (elements_of args >>= parameters)) s
+    (λ ps. k [] (with_procedure s name (record { parameters = ps; body = t })))
 form b (Return t) s k = ended (Returned t s)
 form b Break s k = ended (Broken s)
 form b Continue s k = ended (Continued s)
@@ -295,13 +310,15 @@ called b (name ∷ ws) s k = given (command_value (name ∷ ws) b.bytes) s (valu
 -- the rest of a script, after a command with this result. A command is counted before its words are looked at
 abbrev pub commands : Bounds → Commands → Text → State → Step
 commands b no_commands t s = ended (Normal t s)
-commands b (command place source ws cs) t s = Counts (words b ws [] s (λ texts s1. called b texts s1 (λ u s2. sized b.bytes u (commands b cs u s2))))
+commands b (command place source ws cs) t s = Counts
+    (words b ws [] s (λ texts s1. called b texts s1 (λ u s2. sized b.bytes u (commands b cs u s2))))
 
 -- the same of a file, of which the state keeps where the command at hand stands
 abbrev pub file_commands : Bounds → Commands → Text → State → Step
 file_commands b no_commands t s = ended (Normal t s)
 file_commands b (command place source ws cs) t s =
-    Counts (words b ws [] (record s { place = place }) (λ texts s1. called b texts s1 (λ u s2. sized b.bytes u (file_commands b cs u s2))))
+    Counts (words b ws [] (record s { place = place })
+    (λ texts s1. called b texts s1 (λ u s2. sized b.bytes u (file_commands b cs u s2))))
 
 abbrev pub parsed : Result Commands TextFault → (Commands → Step) → Step
 parsed (Ok cs) k = k cs

@@ -101,7 +101,8 @@ HostStops l script h = Sees (recorded l script) (Halts h)
 
 -- it is told these records and messages, and is asked or not
 abbrev pub HostIsTold : Text → List Record → List Text → Bool → Type 0
-HostIsTold script records messages asked = Shows (recorded standard script) told_to (record { records = records; messages = messages; asked = asked })
+HostIsTold script records messages asked = Shows (recorded standard script) told_to
+    (record { records = records; messages = messages; asked = asked })
 
 -- the words of a setenv
 abbrev pub setting : Text → Text → Record

@@ -1,4 +1,5 @@
--- Variables, and where their names lead (Tcl(n), rule 7; global(n), variable(n); the element of an array is of env alone).
+-- Variables, and where their names lead (Tcl(n), rule 7; global(n), variable(n); the element of an array is of env
+-- alone).
 use Rattle.std.specs.Prelude.{ℕ, List, [], ◌∷◌, Bool, true, false, not, ◌||◌, ◌&&◌, ◌==◌, ◌-◌, length, take, reverse, if◌then◌else◌, Option, Some, None, Ok, Err, codes, bytes_eq}
 use Rattle.std.specs.List.{list_any}
 use Rattle.tclchars.specs.Runs.{Text, front, back, begins}
@@ -40,8 +41,8 @@ pub record Procedure : Type 0 where
   pub parameters : List Parameter
   pub body : Text
 
--- what an evaluation keeps: the global variables, the frame of the procedure that runs, if one does, the procedures by name, and
--- where in the file its command at hand begins, in bytes from the file's front
+-- what an evaluation keeps: the global variables, the frame of the procedure that runs, if one does, the procedures by
+-- name, and where in the file its command at hand begins, in bytes from the file's front
 pub record State : Type 0 where
   pub globals : Variables
   pub frame : Option Frame
@@ -56,13 +57,15 @@ in_frame s f = record s { frame = f }
 
 -- Names
 
--- a name taken apart: n(i) is n and the index i, where the parenthesis is the first and the name ends with one that closes
+-- a name taken apart: n(i) is n and the index i, where the parenthesis is the first and the name ends with one that
+-- closes
 abbrev pub parted : Text → Text → Text × Option Text
 parted n [] = (n, None)
 parted n (b ∷ bs) = (n, Some (take (length bs - 1) bs))
 
 abbrev pub apart : Text → Text × Option Text
-apart name = if begins 41 (reverse name) then parted (front (λ b. not (b == 40)) name) (back (λ b. not (b == 40)) name) else (name, None)
+apart name = if begins 41 (reverse name) then parted (front (λ b. not (b == 40)) name) (back (λ b. not (b == 40)) name)
+    else (name, None)
 
 -- two colons stand somewhere
 abbrev pub has_colons : Text → Bool

@@ -18,8 +18,8 @@ pub fn some_outcome()
     ensures { (s : Setting) → (o : Outcome Ending) × (w : World) × ComesTo s o w }
 {}
 
-/// Under another limit on commands an outcome that isn't this limit's is the same from its count on, and below it the limit
-/// is met.
+/// Under another limit on commands an outcome that isn't this limit's is the same from its count on, and below it the
+/// limit is met.
 pub fn other_limit()
     ensures same { (s : Setting) (o : Outcome Ending) (w : World) (n : ℕ)
         → ComesTo s o w → ¬ (o ≡ Halted TooManyCommands) → w.used ≤ n → ComesTo (limited_to n s) o w }
@@ -34,9 +34,9 @@ pub fn endless()
         → HasNoEnd s → (w : World) × ComesTo (limited_to n s) (Halted TooManyCommands) w }
 {}
 
-/// Where a second oracle answers each consultation of an evaluation as the first does, or refuses it, the outcome is the
-/// same, or a refusal. Where nothing was asked and the host refused nothing, it is enough that it does so where the first is
-/// asked no question and doesn't refuse.
+/// Where a second oracle answers each consultation of an evaluation as the first does, or refuses it, the outcome is
+/// the same, or a refusal. Where nothing was asked and the host refused nothing, it is enough that it does so where the
+/// first is asked no question and doesn't refuse.
 pub fn two_oracles()
     ensures each { (s : Setting) (second : Oracle) (o o2 : Outcome Ending) (w w2 : World) (d : ComesTo s o w)
         → Throughout (AnswersOrRefuses s.oracle second) d → ComesTo (with_oracle second s) o2 w2
@@ -58,8 +58,8 @@ pub fn unrefused()
         → ((n : ℕ) → ¬ (o ≡ Halted (ByHost n))) → Throughout (IsUnrefused s.oracle) d }
 {}
 
-/// The records grow by the oracle's answers alone. So what holds of those at first, and is kept by each answer's addition,
-/// holds of the last.
+/// The records grow by the oracle's answers alone. So what holds of those at first, and is kept by each answer's
+/// addition, holds of the last.
 pub fn grown()
     ensures grows { (s : Setting) (o : Outcome Ending) (w : World)
         → ComesTo s o w → Grows s.oracle s.told.records w.told.records }

@@ -8,8 +8,8 @@ use std::alloc::{AllocError, AllocFailed};
 use tclchars::TextFault;
 use thiserror::Error;
 
-/// How a script ended: its result, the global variables in the order of their making, and how many commands and turns of loops
-/// were counted.
+/// How a script ended: its result, the global variables in the order of their making, and how many commands and turns
+/// of loops were counted.
 #[derive(Drop)]
 pub struct Ending {
     pub result: String,

@@ -8,8 +8,8 @@ ghost use Rattle.tclrules.specs.Variables.{lookup};
 use crate::host::{Host, HostAnswer};
 use std::alloc::{AllocError, Global};
 
-/// Keeps the words of each `setenv` and what each `puts` says, tells its mode where `mode` asks for it, refuses `conflict` by 51,
-/// and knows no other command. Its environment stays as it is.
+/// Keeps the words of each `setenv` and what each `puts` says, tells its mode where `mode` asks for it, refuses
+/// `conflict` by 51, and knows no other command. Its environment stays as it is.
 #[derive(Drop)]
 pub struct Recorder {
     pub alloc: Global,

@@ -19,7 +19,8 @@ pub fn profile_rows()
     ensures matched { Results (codes "string match {*.[ch]} x.c") (codes "1") 1 }
     ensures expr { Results (codes "expr {\"abc\" < \"abd\" && !false}") (codes "1") 1 }
     ensures proc { Results (codes "proc f {a {b 2} args} {return $a$b$args}; f 1") (codes "12") 3 }
-    ensures outside_loop { Results (codes "proc g {} {break}; catch {g} m; set m") (codes "invoked \"break\" outside of a loop") 5 }
+    ensures outside_loop { Results (codes "proc g {} {break}; catch {g} m; set m")
+        (codes "invoked \"break\" outside of a loop") 5 }
     ensures eval { Stops standard (codes "catch {eval x}") (LeftOut (codes "eval")) }
 {}
 
@@ -49,7 +50,8 @@ pub fn number_rows()
 /// Forms of commands, where their order or their reach shows.
 pub fn form_rows()
     ensures global_name { Results (codes "set ::: 1; set :::") (codes "1") 2 }
-    ensures loop_in_loop { Results (codes "set r {}; while 1 {append r a; while {[break]} {}; append r b}; set r") (codes "a") 7 }
+    ensures loop_in_loop { Results (codes "set r {}; while 1 {append r a; while {[break]} {}; append r b}; set r")
+        (codes "a") 7 }
     ensures broken_between_turns { Results (codes "set r {}; for {} 1 {break} {append r x}; set r") (codes "x") 6 }
     ensures caught_return { Results (codes "set a [catch {return x} m]$m; set a") (codes "2x") 4 }
     ensures caught_break { Results (codes "catch {break}") (codes "3") 2 }
@@ -77,14 +79,19 @@ pub fn form_rows()
     ensures default_last_only { Results (codes "switch c default {list 1} c {list 2}") (codes "2") 2 }
     ensures last_option { Results (codes "switch -glob -exact -- a {? 1 a {list 2}}") (codes "2") 2 }
     ensures counted_before_words { Results (codes "catch {set a $x}") (codes "1") 2 }
-    ensures next_is_no_turn { Results (codes "for {set i 0} {$i < 3} {incr i} {if {$i == 1} continue; lappend r $i}; set r") (codes "0 2") 15 }
-    ensures continue_between_turns { Results (codes "set r {}; while 1 {append r a; if {$r eq \"aaa\"} break; for {} 1 {continue} {}}; set r") (codes "aaa") 19 }
+    ensures next_is_no_turn { Results
+        (codes "for {set i 0} {$i < 3} {incr i} {if {$i == 1} continue; lappend r $i}; set r") (codes "0 2") 15 }
+    ensures continue_between_turns { Results
+        (codes "set r {}; while 1 {append r a; if {$r eq \"aaa\"} break; for {} 1 {continue} {}}; set r")
+        (codes "aaa") 19 }
     ensures expanded_list { Results (codes "set a {b c}; list {*}$a d") (codes "b c d") 2 }
     ensures substituted_once { Results (codes "set a {$b}; set c \"x${a}y\"") (codes "x$by") 2 }
     ensures args_not_last { Results (codes "proc f {args x} {list $args $x}; f a b") (codes "a b") 3 }
-    ensures default_with_list { Results (codes "proc f {{a {x y}} args} {list $a $args}; f; f 1 2 3") (codes "1 {2 3}") 5 }
+    ensures default_with_list { Results (codes "proc f {{a {x y}} args} {list $a $args}; f; f 1 2 3")
+        (codes "1 {2 3}") 5 }
     ensures made_anew { Results (codes "proc f {} {list 1}; proc f {} {list 2}; f") (codes "2") 4 }
-    ensures unset_alone { Results (codes "unset -nocomplain a; unset -- ; set a 1; unset a; info exists a") (codes "0") 5 }
+    ensures unset_alone { Results (codes "unset -nocomplain a; unset -- ; set a 1; unset a; info exists a")
+        (codes "0") 5 }
     ensures sum_of_incr { Results (codes "incr a 5; incr a -2; incr a") (codes "4") 3 }
     ensures joined_lines_in_braces { Results (codes "set x {a\\\n   b}") (codes "a b") 1 }
     ensures joined_lines_in_operand { Results (codes "expr \"{a\\\\\\n b}\"") (codes "a b") 1 }
@@ -94,15 +101,18 @@ pub fn form_rows()
     ensures shared_at_the_file { Results (codes "global a(b) a::b env(X)") [] 1 }
     ensures shared_alone { Results (codes "proc f {} {global}; f") [] 3 }
     ensures own_is_gone { Results (codes "proc f {} {set x 1; global x; info exists x}; f") (codes "0") 5 }
-    ensures shared_is_unset { Results (codes "set x 1; proc f {} {global x; unset x; set x 2}; f; set x") (codes "2") 7 }
+    ensures shared_is_unset { Results (codes "set x 1; proc f {} {global x; unset x; set x 2}; f; set x")
+        (codes "2") 7 }
     ensures result_of_catch { Results (codes "catch {set a 5} m; set m") (codes "5") 3 }
     ensures nothing_of_break { Results (codes "set m x; catch break m; set m") [] 4 }
     ensures body_is_last { Results (codes "if 0 {list 1} {list 2}") (codes "2") 2 }
     ensures no_branch { Results (codes "if 0 {list 1}") [] 1 }
     ensures body_named_then { Results (codes "proc then {} {list 7}; if 1 then then") (codes "7") 4 }
-    ensures branches_in_order { Results (codes "if 0 {list 1} elseif 1 {list 2} elseif 1 {list 3} else {list 4}") (codes "2") 2 }
+    ensures branches_in_order { Results (codes "if 0 {list 1} elseif 1 {list 2} elseif 1 {list 3} else {list 4}")
+        (codes "2") 2 }
     ensures start_of_for { Results (codes "for {set i 5} 0 {} {}; set i") (codes "5") 3 }
-    ensures continue_in_a_condition { Results (codes "set r {}; foreach x {1 2} {append r $x; while {[continue]} {}; append r y}; set r") (codes "12") 11 }
+    ensures continue_in_a_condition { Results
+        (codes "set r {}; foreach x {1 2} {append r $x; while {[continue]} {}; append r y}; set r") (codes "12") 11 }
     ensures missing_items { Results (codes "foreach {a b} {1} {lappend r $a $b}; set r") (codes "1 {}") 4 }
     ensures empty_list { Results (codes "foreach a {} {error x}") [] 1 }
     ensures last_word_of_args { Results (codes "proc f {a args} {list $a $args}; f 1") (codes "1 {}") 3 }
@@ -116,11 +126,14 @@ pub fn form_rows()
     ensures made_by_lappend { Results (codes "lappend a; info exists a") (codes "1") 2 }
     ensures lappend_elements { Results (codes "lappend a {b c} d; lappend a e") (codes "{b c} d e") 2 }
     ensures default_added { Results (codes "incr a") (codes "1") 1 }
-    ensures value_before_addend { Results (codes "set a x; catch {incr a y} m; set m") (codes "expected whole number but got \"x\"") 4 }
-    ensures unset_option_as_name { Results (codes "set -nocomplain 1; unset -- -nocomplain; info exists -nocomplain") (codes "0") 3 }
+    ensures value_before_addend { Results (codes "set a x; catch {incr a y} m; set m")
+        (codes "expected whole number but got \"x\"") 4 }
+    ensures unset_option_as_name { Results (codes "set -nocomplain 1; unset -- -nocomplain; info exists -nocomplain")
+        (codes "0") 3 }
     ensures unset_nothing { Results (codes "unset") [] 1 }
     ensures both_options { Results (codes "unset -nocomplain -- a") [] 1 }
-    ensures pattern_default_in_the_middle { Results (codes "switch default {a {list 1} default {list 2} b {list 3}}") (codes "2") 2 }
+    ensures pattern_default_in_the_middle { Results (codes "switch default {a {list 1} default {list 2} b {list 3}}")
+        (codes "2") 2 }
     ensures fitting_nothing { Results (codes "switch a {b {list 1}}") [] 1 }
     ensures exact_by_default { Results (codes "switch a* {a* {list 1} default {list 2}}") (codes "1") 2 }
     ensures no_option_behind_two_words { Results (codes "switch -a {-a {list 1}}") (codes "1") 2 }
@@ -155,7 +168,8 @@ pub fn message_rows()
     ensures not_a_list { Raises (codes "foreach x \"\\{\" {}") (codes "not a list") }
     ensures odd_pairs { Raises (codes "switch a {a b c}") (codes "not a list") }
     ensures bad_parameter { Raises (codes "proc f {{a b c}} {}") (codes "not a list") }
-    ensures outside_of_a_loop { Raises (codes "proc g {} {continue}; g") (codes "invoked \"continue\" outside of a loop") }
+    ensures outside_of_a_loop { Raises (codes "proc g {} {continue}; g")
+        (codes "invoked \"continue\" outside of a loop") }
     ensures bad_option { Raises (codes "switch -5 a {}") (codes "bad option \"-5\"") }
     ensures no_body { Raises (codes "switch a {a {list 1} b -}") (codes "no body for pattern \"b\"") }
     ensures no_loop_variable { Raises (codes "foreach {} {1 2} {}") (codes "no variable for foreach") }
@@ -170,7 +184,8 @@ pub fn message_rows()
     ensures taken_by_a_value_command { Raises (codes "proc string {} {}") (codes "can't redefine \"string\"") }
     ensures taken_by_a_left_out_command { Raises (codes "proc module {} {}") (codes "can't redefine \"module\"") }
     ensures taken_before_its_parameters { Raises (codes "proc set \"{\" {}") (codes "can't redefine \"set\"") }
-    ensures words_of_unset { Raises (codes "unset -nocomplain a b; unset a b") (codes "can't unset \"a\": no such variable") }
+    ensures words_of_unset { Raises (codes "unset -nocomplain a b; unset a b")
+        (codes "can't unset \"a\": no such variable") }
     ensures words_of_incr { Raises (codes "incr a 1 2") (codes "wrong # args for \"incr\"") }
     ensures words_of_expr { Raises (codes "expr") (codes "wrong # args for \"expr\"") }
     ensures words_of_foreach { Raises (codes "foreach a b") (codes "wrong # args for \"foreach\"") }
@@ -188,7 +203,8 @@ pub fn message_rows()
     ensures spelled_name { Raises (codes "set ::x") (codes "can't read \"::x\": no such variable") }
     ensures spelled_element { Raises (codes "set env(HOME)") (codes "can't read \"env(HOME)\": no such variable") }
     ensures spelled_unset { Raises (codes "unset ::x") (codes "can't unset \"::x\": no such variable") }
-    ensures whole_environment_in_a_procedure { Raises (codes "proc f {} {set env}; f") (codes "can't read \"env\": no such variable") }
+    ensures whole_environment_in_a_procedure { Raises (codes "proc f {} {set env}; f")
+        (codes "can't read \"env\": no such variable") }
     ensures not_a_list_expanded { Raises (codes "list {*}\"{\"") (codes "not a list") }
     ensures not_a_list_lengthened { Raises (codes "set v \"{\"; lappend v a") (codes "not a list") }
     ensures names_before_lists { Raises (codes "foreach {} \"{\" {}") (codes "no variable for foreach") }
@@ -245,15 +261,18 @@ pub fn refused_rows()
 /// Texts and scripts that nest past a limit, and up to it.
 pub fn hostile_rows()
     ensures many_signs { Results (codes "expr {" ++ (repeat 200 (codes "-") ++ codes "1}")) (codes "1") 1 }
-    ensures too_many_signs { Stops standard (codes "expr {" ++ (repeat 201 (codes "-") ++ codes "1}")) (BadText text.TooDeep) }
+    ensures too_many_signs { Stops standard (codes "expr {" ++ (repeat 201 (codes "-") ++ codes "1}"))
+        (BadText text.TooDeep) }
     ensures deep_scripts { Stops standard (repeat 200 (codes "[") ++ repeat 200 (codes "]")) TooDeep }
     ensures deep_text { Stops standard (repeat 201 (codes "[") ++ repeat 201 (codes "]")) (BadText text.TooDeep) }
-    ensures open_brackets { Stops standard (codes "#%Module\n" ++ repeat 100 (codes "[")) (BadText (text.OpenBracket 108)) }
+    ensures open_brackets { Stops standard (codes "#%Module\n" ++ repeat 100 (codes "["))
+        (BadText (text.OpenBracket 108)) }
 {}
 
 /// What small limits on depth and on values stop, and where.
 pub fn limit_rows()
-    ensures counted_before_its_words { Stops (with_commands 4) (codes "catch {set a $x}; set b [list [list]]") TooManyCommands }
+    ensures counted_before_its_words { Stops (with_commands 4)
+        (codes "catch {set a $x}; set b [list [list]]") TooManyCommands }
     ensures bodies_count_for_depth { Stops (with_depth 3) (codes "if 1 {if 1 {if 1 {}}}") TooDeep }
     ensures brackets_count_for_depth { Stops (with_depth 3) (codes "list [list [list [list]]]") TooDeep }
     ensures depth_before_text { Stops (with_depth 3) (codes "if 1 {if 1 {if 1 \"\\\"\"}}") TooDeep }
@@ -267,8 +286,10 @@ pub fn limit_rows()
     ensures bound_words { Stops (with_bytes 10) (codes "proc f args {}; f 12345 67890") ValueTooLong }
     ensures quoted_operand { Stops (with_bytes 10) (codes "set a 12345; expr {\"$a$a$a\"}") ValueTooLong }
     ensures joined_expression { Stops (with_bytes 10) (codes "expr 12345 + 67890") ValueTooLong }
-    ensures depth_is_at_most_200 { Stops (with_depth 300) (codes "proc f n {if {$n} {f [expr {$n-1}]}}; f 120") TooDeep }
-    ensures turn_before_depth { Stops (record standard { commands = 1; depth = 1 }) (codes "while 1 {}") TooManyCommands }
+    ensures depth_is_at_most_200 { Stops (with_depth 300)
+        (codes "proc f n {if {$n} {f [expr {$n-1}]}}; f 120") TooDeep }
+    ensures turn_before_depth { Stops (record standard { commands = 1; depth = 1 })
+        (codes "while 1 {}") TooManyCommands }
     ensures depth_behind_a_turn { Stops (record standard { commands = 2; depth = 1 }) (codes "while 1 {}") TooDeep }
     ensures words_before_depth { Stops (with_depth 1) (codes "proc f a {}; f 1") TooDeep }
     ensures long_index { Stops (with_bytes 10) (codes "set a 12345; set b $x($a$a$a)") ValueTooLong }
@@ -282,29 +303,40 @@ pub fn limit_rows()
 /// What the example host is told, and whether it was asked.
 pub fn told_rows()
     ensures kept_record { HostIsTold (codes "setenv ME x") (setting (codes "ME") (codes "x") ∷ []) [] false }
-    ensures kept_before_an_error { HostIsTold (codes "catch {setenv A 1; error x}; setenv B 2") (setting (codes "A") (codes "1") ∷ setting (codes "B") (codes "2") ∷ []) [] false }
-    ensures kept_before_a_fault { HostIsTold (codes "catch {setenv A 1} a(b)") (setting (codes "A") (codes "1") ∷ []) [] false }
-    ensures kept_before_a_refusal { HostIsTold (codes "setenv A 1; catch {conflict b}; setenv B 2") (setting (codes "A") (codes "1") ∷ []) [] false }
-    ensures asked_mode { HostIsTold (codes "if {[mode] eq \"unload\"} {setenv A 1}") (setting (codes "A") (codes "1") ∷ []) [] true }
-    ensures asked_environment { HostIsTold (codes "proc p {} {return [info exists ::env(PATH)]}; if {[p]} {setenv X 1}") [] [] true }
-    ensures environment_out_of_sight { HostIsTold (codes "proc p {} {info exists env(HOME)}; if {[p]} {setenv X 1}") [] [] false }
+    ensures kept_before_an_error { HostIsTold (codes "catch {setenv A 1; error x}; setenv B 2")
+        (setting (codes "A") (codes "1") ∷ setting (codes "B") (codes "2") ∷ []) [] false }
+    ensures kept_before_a_fault { HostIsTold (codes "catch {setenv A 1} a(b)")
+        (setting (codes "A") (codes "1") ∷ []) [] false }
+    ensures kept_before_a_refusal { HostIsTold (codes "setenv A 1; catch {conflict b}; setenv B 2")
+        (setting (codes "A") (codes "1") ∷ []) [] false }
+    ensures asked_mode { HostIsTold (codes "if {[mode] eq \"unload\"} {setenv A 1}")
+        (setting (codes "A") (codes "1") ∷ []) [] true }
+    ensures asked_environment { HostIsTold
+        (codes "proc p {} {return [info exists ::env(PATH)]}; if {[p]} {setenv X 1}") [] [] true }
+    ensures environment_out_of_sight { HostIsTold
+        (codes "proc p {} {info exists env(HOME)}; if {[p]} {setenv X 1}") [] [] false }
     ensures whole_environment_exists { HostIsTold (codes "info exists env") [] [] false }
-    ensures environment_not_read { HostIsTold (codes "proc p {} {catch {set env(HOME)}; catch {expr {$env(HOME)}}}; p") [] [] false }
+    ensures environment_not_read { HostIsTold
+        (codes "proc p {} {catch {set env(HOME)}; catch {expr {$env(HOME)}}}; p") [] [] false }
     ensures environment_read { HostIsTold (codes "catch {set a $env(HOME)}") [] [] true }
-    ensures said { HostIsTold (codes "puts stderr hi; puts -nonewline stderr {a b}") [] ((codes "hi\n") ∷ (codes "a b") ∷ []) false }
-    ensures said_in_catch { HostIsTold (codes "catch {puts stderr x; error y}; setenv A 1") (setting (codes "A") (codes "1") ∷ []) ((codes "x\n") ∷ []) false }
+    ensures said { HostIsTold (codes "puts stderr hi; puts -nonewline stderr {a b}") []
+        ((codes "hi\n") ∷ (codes "a b") ∷ []) false }
+    ensures said_in_catch { HostIsTold (codes "catch {puts stderr x; error y}; setenv A 1")
+        (setting (codes "A") (codes "1") ∷ []) ((codes "x\n") ∷ []) false }
     ensures not_said { HostIsTold (codes "catch {puts stdout x}") [] [] false }
 {}
 
 /// What the example host gives, and its environment.
 pub fn host_rows()
     ensures variable_of_the_environment { HostResults (codes "set a $env(HOME)") (codes "/home/me") 1 }
-    ensures shared_environment { HostResults (codes "proc f {} {global env; return $env(HOME)}; f") (codes "/home/me") 4 }
+    ensures shared_environment { HostResults (codes "proc f {} {global env; return $env(HOME)}; f")
+        (codes "/home/me") 4 }
     ensures environment_there { HostResults (codes "info exists env(HOME)") (codes "1") 1 }
     ensures environment_by_a_name { HostResults (codes "set n env(HOME); set $n") (codes "/home/me") 2 }
     ensures result_of_puts { HostResults (codes "puts stderr hi") [] 1 }
     ensures result_of_a_command { HostResults (codes "list [mode] x") (codes "unload x") 2 }
-    ensures unknown_command { HostResults (codes "catch {nosuch x} m; set m") (codes "invalid command name \"nosuch\"") 3 }
+    ensures unknown_command { HostResults (codes "catch {nosuch x} m; set m")
+        (codes "invalid command name \"nosuch\"") 3 }
     ensures refused_in_catch { HostStops standard (codes "catch {conflict b}") (ByHost 51) }
     ensures long_answer { HostStops (with_bytes 5) (codes "mode") ValueTooLong }
     ensures long_variable { HostStops (with_bytes 7) (codes "set a $::env(HOME)") ValueTooLong }
@@ -313,25 +345,37 @@ pub fn host_rows()
 
 /// Variables that a script is given, and those that it leaves.
 pub fn variable_rows()
-    ensures made_in_order { Leaves [] (codes "set b 1; set a 2; set b 3") (((codes "b"), (codes "3")) ∷ ((codes "a"), (codes "2")) ∷ []) }
-    ensures given_in_order { Leaves (((codes "x"), (codes "1")) ∷ ((codes "y"), (codes "2")) ∷ ((codes "x"), (codes "3")) ∷ []) (codes "set z $x") (((codes "x"), (codes "3")) ∷ ((codes "y"), (codes "2")) ∷ ((codes "z"), (codes "3")) ∷ []) }
-    ensures made_again { Leaves (((codes "x"), (codes "1")) ∷ ((codes "y"), (codes "2")) ∷ []) (codes "unset x; set x 3") (((codes "y"), (codes "2")) ∷ ((codes "x"), (codes "3")) ∷ []) }
-    ensures made_by_a_procedure { Leaves [] (codes "proc f {a} {global c; set b $a; set c $b; set ::d 4}; f 1") (((codes "c"), (codes "1")) ∷ ((codes "d"), (codes "4")) ∷ []) }
+    ensures made_in_order { Leaves [] (codes "set b 1; set a 2; set b 3")
+        (((codes "b"), (codes "3")) ∷ ((codes "a"), (codes "2")) ∷ []) }
+    ensures given_in_order { Leaves
+        (((codes "x"), (codes "1")) ∷ ((codes "y"), (codes "2")) ∷ ((codes "x"), (codes "3")) ∷ []) (codes "set z $x")
+        (((codes "x"), (codes "3")) ∷ ((codes "y"), (codes "2")) ∷ ((codes "z"), (codes "3")) ∷ []) }
+    ensures made_again { Leaves (((codes "x"), (codes "1")) ∷ ((codes "y"), (codes "2")) ∷ [])
+        (codes "unset x; set x 3") (((codes "y"), (codes "2")) ∷ ((codes "x"), (codes "3")) ∷ []) }
+    ensures made_by_a_procedure { Leaves [] (codes "proc f {a} {global c; set b $a; set c $b; set ::d 4}; f 1")
+        (((codes "c"), (codes "1")) ∷ ((codes "d"), (codes "4")) ∷ []) }
     ensures left_by_return { Leaves [] (codes "set a 1; return; set b 2") (((codes "a"), (codes "1")) ∷ []) }
-    ensures left_by_a_loop { Leaves [] (codes "foreach {x y} {1 2 3} {}") (((codes "x"), (codes "3")) ∷ ((codes "y"), (codes "")) ∷ []) }
+    ensures left_by_a_loop { Leaves [] (codes "foreach {x y} {1 2 3} {}")
+        (((codes "x"), (codes "3")) ∷ ((codes "y"), (codes "")) ∷ []) }
 {}
 
 /// The lines of errors: the line on which the script's own command at hand begins.
 pub fn line_rows()
     ensures first_line { RaisesOn 1 (codes "set x") (codes "can't read \"x\": no such variable") }
     ensures behind_a_comment { RaisesOn 2 (codes "#%Module\nset x") (codes "can't read \"x\": no such variable") }
-    ensures same_words_again { RaisesOn 3 (codes "set a 1\nset b $a\nset b $x") (codes "can't read \"x\": no such variable") }
+    ensures same_words_again { RaisesOn 3 (codes "set a 1\nset b $a\nset b $x")
+        (codes "can't read \"x\": no such variable") }
     ensures behind_blanks_and_ends { RaisesOn 3 (codes "\n;\n  ; set x") (codes "can't read \"x\": no such variable") }
-    ensures behind_a_joined_line { RaisesOn 3 (codes "set a 1\n\\\n set x") (codes "can't read \"x\": no such variable") }
-    ensures in_a_bracket { RaisesOn 2 (codes "set a 1\nlist [\n\nset x]\nset b 1") (codes "can't read \"x\": no such variable") }
+    ensures behind_a_joined_line { RaisesOn 3 (codes "set a 1\n\\\n set x")
+        (codes "can't read \"x\": no such variable") }
+    ensures in_a_bracket { RaisesOn 2 (codes "set a 1\nlist [\n\nset x]\nset b 1")
+        (codes "can't read \"x\": no such variable") }
     ensures in_a_body { RaisesOn 1 (codes "if 1 {\n\nset x}") (codes "can't read \"x\": no such variable") }
-    ensures in_a_procedure { RaisesOn 4 (codes "proc f {} {\nset x\n}\nf") (codes "can't read \"x\": no such variable") }
-    ensures behind_a_caught_error { RaisesOn 3 (codes "catch {\nset x}\nset y") (codes "can't read \"y\": no such variable") }
-    ensures words_of_many_lines { RaisesOn 2 (codes "set a 1\nset b {\n\n} $x") (codes "can't read \"x\": no such variable") }
+    ensures in_a_procedure { RaisesOn 4 (codes "proc f {} {\nset x\n}\nf")
+        (codes "can't read \"x\": no such variable") }
+    ensures behind_a_caught_error { RaisesOn 3 (codes "catch {\nset x}\nset y")
+        (codes "can't read \"y\": no such variable") }
+    ensures words_of_many_lines { RaisesOn 2 (codes "set a 1\nset b {\n\n} $x")
+        (codes "can't read \"x\": no such variable") }
     ensures line_of_a_caught_text { RaisesOn 2 (codes "set a 1\nerror $a; set x") (codes "1") }
 {}

@@ -466,7 +466,8 @@ pub fn read_bracket<'a, S: Source<P>, P: Drop>(
     depth: usize,
 ) -> Result<(Part<P>, &'a str), ReadError>
     requires { IsEndOf (S.text source.now) text.now }
-    ensures { Gives stopped_by (λ x. (part_view (S.shown source.now) x.0, x.1.now)) result (bracket_at (inner_at depth) text.now) }
+    ensures { Gives stopped_by (λ x. (part_view (S.shown source.now) x.0, x.1.now)) result
+        (bracket_at (inner_at depth) text.now) }
 {
     if depth == 0 {
         return Err(ReadError::Fault(Fault::TooDeep));

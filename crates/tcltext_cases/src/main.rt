@@ -1,10 +1,11 @@
 //! Answers calls of tcltext: one a line on standard input, a verb and texts in hexadecimal digits, with `-` for the
-//! empty text. `list TEXT`, `write TEXT...`, `script TEXT`, `expr TEXT`, `glob PATTERN TEXT`, `number TEXT`. A text may be
-//! of parts with `+` between them, and of a part with `*TIMES` behind it.
+//! empty text. `list TEXT`, `write TEXT...`, `script TEXT`, `expr TEXT`, `glob PATTERN TEXT`, `number TEXT`. A text may
+//! be of parts with `+` between them, and of a part with `*TIMES` behind it.
 //!
 //! `tree KIND TEXT` and `owned KIND TEXT` show a script or an expr as Rust prints it, with slices or with ranges of the
-//! text; `owned sources TEXT` the sources of its commands; `fault KIND TEXT` the fault, of a list too, and what it says;
-//! `range START END TEXT` the range of the text; `count TEXT` how many elements a list has; `memory` what want of it says.
+//! text; `owned sources TEXT` the sources of its commands; `fault KIND TEXT` the fault, of a list too, and what it
+//! says; `range START END TEXT` the range of the text; `count TEXT` how many elements a list has; `memory` what want of
+//! it says.
 //!
 //! Each answer is a line: `ok` and what was read or written, `fault NUMBER` with the place where there is one, 1 or 0,
 //! or the class of a number. Of a script the words of each command are shown behind its place, parted by `;`, and a

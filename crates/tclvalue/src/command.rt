@@ -23,7 +23,8 @@ pub fn value_command(
     words: &[String],
     value_bytes: usize,
 ) -> Result<Option<String>, ValueFault>
-    ensures { Gives reason_of (option_map string_bytes) result (command_value (map string_bytes words.now) value_bytes) }
+    ensures { Gives reason_of (option_map string_bytes) result
+        (command_value (map string_bytes words.now) value_bytes) }
 {
     let [name, rest @ ..] = words else {
         return Ok(None);

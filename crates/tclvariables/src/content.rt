@@ -4,8 +4,8 @@ ghost use Rattle.tclvariables.specs.Contents.{IsWritten};
 
 use std::marker::Model;
 
-/// The value of a variable. Of one that `lappend` wrote it is known that it is a list's text as `list` writes it, so that it
-/// need not be read again.
+/// The value of a variable. Of one that `lappend` wrote it is known that it is a list's text as `list` writes it, so
+/// that it need not be read again.
 #[derive(Drop)]
 pub struct Content {
     text: String,

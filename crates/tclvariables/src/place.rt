@@ -103,7 +103,8 @@ pub fn place_of<'a>(
     name: &'a str,
     index: Option<&'a str>,
 ) -> Result<Place<'a>, ValueFault>
-    ensures { Gives reason_of place_view result (place_of variables.now name.now (option_map (λ i. i.now) index.entry)) }
+    ensures { Gives reason_of place_view result
+        (place_of variables.now name.now (option_map (λ i. i.now) index.entry)) }
 {
     match name.strip_prefix("::") {
         Some(rest) => unqualified_place(alloc, true, rest, index),

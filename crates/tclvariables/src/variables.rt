@@ -146,8 +146,8 @@ impl Variables {
         }
     }
 
-    /// Takes the text of a variable, if it is there, for what `put` gives it next: until then an empty text stands in its
-    /// place.
+    /// Takes the text of a variable, if it is there, for what `put` gives it next: until then an empty text stands in
+    /// its place.
     pub fn take(&mut self, alloc: Global, global: bool, name: &str) -> Option<String>
         ensures value { option_map string_bytes result ≡ value_at self.old (global, name.now) }
         ensures given_back { (t : Text) → with_value self.new (global, name.now) t
