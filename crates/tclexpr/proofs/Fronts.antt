@@ -6,7 +6,6 @@ use Rattle.tclchars.specs.declared.fault.Fault.{Fault}
 use Rattle.tclchars.specs.declared.fault.Fault.TheVariants.{OpenBrace, OpenQuote, OpenBracket, JoinedToClose, TooDeep, BadCharacter, BadExpression}
 use Rattle.tclscript.specs.Faults as script
 use Rattle.tclscript.specs.Faults.{CommandsFault, CommandFault, WordsFault, WordFault, PlainFault, PartsFault, PartFault}
-use Rattle.tclexpr.specs.declared.operators.Infix.{Infix}
 use Rattle.tclexpr.specs.declared.operators.Mark.TheVariants as marks
 use Rattle.tclexpr.specs.Tree.{Expr, operand, unary, choice, joined, Token, value, mark}
 use Rattle.tclexpr.specs.Grammar as grammar

@@ -64,13 +64,13 @@ pub data Opening (bs : Text) : Type 0 where
   other : Without 36 bs → Without 91 bs → Without 34 bs → Without 123 bs → Opening bs
 
 pub opening : (bs : Text) → Opening bs
-opening bs = elim (script_marks.mark_at 36 bs) [
+opening bs = elim (script_marks.mark_or_none 36 bs) [
   | inl k ↦ dollar k.0 k.1
-  | inr w ↦ elim (script_marks.mark_at 91 bs) [
+  | inr w ↦ elim (script_marks.mark_or_none 91 bs) [
     | inl k ↦ square k.0 k.1
-    | inr x ↦ elim (script_marks.mark_at 34 bs) [
+    | inr x ↦ elim (script_marks.mark_or_none 34 bs) [
       | inl k ↦ quote k.0 k.1
-      | inr y ↦ elim (script_marks.mark_at 123 bs) [ inl k ↦ brace k.0 k.1 | inr z ↦ other w x y z ]
+      | inr y ↦ elim (script_marks.mark_or_none 123 bs) [ inl k ↦ brace k.0 k.1 | inr z ↦ other w x y z ]
     ]
   ]
 ]

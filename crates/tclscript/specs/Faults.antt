@@ -1,7 +1,7 @@
 -- What is wrong with a text that is no script: the first mark or character that a reader from left to right can't go
 -- past. By cases over the whole text from somewhere in it to the source's end, with the number of bytes from the mark
 -- on.
-use Rattle.std.specs.Prelude.{◌≡◌, ◌≢◌, ℕ, zero, suc, ◌≤◌, ◌+◌, [], ◌∷◌, ◌++◌, length, Bool, true, false, not, ◌||◌, ◌==◌, None}
+use Rattle.std.specs.Prelude.{◌≡◌, ◌≢◌, ℕ, zero, suc, ◌≤◌, [], ◌∷◌, ◌++◌, length, Bool, true, false, not, ◌||◌, ◌==◌, None}
 use Rattle.tclchars.specs.Runs.{Text}
 use Rattle.tclchars.specs.Bytes.{hash, backslash, AllPass, DoesBegin, dollar, left_brace, left_bracket, left_parenthesis, quote, right_brace, star}
 use Rattle.tclchars.specs.Classes.{in_class}

@@ -1,4 +1,4 @@
-use Rattle.std.proofs.Common.{◌≡◌, ◌-◌, sym, subst, ◌∙◌, arith}
+use Rattle.std.proofs.Common.{◌≡◌, sym, subst, ◌∙◌}
 use Rattle.std.specs.Str.{IsUtf8}
 use Rattle.tclchars.specs.Runs.{Text}
 use Rattle.tclscript.specs.Pieces.{IsFrontOf}

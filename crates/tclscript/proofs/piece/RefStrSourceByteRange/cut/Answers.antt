@@ -1,4 +1,4 @@
-use Rattle.std.proofs.Common.{◌-◌, arith}
+use Rattle.std.proofs.Common.{arith}
 use Rattle.tclscript.proofs.Ranges.{between_piece}
 use Rattle.tclscript.proofs.piece.RefStrSourceByteRange.cut.Goals as goal
 
