@@ -1,5 +1,5 @@
 -- What is wrong with a text that is no list.
-use Rattle.std.specs.Prelude.{◌≡◌, suc, ◌+◌, [], ◌∷◌, ◌++◌, ◌⊎◌, length, not, None}
+use Rattle.std.specs.Prelude.{◌≡◌, suc, [], ◌∷◌, ◌++◌, ◌⊎◌, length, not, None}
 use Rattle.tclchars.specs.Bytes.{backslash, is_space, AllPass, MayBegin, DoesBegin, quote, left_brace, right_brace}
 use Rattle.tclchars.specs.Runs.{Text}
 use Rattle.tclchars.specs.Backslash.{after_backslash}
