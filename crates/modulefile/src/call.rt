@@ -326,8 +326,9 @@ fn unknown_or_left_out(alloc: Global, name: &str) -> CallFault
 
 /// The command that these words call, the first of which is its name. Nothing of the environment is looked at.
 ///
-/// Errors: no such command is known; it, or this part of it, is left out (19); the words don't fit it, as a wrong
-/// number of them, an option, or a delimiter that isn't one character (56); or want of memory.
+/// Errors: `Unknown`, no such command is known; `LeftOut` (19), it, or this part of it, is left out; `BadArguments`
+/// (56), the words don't fit it, as a wrong number of them, an option, or a delimiter that isn't one character; or want
+/// of memory.
 #[tactic(auto, unfolding(crate::specs::Calls::call_of))]
 pub fn call_of<'a>(alloc: Global, words: &'a [String]) -> Result<Call<'a>, CallFault>
     ensures { Gives reason_of call_view result (call_of (map string_bytes words.entry.now)) }

@@ -238,8 +238,9 @@ fn edit<V: Vars>(
 /// Makes the effect of a record of a module, in a mode: the record is judged in every mode, and then loading or
 /// unloading edits the environment.
 ///
-/// It is refused, in this order, by 32, 33 and 37, or by 44 of the first name that is ill spelled, in every mode, and
-/// then by 34 or 36; or for want of memory. The environment is then as it was.
+/// It is refused, in this order, by `BadVariable` (32), `Protected` (33) and `BadValue` (37), or by `BadModuleName`
+/// (44) of the first name that is ill spelled, in every mode, and then by `CounterFull` (34) or `BadStack` (36); or for
+/// want of memory. The environment is then as it was.
 pub fn effect<V: Vars>(
     alloc: Global,
     mode: Mode,

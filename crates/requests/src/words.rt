@@ -74,8 +74,9 @@ fn action_of(alloc: Global, words: &[String]) -> Result<Action, RequestFault>
 /// The request that the words make, from the subcommand on. `add`, `rm`, `swap` and `display` are short for `load`,
 /// `unload`, `switch` and `show`.
 ///
-/// Errors: there is no such subcommand (57); there is none at all, or its names don't fit it: `load`, `unload`, `show`
-/// and `whatis` take at least one, `switch` one or two, `purge` and `list` none (56); or want of memory.
+/// Errors: `UnknownSubcommand` (57), there is no such subcommand; `BadArguments` (56), there is none at all, or its
+/// names don't fit it: `load`, `unload`, `show` and `whatis` take at least one, `switch` one or two, `purge` and `list`
+/// none; or want of memory.
 pub fn request(alloc: Global, shell: Shell, words: &[String]) -> Result<Request, RequestFault>
     ensures asked { Gives reason_of (λ request. asked_view request.action) result
         (request_of (map string_bytes words.now)) }

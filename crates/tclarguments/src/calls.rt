@@ -66,7 +66,7 @@ fn taken<'w>(
 
 /// The parameters of the procedure of this name, each with its value for these words.
 ///
-/// Errors: 13 where the words are too few or too many, 11 where memory runs out.
+/// Errors: `TclError` (13) where the words are too few or too many; `OutOfMemory` (11).
 pub fn allotted<'a>(
     alloc: Global,
     name: &str,

@@ -84,8 +84,8 @@ impl Model for Loops {
 impl Loops {
     /// The names and the items of these lists.
     ///
-    /// Errors: 13 where a text is no list, and where names are none; 12 where a list is too long; 11 where memory runs
-    /// out. They are judged from left to right, the names of a list before its items.
+    /// Errors: `TclError` (13) where a text is no list, and where names are none; `Text` (12) where a list is too long;
+    /// `OutOfMemory` (11). They are judged from left to right, the names of a list before its items.
     pub fn of(alloc: Global, lists: &[(&str, &str)]) -> Result<Loops, ValueFault>
         ensures { Gives reason_of (λ l. l) result (loops (pair_texts lists.now)) }
     {

@@ -43,9 +43,9 @@ fn parameters_of(alloc: Global, lists: &[String]) -> Result<Vec<Parameter>, Valu
 
 /// The parameters of a procedure of this name, of which these are the lists.
 ///
-/// Errors: 13 where the name is kept, where the text or one of its elements is no list, and where an element has no
-/// name or more than a name and a default; 12 where a list is too long; 11 where memory runs out. The name is judged
-/// first, and then the parameters from left to right.
+/// Errors: `TclError` (13) where the name is kept, where the text or one of its elements is no list, and where an
+/// element has no name or more than a name and a default; `Text` (12) where a list is too long; `OutOfMemory` (11). The
+/// name is judged first, and then the parameters from left to right.
 pub fn parameters(alloc: Global, name: &str, lists: &str) -> Result<Vec<Parameter>, ValueFault>
     ensures { Gives reason_of (λ ps. map parameter_view ps.items) result (defined name.now lists.now) }
 {

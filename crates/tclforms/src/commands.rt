@@ -19,8 +19,9 @@ use tcloperators::ValueFault;
 
 /// The form of a core command, by its name and the words behind it; None for another name.
 ///
-/// Errors: what is wrong of the words alone. A wrong number of words, a bad option, patterns that are no list or whose
-/// last body is missing are 13; what is left out is 19; a list that is too long is 12. 11 comes where memory runs out.
+/// Errors: what is wrong of the words alone. `TclError` (13): a wrong number of words, a bad option, patterns that are
+/// no list or whose last body is missing. `LeftOut` (19): what is left out. `Text` (12): a list that is too long.
+/// `OutOfMemory` (11).
 #[tactic(auto, unfolding(tclrules::specs::Forms::core_form))]
 pub fn core_form<'a>(
     alloc: Global,
