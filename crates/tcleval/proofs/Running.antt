@@ -9,7 +9,7 @@ use Rattle.tclscript.specs.View.{script_view, command_view, word_view, parts_vie
 use Rattle.tclscript.specs.declared.tree.Script as rust_script
 use Rattle.tclscript.specs.declared.tree.Command as rust_command
 use Rattle.tclscript.specs.declared.tree.Word as rust_word
-use Rattle.tclrules.specs.Derivation.{Runs, TooDeep, Halted}
+use Rattle.tclrules.specs.Derivation.{Runs, TooDeep}
 use Rattle.tclrules.specs.Variables.{State}
 use Rattle.tclrules.specs.Plans as plans
 use Rattle.tclrules.specs.Plans.{Bounds, Ending, Normal, Items, ended, Job, Step, Next, on_normal, begin, halt, sized}

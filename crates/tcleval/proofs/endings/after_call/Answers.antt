@@ -1,4 +1,4 @@
-use Rattle.std.proofs.Common.{codes, arith}
+use Rattle.std.proofs.Common.{codes}
 use Rattle.tcleval.proofs.Running.{fault_stops}
 use Rattle.tclvalue.specs.Faults.{error}
 use Rattle.tclrules.specs.Messages.{outside_loop}

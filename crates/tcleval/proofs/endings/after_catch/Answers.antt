@@ -1,4 +1,4 @@
-use Rattle.std.proofs.Common.{ℕ, List, Bor, arith, option_map}
+use Rattle.std.proofs.Common.{ℕ, List, Bor, option_map}
 use Rattle.tclrules.proofs.Leading.{stay, go_on}
 use Rattle.tclsteps.specs.Machine.{bounds}
 use Rattle.tclsteps.proofs.Leading.{passed_on}

@@ -1,4 +1,3 @@
-use Rattle.std.proofs.Common.{arith}
 use Rattle.tclrules.specs.Variables.{State}
 use Rattle.tclrules.proofs.Leading.{stay}
 use Rattle.tclchars.specs.Runs.{Text}

@@ -1,4 +1,4 @@
-use Rattle.std.proofs.Common.{refl, false, arith}
+use Rattle.std.proofs.Common.{refl, false}
 use Rattle.std.proofs.lemmas.Result.{err_from_is_err_and}
 use Rattle.tclrules.specs.Derivation.{OutOfMemory, Halted, starves}
 use Rattle.tclrules.specs.Rules.{file_ended}

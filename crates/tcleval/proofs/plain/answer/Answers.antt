@@ -1,4 +1,4 @@
-use Rattle.std.proofs.Common.{◌<◌, ◌≤◌, [], true, length, arith}
+use Rattle.std.proofs.Common.{◌<◌, ◌≤◌, [], length, arith}
 use Rattle.tclcommands.specs.Does.{value_text}
 use Rattle.tclsteps.proofs.Leading.{sized_on, sized_stops}
 use Rattle.std.proofs.lemmas.Result.{err_from_is_err_and}

@@ -1,4 +1,3 @@
-use Rattle.std.proofs.Common.{arith}
 use Rattle.tcleval.proofs.plain.ending.Goals as goal
 
 pub returns : goal.returns

@@ -1,4 +1,3 @@
-use Rattle.std.proofs.Common.{arith}
 use Rattle.tclrules.proofs.Leading.{stay, starve}
 use Rattle.tcleval.proofs.plain.ending_of.Goals as goal
 

@@ -1,4 +1,3 @@
-use Rattle.std.proofs.Common.{arith}
 use Rattle.tclrules.proofs.Leading.{go_on}
 use Rattle.tclsteps.proofs.Leading.{passed_on}
 use Rattle.std.proofs.Common.{[]}

@@ -1,4 +1,3 @@
-use Rattle.std.proofs.Common.{arith}
 use Rattle.tclrules.specs.Leads.{point}
 use Rattle.tclsteps.specs.Machine.{bounds}
 use Rattle.tcleval.proofs.plain.plain_value.Goals as goal

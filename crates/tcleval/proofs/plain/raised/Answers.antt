@@ -1,4 +1,3 @@
-use Rattle.std.proofs.Common.{arith}
 use Rattle.tclrules.proofs.Leading.{starve}
 use Rattle.tcleval.proofs.plain.raised.Goals as goal
 

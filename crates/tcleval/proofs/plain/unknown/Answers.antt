@@ -1,4 +1,4 @@
-use Rattle.std.proofs.Common.{◌≡◌, true, false, sym, ◌∙◌, arith}
+use Rattle.std.proofs.Common.{◌≡◌, true, false, sym, ◌∙◌}
 use Rattle.tclrules.proofs.Leading.{go_on}
 use Rattle.tclsteps.proofs.Leading.{passed_on}
 use Rattle.tcleval.proofs.Running.{fault_stops}

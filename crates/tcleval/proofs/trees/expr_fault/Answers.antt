@@ -1,4 +1,3 @@
-use Rattle.std.proofs.Common.{arith}
 use Rattle.tcleval.proofs.trees.expr_fault.Goals as goal
 
 pub returns-in-Some : goal.returns-in-Some

@@ -1,4 +1,3 @@
-use Rattle.std.proofs.Common.{arith}
 use Rattle.tclsteps.proofs.Leading.{starved_end}
 use Rattle.tcleval.proofs.turns.assign_items.Goals as goal
 

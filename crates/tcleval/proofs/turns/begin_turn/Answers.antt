@@ -1,4 +1,3 @@
-use Rattle.std.proofs.Common.{arith}
 use Rattle.tclsteps.proofs.Leading.{passed_on}
 use Rattle.tcleval.proofs.turns.begin_turn.Goals as goal
 

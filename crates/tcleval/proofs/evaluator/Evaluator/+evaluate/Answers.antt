@@ -1,4 +1,4 @@
-use Rattle.std.proofs.Common.{rules, arith, refl, sym, ap, ◌∙◌, ◌≡◌, ◌<◌, [], true, false, List, Bor, get_or, map, option_map, string_bytes, ℕ, ◌+◌, ◌-◌, ◌++◌, drop}
+use Rattle.std.proofs.Common.{rules, arith, refl, sym, ap, ◌∙◌, ◌≡◌, ◌<◌, [], List, Bor, get_or, map, option_map, string_bytes, ℕ, ◌+◌, ◌++◌, drop}
 use Rattle.tclchars.specs.Runs.{Text}
 use Rattle.tclscript.specs.Tree.{words_of}
 use Rattle.tclscript.specs.View.{word_view}
@@ -8,7 +8,6 @@ use Rattle.tclrules.specs.Variables.{State}
 use Rattle.tclrules.specs.Plans as plans
 use Rattle.tclrules.specs.Words as pieces
 use Rattle.tclrules.specs.Plans.{Next, sized}
-use Rattle.tclrules.specs.Expressions.{express, decide}
 use Rattle.tclrules.specs.Rules.{rule, called, turn}
 use Rattle.tclforms.specs.Views.{pair_texts}
 use Rattle.tclsteps.specs.Machine.{shown, bounds}

@@ -1,4 +1,4 @@
-use Rattle.std.proofs.Common.{arith, refl, true, false, ◌-◌}
+use Rattle.std.proofs.Common.{arith, refl}
 use Rattle.tclrules.proofs.Leading.{go_on}
 use Rattle.tcleval.proofs.Running.{begin_on, begin_stops, later_refl, later_begun, later_parsed, text_stops}
 use Rattle.tcleval.proofs.evaluator.Evaluator.file.Goals as goal

@@ -1,4 +1,4 @@
-use Rattle.std.proofs.Common.{rules, arith, refl, true, false, map, ◌+◌, ◌-◌, drop}
+use Rattle.std.proofs.Common.{rules, arith, refl, map, ◌+◌, drop}
 use Rattle.tclchars.specs.Runs.{Text}
 use Rattle.tclscript.specs.Tree.{commands_of}
 use Rattle.tclscript.specs.View.{command_view}

@@ -1,4 +1,4 @@
-use Rattle.std.proofs.Common.{[], map, drop, string_bytes, ◌-◌}
+use Rattle.std.proofs.Common.{[], map, drop, string_bytes}
 use Rattle.tclscript.specs.Tree.{commands_of}
 use Rattle.tclscript.specs.View.{script_view, command_view}
 use Rattle.tclscript.specs.declared.tree.Script.{out-Script}
