@@ -1,5 +1,5 @@
 //! The files and directories of a disk, whose answers are kept and given again.
-ghost use Rattle.std.specs.Prelude.{◌≡◌, ◌<◌, ◌≤◌, ℕ, List, Some, Option, IfOk};
+ghost use Rattle.std.specs.Prelude.{◌≡◌, ◌<◌, ◌≤◌, ℕ, List, Some, Option, IfOk, is_some};
 ghost use Rattle.std.specs.BTreeMap.{get_by_text};
 ghost use Rattle.lookup.specs.Agreement.{Files, Listings, file_answer, listing_answer, kept, kept-answer};
 ghost use Rattle.std.specs.IoError.{error_kind};
@@ -92,10 +92,25 @@ fn names_in<R: Files + AllocGlobal + Clone + Drop>(rt: &R, dir: &str) -> io::Res
     Ok(names)
 }
 
+/// Whether a file was read at the path.
+fn has_file(files: &BTreeMap<String, Option<Vec<u8>>>, path: &str) -> bool
+    ensures { result ≡ is_some (kept file_answer (get_by_text files.now path.now)) }
+{
+    match files.get(path) {
+        Some(Some(_)) => true,
+        _ => false,
+    }
+}
+
+/// Where a file was read no directory is, so the system isn't asked.
 fn load_listing<R: Files + AllocGlobal + Clone + Drop>(
     rt: &R,
+    files: &BTreeMap<String, Option<Vec<u8>>>,
     dir: &str,
 ) -> Result<Option<Vec<String>>, TreeFault> {
+    if has_file(files, dir) {
+        return Ok(None);
+    }
     match there(fs::metadata(rt, dir))? {
         Some(found) if found.is_dir() => contents(names_in(rt, dir)),
         _ => Ok(None),
@@ -196,7 +211,7 @@ impl<R: Files + AllocGlobal + Clone + Drop> Tree for DiskTree<R> {
             return Ok(copy_listing(self.rt.alloc(), answer)?);
         }
         let key = String::from_str(self.rt.alloc(), dir)?;
-        match load_listing(&self.rt, dir) {
+        match load_listing(&self.rt, &self.files, dir) {
             Ok(answer) => {
                 let copy = copy_listing(self.rt.alloc(), &answer)?;
                 self.listings.insert(key, answer)?;
