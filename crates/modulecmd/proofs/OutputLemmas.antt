@@ -43,4 +43,4 @@ pub answered : (exit : Exit) (agrees : Files → Listings → Type 0) (failed : 
     → IsAnswer agrees e Does (effect_in e a) (string_bytes a.text) → Finishes exit (words_of a) (string_bytes a.text) out out' err err' → Ends exit agrees failed e Does out out' err err'
 answered exit agrees failed e Does a out out' err err' is h =
     let P : Text → Type 0 = λ words. Finishes exit words (string_bytes a.text) out out' err err' in
-    inl (effect_in e a, (string_bytes a.text, (is, subst P (words_said e a) h)))
+    inl (effect_in e a, string_bytes a.text, is, subst P (words_said e a) h)

@@ -15,7 +15,7 @@ use Rattle.requests.specs.Requests.{Asked, Request, request_of}
 use Rattle.requests.specs.Steps.{Done, Step}
 use Rattle.requests.specs.declared.request_fault.RequestFault.TheVariants as requests
 use Rattle.modulesteps.specs.Answers.{cause_of, Stands}
-use Rattle.modulesteps.specs.Messages as refusal
+use Rattle.modulesteps.specs.Messages as texts
 use Rattle.modulesteps.specs.declared.refusal.Refusal.TheVariants as refusals
 use Rattle.modules.specs.Replies.{site_in}
 use Rattle.modulecmd.specs.declared.process.ArgumentsFault.{ArgumentsFault}
@@ -70,15 +70,15 @@ LacksText shell old new name = (cs : List Edit) × AreChanges old new cs × IsUn
 -- A refusal has a reason: memory can always be wanting, a device has failed, a variable can't be said, or the
 -- command has a reason.
 abbrev pub HasReason : CommandFault → (CommandReason → Type 0) → (Text → Type 0) → Type 0 → Type 0
-HasReason (Refused refusal) Is Lacks failed = Stands (cause_of refusal) failed (λ reason. Is (because reason))
-HasReason (UnknownShell word) Is Lacks failed = Is (unknown_shell (string_bytes word))
-HasReason (Unprinted prints.OutOfMemory) Is Lacks failed = Unit {0}
-HasReason (Unprinted (prints.NotSayable name)) Is Lacks failed = Lacks (string_bytes name)
-HasReason WriteFailed Is Lacks failed = ⊥
+HasReason (Refused refusal) Has Lacks failed = Stands (cause_of refusal) failed (λ reason. Has (because reason))
+HasReason (UnknownShell word) Has Lacks failed = Has (unknown_shell (string_bytes word))
+HasReason (Unprinted prints.OutOfMemory) Has Lacks failed = Unit {0}
+HasReason (Unprinted (prints.NotSayable name)) Has Lacks failed = Lacks (string_bytes name)
+HasReason WriteFailed Has Lacks failed = ⊥
 
 -- the number of each refusal
 abbrev pub number_of : CommandFault → ℕ
-number_of (Refused refusal) = refusal.number_of refusal
+number_of (Refused refusal) = texts.number_of refusal
 number_of (Unprinted fault) = print_fault_number fault
 number_of (UnknownShell word) = 63
 number_of WriteFailed = 64

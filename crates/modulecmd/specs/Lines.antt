@@ -1,14 +1,14 @@
 -- What faults say, and the line on standard error that tells why a command is refused.
 use Rattle.std.specs.Prelude.{[], ◌∷◌, ◌++◌, codes, string_bytes}
 use Rattle.message.specs.Messages.{Text, quoting}
-use Rattle.modulesteps.specs.Messages as refusal
+use Rattle.modulesteps.specs.Messages as texts
 use Rattle.shelltext.specs.Printing.{print_message}
 use Rattle.modulecmd.specs.declared.refuse.CommandFault.{CommandFault}
 use Rattle.modulecmd.specs.declared.refuse.CommandFault.TheVariants.{Refused, Unprinted, UnknownShell, WriteFailed}
 
 -- the text of its layer's fault, or its own
 abbrev pub message_of : CommandFault → Text
-message_of (Refused refusal) = refusal.message_of refusal
+message_of (Refused refusal) = texts.message_of refusal
 message_of (Unprinted fault) = print_message fault
 message_of (UnknownShell word) = quoting (codes "Unknown shell '") (string_bytes word)
 message_of WriteFailed = codes "Writing failed"

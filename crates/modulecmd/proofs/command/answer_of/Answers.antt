@@ -1,0 +1,35 @@
+use Rattle.std.proofs.Common.{◌<◌, map, string_bytes, String, Ok, Err, refl}
+use Rattle.std.proofs.lemmas.Result.{err_from_is_err_and}
+use Rattle.std.specs.declared.alloc.Global.{Global}
+use Rattle.environment.specs.Changes.{edits_in}
+use Rattle.requests.specs.RequestViews.{request_view}
+use Rattle.modules.specs.Replies.{changed_view}
+use Rattle.modulecmd.specs.Command.{Does}
+use Rattle.modulecmd.specs.Output.{ComesTo, IsUnsaid}
+use Rattle.modulecmd.proofs.CommandLemmas.{answers, does, unprinted}
+use Rattle.modulecmd.proofs.command.answer_of.Goals as goal
+
+pub returns-clause-answered : goal.returns-clause-answered
+returns-clause-answered g c =
+    answers c.command_returns.ensures c.one_effect.ensures c.difference_makes.ensures (g.T.Tree.agrees c.run_changes.new.tree)
+    (map (λ (s : String Global). string_bytes s) c.args.args.now) c.args.env.now (request_view c.in_ok-request.request)
+    (record { shell = c.in_ok-request.request.shell; changed = c.in_ok-changed.changed; text = c.in_ok-text.text })
+    c.in_ok-request.ensures.made refl c.in_ok-changed.ensures.answer c.in_ok-changed.ensures.exact
+    (rw c.as_slice.ensures.value at c.in_ok-text.ensures.text)
+
+pub returns-in_err-text-clause-refused : goal.returns-in_err-text-clause-refused
+returns-in_err-text-clause-refused g c =
+    let p = err_from_is_err_and c.from_residual-in_err-text.result c.from_residual-in_err-text.ensures.1 in
+    let arguments = map (λ (s : String Global). string_bytes s) c.args.args.now in
+    let e = c.args.env.now in
+    let agrees = g.T.Tree.agrees c.run_changes.new.tree in
+    let r = request_view c.in_ok-request.request in
+    let changed = c.in_ok-changed.changed in
+    rw (p.1, p.2) (unprinted r.0 (edits_in changed.changes) c.in_err-text.field-0.0 (λ reason. ComesTo agrees (Does arguments e) (Err reason)) (IsUnsaid agrees e (Does arguments e))
+    (g.T.Tree.failures c.args.tree.now < g.T.Tree.failures c.run_changes.new.tree)
+    (λ name unsayable. (
+      (r.0, changed_view e changed),
+      λ files listings agreed. does arguments e files listings r (Ok (changed_view e changed)) c.in_ok-request.ensures.made (c.in_ok-changed.ensures.answer files listings agreed),
+      (edits_in changed.changes, c.in_ok-changed.ensures.exact, unsayable),
+    ))
+    (rw c.as_slice.ensures.value at c.in_err-text.ensures.fault))
