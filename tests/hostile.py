@@ -422,7 +422,7 @@ def commands_of_many_words(folder):
     names, paths = (text.replace(b"'a/1'", b"'a/1:c/1'") for text in lists_of(b"a/1", folder.at("c/1")))
     paths = paths.replace(folder.modules, folder.at("a/1") + b":" + folder.modules, 1)
     written = b"__MODULES_LMCONFLICT='c/1&b'; export __MODULES_LMCONFLICT;\n"
-    for text in (f"conflict {words}\n", "conflict b\n" * 95_000, "while 1 {conflict b; if {[incr i] > 30000} break}\n"):
+    for text in (f"conflict {words}\n", "conflict b\n" * 95_000, "while 1 {conflict b; if {[incr i] > 20000} break}\n"):
         folder.module("c/1", text)
         folder.accepts(["sh", "load", "c"], names + paths + written, env=held)
         folder.refuses(["sh", "load", "b", "c"], "Conflict with 'b/1'", env=held)
