@@ -75,8 +75,12 @@ def versions_and_default_files(disk):
     disk.file("ver/.version", COOKIE + "set ModulesVersion 1.9")
     disk.locates("ver", "ver/1.9 M/ver/1.9")
     disk.lists("M: ver/1.9(default) ver/1.10 ver/1.10-rc")
-    disk.file("ver/.modulerc", COOKIE + "module-version ver/1.10")
+    disk.file("ver/.modulerc", COOKIE + "module-version ver/1.10 default")
     disk.locates("ver", "ver/1.10 M/ver/1.10")
+    disk.lists("M: ver/1.9 ver/1.10(default) ver/1.10-rc")
+    # A name without a word is no command.
+    disk.file("ver/.modulerc", COOKIE + "module-version ver/1.10")
+    disk.locates("ver", "45 Bad default file 'M/ver/.modulerc'")
     disk.file("ver/.modulerc", COOKIE + "error x")
     disk.locates("ver", "45 Bad default file 'M/ver/.modulerc'")
     disk.lists("M: ver/1.9 ver/1.10 ver/1.10-rc")
