@@ -1,14 +1,18 @@
 -- Rehearsals: a session with the text that each accepted request prints.
-use Rattle.std.specs.Prelude.{◌≡◌, List, [], ◌∷◌, Option, Some, None, Ok}
+use Rattle.std.specs.Prelude.{ℕ, ◌≡◌, ◌≤◌, ◌+◌, ◌==◌, List, [], ◌∷◌, Option, Some, None, take, if◌then◌else◌, Ok}
 use Rattle.environment.specs.Texts.{Text}
 use Rattle.environment.specs.Environment.{Environment}
 use Rattle.environment.specs.Changes.{Edit, AreChanges}
 use Rattle.shelltext.specs.Reading.{SaysDifference}
 use Rattle.shelltext.specs.Printing.{IsUnsayable}
-use Rattle.shelltext.specs.Sequences.{Run}
+use Rattle.shelltext.specs.Sequences.{Run, MakeOf}
 use Rattle.requests.specs.Requests.{Request}
 use Rattle.requests.specs.Steps.{Site, Done, Step}
-use Rattle.requests.specs.Sessions.{Response, accepted, refused, given_up, Session, env_after, left_by, in_shell}
+use Rattle.requests.specs.Sessions.{Response, accepted, refused, given_up, Session, env_after, left_by, in_shell, session_moves}
+use Rattle.requests.specs.Returning.{AreNew, AreFitting}
+use Rattle.reversal.specs.Ways.{Way}
+use Rattle.reversal.specs.Standing.{IsStart}
+use Rattle.reversal.specs.Runs.{live_after}
 
 -- the step has changes that no text of the shell says
 abbrev pub LacksText : Site → Environment → Request → Type 0
@@ -41,9 +45,43 @@ pub record Rehearsed (s : Site) (e : Environment) (rs : List Request) (ps : List
   pub prints : ArePrints s e rs responses ps
   pub leaves : left ≡ left_by e responses
 
+-- one for a request that was given up since a device failed
+abbrev pub one_failed : Response → ℕ
+one_failed (accepted d) = 0
+one_failed (refused reason) = 0
+one_failed (given_up number) = if number == 43 then 1 else 0
+
+-- how many requests were given up since a device failed
+abbrev pub count_failed : List Response → ℕ
+count_failed [] = 0
+count_failed (o ∷ os) = one_failed o + count_failed os
+
+-- So many device failures were counted before the requests and after them, and at least one for each request that was
+-- given up for one.
+pub record Rehearsal (s : Site) (e : Environment) (rs : List Request) (ps : List (Option Text)) (left : Environment)
+    (before after : ℕ) : Type 0 where
+  pub rehearsed : Rehearsed s e rs ps left
+  pub failures : before + count_failed rehearsed.responses ≤ after
+
 -- the texts that were printed, each with the shell of its request
 abbrev pub runs_of : List Request → List (Option Text) → List Run
 runs_of [] ps = []
 runs_of (r ∷ rs) [] = []
 runs_of (r ∷ rs) (None ∷ ps) = runs_of rs ps
 runs_of (r ∷ rs) (Some text ∷ ps) = (r.0, text) ∷ runs_of rs ps
+
+-- After each number of requests, shells that ran the texts so far, one after the other, hold the environment that the
+-- session has there.
+abbrev pub Makes : Site → Environment → List Request → List (Option Text) → Environment → Type 0
+Makes s e rs ps left =
+    (h : Rehearsed s e rs ps left) → (n : ℕ)
+    → MakeOf (runs_of (take n rs) (take n ps)) e (left_by e (take n h.responses))
+
+-- Of a session of new modules that are reversible and apart, from a start in order, that ends with no live module:
+-- shells that ran all texts hold the start.
+abbrev pub ComesBack : Site → Environment → List Request → List (Option Text) → Environment → Type 0
+ComesBack s start rs ps left =
+    (ways : Text → Way) → (h : Rehearsed s start rs ps left)
+    → IsStart ways start → AreNew start (session_moves h.responses) → AreFitting ways [] (session_moves h.responses)
+    → live_after [] (session_moves h.responses) ≡ []
+    → MakeOf (runs_of rs ps) start start

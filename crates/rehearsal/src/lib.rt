@@ -3,6 +3,10 @@
 
 ghost use Rattle.rehearsal.specs.Laws.{RehearsalsMake, RehearsalsReturn};
 
+mod texts;
+
+pub use texts::rehearse;
+
 /// After each number of requests, shells that ran the texts so far hold the environment that the session has there.
 pub fn make()
     ensures { RehearsalsMake }

@@ -8,7 +8,7 @@ use Rattle.rehearsal.proofs.Chain.{whole}
 use Rattle.rehearsal.proofs.come_back.Goals as goal
 
 pub returns : goal.returns
-returns c ways s start rs ps left h begins new fitting none =
+returns c s start rs ps left ways h begins new fitting none =
     let os = h.responses in
     let same : os ≡ os ++ [] = sym (append-nil os) in
     let IsSession : List Response → Type 0 = λ all. Session s start rs all in

@@ -1,0 +1,141 @@
+-- One request with its text, and rehearsals that go on by one.
+use Rattle.std.proofs.Common.{◌≡◌, ℕ, ◌+◌, ◌≤◌, ◌<◌, true, false, List, [], ◌∷◌, ◌++◌, Option, Some, None, length, map, Result, Ok, Err, refl, ap, ◌∙◌, subst, arith}
+use Rattle.std.specs.Prelude.{◌==◌, string_bytes}
+use Rattle.std.specs.declared.alloc.Global.{Global}
+use Rattle.std.specs.declared.string.String.{String}
+use Rattle.environment.specs.Texts.{Text}
+use Rattle.environment.specs.Environment.{Environment}
+use Rattle.environment.specs.Changes.{Edit, AreChanges}
+use Rattle.lookup.specs.Agreement.{Files, Listings, Shows}
+use Rattle.shells.specs.declared.shell.Shell.{Shell}
+use Rattle.tclrules.specs.declared.limits.Limits.{Limits}
+use Rattle.shelltext.specs.Reading.{IsText}
+use Rattle.shelltext.specs.Printing.{IsPrintFault}
+use Rattle.shelltext.specs.declared.print.PrintFault.{PrintFault}
+use Rattle.shelltext.specs.declared.print.PrintFault.TheVariants.{OutOfMemory, NotSayable}
+use Rattle.requests.specs.Reasons.{RequestReason}
+use Rattle.requests.specs.Requests.{Request}
+use Rattle.requests.specs.RequestViews.{request_view}
+use Rattle.requests.specs.declared.asked.Request as code
+use Rattle.requests.specs.Steps.{Site, Done, Step}
+use Rattle.requests.specs.Sessions.{accepted, refused, given_up, Session, left_by}
+use Rattle.modulesteps.specs.Answers.{Cause, Stands, memory, device, because, cause_of}
+use Rattle.modulesteps.specs.declared.refusal.Refusal.{Refusal}
+use Rattle.modules.specs.Replies.{site_in}
+use Rattle.rehearsal.specs.Rehearsals.{ArePrints, Rehearsal, one_failed, count_failed}
+use Rattle.rehearsal.specs.Parts.{Came, print_view, prints}
+
+-- a number that isn't 62
+not_unsayable : (n : ℕ) → (n == 62) ≡ false → (X : Type 0) → n ≡ 62 → X
+not_unsayable n e X h = let z : (62 == 62) ≡ false = subst (λ m. (m == 62) ≡ false) h e in absurd (clash z)
+  where
+    clash : true ≡ false → ⊥
+    clash z = cc
+
+none_more : (before after : ℕ) → before ≤ after → before + 0 ≤ after
+none_more before after h = omega arith
+
+one_more : (before after : ℕ) → before < after → before + 1 ≤ after
+one_more before after h = omega arith
+
+counts : (before mid after a b : ℕ) → before + a ≤ mid → mid + b ≤ after → before + (a + b) ≤ after
+counts before mid after a b h k = omega arith
+
+module _ (agrees : Files → Listings → Type 0) (limits : Limits) (r : Request) (e : Environment) (before after : ℕ) (later : before ≤ after) where
+  abbrev Steps : Result Done RequestReason → Type 0
+  Steps o = Shows agrees (λ files listings. Step (site_in limits r.0 files listings) e r.1 o)
+
+  -- memory was wanting
+  pub wanting_came : Came agrees limits r e e None before after
+  wanting_came = record {
+    response = given_up 31;
+    told = λ files listings agreed. refl;
+    printed = λ files listings agreed shell. (refl, not_unsayable 31 refl _);
+    left = refl;
+    failures = none_more before after later;
+  }
+
+  cause_came : (c : Cause) → Stands c (before < after) (λ reason. Steps (Err reason)) → Came agrees limits r e e None before after
+  cause_came memory h = wanting_came
+  cause_came device h = record {
+    response = given_up 43;
+    told = λ files listings agreed. refl;
+    printed = λ files listings agreed shell. (refl, not_unsayable 43 refl _);
+    left = refl;
+    failures = one_more before after h;
+  }
+  cause_came (because reason) h = record {
+    response = refused reason;
+    told = h;
+    printed = λ files listings agreed shell. refl;
+    left = refl;
+    failures = none_more before after later;
+  }
+
+  pub refused_came : (refusal : Refusal) → Stands (cause_of refusal) (before < after) (λ reason. Steps (Err reason)) → Came agrees limits r e e None before after
+  refused_came refusal h = cause_came (cause_of refusal) h
+
+  module _ (d : Done) (cs : List Edit) (step : Steps (Ok d)) (changes : AreChanges e d.env cs) where
+    pub unsaid_came : (fault : PrintFault) → IsPrintFault r.0 cs fault → Came agrees limits r e e None before after
+    unsaid_came OutOfMemory h = record {
+      response = given_up 61;
+      told = λ files listings agreed. refl;
+      printed = λ files listings agreed shell. (refl, not_unsayable 61 refl _);
+      left = refl;
+      failures = none_more before after later;
+    }
+    unsaid_came (NotSayable name) h = record {
+      response = given_up 62;
+      told = λ files listings agreed. refl;
+      printed = λ files listings agreed shell. (refl, λ is. (d, cs, string_bytes name, step files listings agreed, changes, h));
+      left = refl;
+      failures = none_more before after later;
+    }
+
+    pub accepted_came : (new : Environment) (text : Text) → IsText r.0 text cs → new ≡ d.env → Came agrees limits r e new (Some text) before after
+    accepted_came new text says made = record {
+      response = accepted d;
+      told = step;
+      printed = λ files listings agreed shell. record { settings = cs; exact = changes; says = says };
+      left = made;
+      failures = none_more before after later;
+    }
+
+-- ---- rehearsals
+
+-- of no request
+rehearsed_none : (s : Site) (e : Environment) (n : ℕ) → Rehearsal s e [] [] e n n
+rehearsed_none s e n = record {
+  rehearsed = record { responses = []; session = tt; prints = tt; leaves = refl };
+  failures = none_more n n (omega arith);
+}
+
+-- no request is left
+pub no_requests : (s : Site) (e : Environment) (rest : List code.Request) (n : ℕ) → length rest < 1 → Rehearsal s e (map request_view rest) [] e n n
+no_requests s e [] n none = rehearsed_none s e n
+no_requests s e (r ∷ rs) n none = absurd (omega arith)
+
+-- of a request before others
+pub rehearsed_on : (agrees : Files → Listings → Type 0) (limits : Limits) (files : Files) (listings : Listings) (shell : Shell) → agrees files listings
+    → (r : Request) (e new : Environment) (p : Option Text) (rs : List Request) (ps : List (Option Text)) (left : Environment) (before mid after : ℕ)
+    → Came agrees limits r e new p before mid → Rehearsal (site_in limits shell files listings) new rs ps left mid after
+    → Rehearsal (site_in limits shell files listings) e (r ∷ rs) (p ∷ ps) left before after
+rehearsed_on agrees limits files listings shell agreed r e new p rs ps left before mid after came h =
+    let s = site_in limits shell files listings in
+    let o = came.response in
+    let os = h.rehearsed.responses in
+    record {
+      rehearsed = record {
+        responses = o ∷ os;
+        session = (came.told files listings agreed, subst (λ x. Session s x rs os) came.left h.rehearsed.session);
+        prints = (came.printed files listings agreed shell, subst (λ x. ArePrints s x rs os ps) came.left h.rehearsed.prints);
+        leaves = h.rehearsed.leaves ∙ ap (λ x. left_by x os) came.left;
+      };
+      failures = counts before mid after (one_failed o) (count_failed os) came.failures h.failures;
+    }
+
+-- one text more
+pub prints_push : (texts : List (Option (String Global))) (text : Option (String Global)) (ps : List (Option Text))
+    → prints texts ++ print_view text ∷ ps ≡ prints (texts ++ text ∷ []) ++ ps
+prints_push [] text ps = refl
+prints_push (t ∷ ts) text ps = ap (λ (xs : List (Option Text)). print_view t ∷ xs) (prints_push ts text ps)

@@ -1,0 +1,31 @@
+-- What one request comes to, for this crate's own contracts.
+use Rattle.std.specs.Prelude.{ℕ, ◌≡◌, ◌≤◌, ◌+◌, List, map, Option, string_bytes}
+use Rattle.std.specs.Option.{option_map}
+use Rattle.std.specs.declared.alloc.Global.{Global}
+use Rattle.std.specs.declared.string.String.{String}
+use Rattle.environment.specs.Texts.{Text}
+use Rattle.environment.specs.Environment.{Environment}
+use Rattle.lookup.specs.Agreement.{Files, Listings, Shows}
+use Rattle.shells.specs.declared.shell.Shell.{Shell}
+use Rattle.tclrules.specs.declared.limits.Limits.{Limits}
+use Rattle.requests.specs.Requests.{Request}
+use Rattle.requests.specs.Sessions.{Response, IsResponse, env_after}
+use Rattle.modules.specs.Replies.{site_in}
+use Rattle.rehearsal.specs.Rehearsals.{IsPrint, one_failed}
+
+-- Over each pair of maps that agrees, a request has this response, and this is printed for it.
+pub record Came (agrees : Files → Listings → Type 0) (limits : Limits) (r : Request) (old new : Environment)
+    (print : Option Text) (before after : ℕ) : Type 0 where
+  pub response : Response
+  pub told : Shows agrees (λ files listings. IsResponse (site_in limits r.0 files listings) old r.1 response)
+  pub printed : Shows agrees (λ files listings. (shell : Shell)
+      → IsPrint (site_in limits shell files listings) old r response print)
+  pub left : new ≡ env_after old response
+  pub failures : before + one_failed response ≤ after
+
+-- a text, if any, as its bytes
+abbrev pub print_view : Option (String Global) → Option Text
+print_view text = option_map string_bytes text
+
+abbrev pub prints : List (Option (String Global)) → List (Option Text)
+prints texts = map print_view texts

@@ -1,0 +1,80 @@
+//! The texts that requests print, one after another.
+ghost use Rattle.std.specs.Prelude.{◌≡◌, ◌≤◌, map, IfOk, IfErr};
+ghost use Rattle.lookup.specs.Agreement.{Narrows, Shows};
+ghost use Rattle.shells.specs.declared.shell.Shell.{Shell};
+ghost use Rattle.requests.specs.RequestViews.{request_view};
+ghost use Rattle.modulesteps.specs.declared.refusal.Refusal.TheVariants as refusals;
+ghost use Rattle.modules.specs.Replies.{site_in};
+ghost use Rattle.rehearsal.specs.Rehearsals.{Rehearsal, Makes, ComesBack};
+ghost use Rattle.rehearsal.specs.Parts.{Came, print_view, prints};
+
+use environment::{Env, Vars};
+use lookup::Tree;
+use modules::{Refusal, Request, run_changes};
+use shelltext::print_changes;
+use std::alloc::Global;
+use tclrules::Limits;
+
+/// Makes the changes of a request, and answers the text that says them; or none, and no change, where it is refused.
+fn print_request<T: Tree>(
+    alloc: Global,
+    request: &Request,
+    env: &mut Env,
+    tree: &mut T,
+    limits: Limits,
+) -> Option<String>
+    ensures before { Narrows (T.agrees tree.old) (T.agrees tree.new) }
+    ensures came { Came (T.agrees tree.new) limits (request_view request.now) env.old env.new (print_view result)
+        (T.failures tree.old) (T.failures tree.new) }
+{
+    let Ok(changed) = run_changes(alloc, request, env, tree, limits) else {
+        return None;
+    };
+    let Ok(text) = print_changes(alloc, request.shell, changed.changes.as_slice()) else {
+        return None;
+    };
+    match env.apply(changed.changes) {
+        Ok(()) => Some(text),
+        Err(_) => None,
+    }
+}
+
+/// Runs requests one after another over an environment and a tree of modulefiles, as a session, and answers what they
+/// leave, with the text that each accepted request prints for its shell. For a refused one there is none, and it leaves
+/// the environment; so for one whose changes can't be said in its shell (62).
+///
+/// For every pair of maps that agrees with the tree it is a rehearsal. No more requests have no text since the device
+/// failed than it failed. So shells that ran the texts so far hold the environment that the session has there; and
+/// where the environment is in order, only new modules that are reversible and apart are loaded, and none is left
+/// loaded, they hold it again at the end.
+///
+/// Errors: want of memory for the list of texts (31).
+pub fn rehearse<T: Tree>(
+    alloc: Global,
+    requests: &[Request],
+    env: Env,
+    tree: &mut T,
+    limits: Limits,
+) -> Result<(Env, Vec<Option<String>>), Refusal>
+    ensures before { Narrows (T.agrees tree.old) (T.agrees tree.new) }
+    ensures rehearsed { IfOk result (λ p. Shows (T.agrees tree.new) (λ files listings. (shell : Shell)
+        → Rehearsal (site_in limits shell files listings) env (map request_view requests.now) (prints p.1.items) p.0
+        (T.failures tree.old) (T.failures tree.new))) }
+    ensures makes { IfOk result (λ p. Shows (T.agrees tree.new) (λ files listings. (shell : Shell)
+        → Makes (site_in limits shell files listings) env (map request_view requests.now) (prints p.1.items) p.0)) }
+    ensures comes_back { IfOk result (λ p. Shows (T.agrees tree.new) (λ files listings. (shell : Shell)
+        → ComesBack (site_in limits shell files listings) env (map request_view requests.now) (prints p.1.items) p.0)) }
+    ensures only { IfErr result (λ refusal. refusal ≡ refusals.OutOfMemory) }
+{
+    crate::make();
+    crate::come_back();
+    let mut after = env;
+    let mut texts = Vec::new(alloc);
+    let mut rest = requests;
+    while let [request, later @ ..] = rest {
+        let text = print_request(alloc, request, &mut after, tree, limits);
+        texts.push(text)?;
+        rest = later;
+    }
+    Ok((after, texts))
+}
