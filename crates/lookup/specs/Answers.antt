@@ -1,9 +1,8 @@
 -- How the answers of the search show what the definitions say.
-use Rattle.std.specs.Prelude.{◌≡◌, ℕ, ◌<◌, true, false, Err, codes, string_bytes}
-use Rattle.modulename.specs.ModuleName.{Text, is_module_name}
+use Rattle.std.specs.Prelude.{ℕ, codes, string_bytes}
+use Rattle.modulename.specs.ModuleName.{Text}
 use Rattle.message.specs.Messages.{quoting}
-use Rattle.lookup.specs.Agreement.{Files, Listings, Shows}
-use Rattle.lookup.specs.Search.{Held, absent, no_cookie, not_utf8, script, bad_name, not_found, not_utf8_at, found}
+use Rattle.lookup.specs.Search.{Held, absent, no_cookie, not_utf8, script}
 use Rattle.lookup.specs.declared.modulefile.Modulefile.{Modulefile}
 use Rattle.lookup.specs.declared.modulefile.Modulefile.TheVariants.{Absent, NoCookie, NotUtf8, Script}
 use Rattle.lookup.specs.declared.search.FindFault.{FindFault}
@@ -40,25 +39,3 @@ find_message (fault.NotUtf8 path) = quoting (codes "Not UTF-8: '") (string_bytes
 abbrev pub fault_of_tree : TreeFault → FindFault
 fault_of_tree tree_fault.OutOfMemory = fault.OutOfMemory
 fault_of_tree tree_fault.Device = fault.Device
-
--- The cause of each fault of a search: want of memory has none in the tree, the device has failed since,
--- and any other fault is the answer of the search in each pair of maps that agrees.
-abbrev pub IsFindFault : (Files → Listings → Type 0) → ℕ → ℕ → Text → Text → FindFault → Type 0
-IsFindFault agrees before now modulepath name fault.OutOfMemory = Unit {0}
-IsFindFault agrees before now modulepath name (fault.NotFound n) =
-    Shows agrees (λ files listings. found files modulepath name ≡ Err (not_found (string_bytes n)))
-IsFindFault agrees before now modulepath name fault.Device = before < now
-IsFindFault agrees before now modulepath name (fault.BadName n) =
-    Shows agrees (λ files listings. found files modulepath name ≡ Err (bad_name (string_bytes n)))
-IsFindFault agrees before now modulepath name (fault.BadDefaultFile path) = ⊥
-IsFindFault agrees before now modulepath name (fault.NotUtf8 path) =
-    Shows agrees (λ files listings. found files modulepath name ≡ Err (not_utf8_at (string_bytes path)))
-
--- A name is refused as ill-spelled exactly where it is: no other answer is given for it but want of memory.
-abbrev pub IsSpellingFault : Text → FindFault → Type 0
-IsSpellingFault name fault.OutOfMemory = Unit {0}
-IsSpellingFault name (fault.NotFound n) = is_module_name name ≡ true
-IsSpellingFault name fault.Device = is_module_name name ≡ true
-IsSpellingFault name (fault.BadName n) = (is_module_name name ≡ false) × (string_bytes n ≡ name)
-IsSpellingFault name (fault.BadDefaultFile path) = is_module_name name ≡ true
-IsSpellingFault name (fault.NotUtf8 path) = is_module_name name ≡ true

@@ -2,6 +2,5 @@ pub mod Agreement
 pub mod Answers
 pub mod Contents
 pub mod Devices
-pub mod Entries
 pub mod Search
 pub mod Utf8

@@ -1,4 +1,4 @@
-//! Files and directories by their paths, in memory or on a disk, and the search for modulefiles in them.
+//! Files and directories by their paths, in memory or on a disk, what a path holds as a modulefile, and why none is found.
 #![tactic(auto)]
 
 mod disk;
@@ -13,5 +13,5 @@ pub use laws::{contents_agree, some_pair_agrees};
 pub use memory::MemoryTree;
 pub use modulefile::{Modulefile, read_modulefile};
 pub use modulename::{is_module_name, means};
-pub use search::{FindFault, Found, locate};
+pub use search::FindFault;
 pub use tree::{Tree, TreeFault};

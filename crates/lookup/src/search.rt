@@ -1,31 +1,15 @@
-//! The search for a module by its exact name.
-ghost use Rattle.std.specs.Prelude.{◌≡◌, ◌≤◌, true, false, Ok, Some, IfOk, IfErr, MatchResult, string_bytes};
-ghost use Rattle.modulename.specs.ModuleName.{is_module_name};
+//! Why no module is found.
+ghost use Rattle.std.specs.Prelude.{◌≡◌, Some};
 ghost use Rattle.lookup.specs.declared.search.FindFault.TheVariants.{OutOfMemory};
 ghost use Rattle.message.specs.Messages.{text_of};
-ghost use Rattle.lookup.specs.Agreement.{Shows, Narrows};
-ghost use Rattle.lookup.specs.Answers.{IsFindFault, IsSpellingFault, fault_of_tree, find_message, find_number};
-ghost use Rattle.lookup.specs.Entries.{entry_answer, IsFindFaultAt};
-ghost use Rattle.lookup.specs.Search.{found, path_of};
-ghost use Rattle.std.specs.Option.{option_map};
+ghost use Rattle.lookup.specs.Answers.{fault_of_tree, find_message, find_number};
 
-use crate::modulefile::{Modulefile, read_modulefile};
-use crate::tree::{Tree, TreeFault};
+use crate::tree::TreeFault;
 use message::Message;
-use modulename::is_module_name;
-use std::alloc::{AllocError, AllocFailed, Global};
+use std::alloc::{AllocError, AllocFailed};
 use std::error::Error;
 use std::fmt;
 use std::fmt::Display;
-
-/// A module that was found.
-#[derive(Debug, Drop)]
-pub struct Found {
-    /// The module's name, as `foo/1.0`.
-    pub name: String,
-    /// The path of its modulefile: the directory as MODULEPATH spells it, `/`, and the name.
-    pub path: String,
-}
 
 /// Why no module was found.
 #[derive(Debug, Drop)]
@@ -114,76 +98,4 @@ impl From<TreeFault> for FindFault {
             TreeFault::Device => FindFault::Device,
         }
     }
-}
-
-/// The path of a module below a directory.
-fn path_of(alloc: Global, dir: &str, name: &str) -> Result<String, AllocError>
-    ensures { IfOk result (λ path. string_bytes path ≡ path_of dir.now name.now) }
-{
-    let mut path = String::from_str(alloc, dir)?;
-    path.push('/')?;
-    path.push_str(name)?;
-    Ok(path)
-}
-
-/// The path of the module of this name below one entry of MODULEPATH, if it is there.
-fn module_below<T: Tree>(
-    alloc: Global,
-    tree: &mut T,
-    dir: &str,
-    name: &str,
-) -> Result<Option<String>, FindFault>
-    ensures before { Narrows (T.agrees tree.old) (T.agrees tree.new) }
-    ensures answer { IfOk result (λ r. Shows (T.agrees tree.new) (λ files listings.
-        entry_answer files name.now dir.now ≡ option_map (λ path. Ok (string_bytes path)) r)) }
-    ensures fault { IfErr result (λ e. IsFindFaultAt (T.agrees tree.new) (T.failures tree.old)
-        (T.failures tree.new) name.now dir.now e) }
-    ensures later { T.failures tree.old ≤ T.failures tree.new }
-{
-    if dir.is_empty() {
-        return Ok(None);
-    }
-    let path = path_of(alloc, dir, name)?;
-    match read_modulefile(tree, path.as_str())? {
-        Modulefile::Absent => Ok(None),
-        Modulefile::NoCookie => Ok(None),
-        Modulefile::NotUtf8 => Err(FindFault::NotUtf8(path)),
-        Modulefile::Script(_) => Ok(Some(path)),
-    }
-}
-
-/// Finds the module of exactly this name: the first directory of MODULEPATH, a list parted by colons, that has a
-/// modulefile at directory, `/`, name. Empty entries of MODULEPATH are skipped.
-///
-/// It fails with `BadName` exactly where the name is ill-spelled, before anything is read; with `NotFound` where no
-/// directory has the module; with `NotUtf8` where the module found is not UTF-8; with `Device` only where the device
-/// failed in this call; and with `OutOfMemory`.
-pub fn locate<T: Tree>(
-    alloc: Global,
-    tree: &mut T,
-    modulepath: &str,
-    name: &str,
-) -> Result<Found, FindFault>
-    ensures before { Narrows (T.agrees tree.old) (T.agrees tree.new) }
-    ensures found { IfOk result (λ f. (string_bytes f.name ≡ name.now)
-        × Shows (T.agrees tree.new) (λ files listings.
-        found files modulepath.now name.now ≡ Ok (string_bytes f.path))) }
-    ensures fault { IfErr result (λ e. IsFindFault (T.agrees tree.new) (T.failures tree.old)
-        (T.failures tree.new) modulepath.now name.now e) }
-    ensures spelling { MatchResult result (λ f. is_module_name name.now ≡ true) (λ e. IsSpellingFault name.now e) }
-    ensures unread { is_module_name name.now ≡ false → tree.new ≡ tree.old }
-    ensures later { T.failures tree.old ≤ T.failures tree.new }
-{
-    if !is_module_name(name) {
-        return Err(FindFault::BadName(String::from_str(alloc, name)?));
-    }
-    for dir in modulepath.split(':') {
-        if let Some(path) = module_below(alloc, tree, dir, name)? {
-            return Ok(Found {
-                name: String::from_str(alloc, name)?,
-                path,
-            });
-        }
-    }
-    Err(FindFault::NotFound(String::from_str(alloc, name)?))
 }

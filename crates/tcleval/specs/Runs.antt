@@ -7,9 +7,13 @@ use Rattle.tclchars.specs.declared.fault.TextFault.TheVariants as texts
 use Rattle.tcloperators.specs.declared.fault.ValueFault.{ValueFault}
 use Rattle.tcloperators.specs.declared.fault.ValueFault.TheVariants as faults
 use Rattle.tclvalue.specs.Faults.{HasReason}
-use Rattle.tclrules.specs.Expressions.{fault_of}
+use Rattle.tclexpr.specs.Tree.{Expr}
+use Rattle.tclexpr.specs.Operands.{Operand}
+use Rattle.tcltext.specs.Numerals.{numeral}
+use Rattle.tclvalue.specs.Operators.{truth}
+use Rattle.tclrules.specs.Expressions.{fault_of, expr, normal}
 use Rattle.tclrules.specs.Variables.{State}
-use Rattle.tclrules.specs.Plans.{Ending, Normal, Raised, Returned, Broken, Continued, Bounds, Next, Step, ended, halt, sized}
+use Rattle.tclrules.specs.Plans.{Ending, Normal, Raised, Returned, Broken, Continued, Bounds, Next, Step, ended, halt, given, sized}
 use Rattle.tclrules.specs.Rules.{turn}
 use Rattle.tclsteps.specs.Stops.{halt_of}
 use Rattle.tclsteps.specs.declared.stop.Stop.{Stop}
@@ -59,3 +63,10 @@ IsReasonOf t f e = HasReason (fault_of t f) e
 abbrev pub value_fault : TextFault → ValueFault
 value_fault texts.OutOfMemory = faults.OutOfMemory
 value_fault f = faults.Text f
+
+-- the value of an expression, and whether it holds, once its text is parsed
+abbrev pub expressed : Bounds → Expr Operand → State → Next → Step
+expressed b e s k = expr b e s (λ v s'. given (normal v (numeral v)) s' (λ u. sized b.bytes u (k u s')))
+
+abbrev pub decided : Bounds → Expr Operand → State → (Bool → State → Step) → Step
+decided b e s k = expressed b e s (λ v s'. given (truth v) s' (λ holds. k holds s'))

@@ -17,17 +17,20 @@ ghost use Rattle.tclrules.specs.Forms as forms;
 ghost use Rattle.tclforms.specs.Views.{form_view, pair_texts};
 ghost use Rattle.tclsteps.specs.Machine.{shown, bounds, control_plan};
 ghost use Rattle.tclsteps.specs.Stops.{after};
-ghost use Rattle.tcleval.specs.Runs.{Comes, finish, sized_next, turned, guarded};
+ghost use Rattle.tclexpr.specs.Owned as expression;
+ghost use Rattle.tcleval.specs.Runs.{Comes, finish, sized_next, turned, guarded, expressed, decided};
 ghost use Rattle.tcleval.specs.Later.{Later};
 
 use crate::endings::{after_call, after_catch, after_next, after_turn};
 use crate::evaluator::{Evaluator, sized, within};
+use crate::literals::literal_form;
 use crate::plain::{plain, unknown};
 use crate::trees::{express_tree, normal};
 use crate::turns::begin_turn;
 use crate::words::{literal, push_words};
 use tclarguments::{Loops, allotted, chosen};
 use tclcommands::assign;
+use tclexpr::OwnedExpr;
 use tclforms::{Form, core_form};
 use tclrules::{Host, Limits};
 use tclscript::{ByteRange, Command, Part, Script, Word};
@@ -145,6 +148,9 @@ impl Evaluator {
         ensures later { Later self.old self.new }
     {
         self.count(limits)?;
+        if let Some(form) = literal_form(limits, source, &command.words) {
+            return self.form(host, limits, left, form, wanted);
+        }
         let texts = self.words(host, limits, left, source, &command.words)?;
         self.called(host, limits, left, &texts, wanted)
     }
@@ -259,6 +265,26 @@ impl Evaluator {
         ensures later { Later self.old self.new }
     {
         let tree = express_tree(self.alloc, &mut self.kept, text)?;
+        self.tree_value(host, limits, left, &tree)
+    }
+
+    /// The value of a whole expression.
+    #[cycle(evaluate)]
+    #[tactic(none)]
+    fn tree_value<H: Host>(
+        &mut self,
+        host: &mut H,
+        limits: Limits,
+        left: u32,
+        tree: &OwnedExpr,
+    ) -> Result<String, Stop>
+        ensures comes { (k : Next) → Leads limits.commands (rule limits.value_bytes)
+            (expressed (bounds limits.value_bytes left) (expression.owned_view tree.now) self.old.variables k)
+            (point (H.oracle host.old) (H.told host.old) self.old.used)
+            (after result (λ t s. k (string_bytes t) s) self.new.variables)
+            (point (H.oracle host.new) (H.told host.new) self.new.used) }
+        ensures later { Later self.old self.new }
+    {
         let start = Control::Expression(&tree.expression);
         let value = self.value(host, limits, left, tree.text.as_str(), start)?;
         let value = normal(self.alloc, value)?;
@@ -282,7 +308,31 @@ impl Evaluator {
             (point (H.oracle host.new) (H.told host.new) self.new.used) }
         ensures later { Later self.old self.new }
     {
-        let value = self.express(host, limits, left, text)?;
+        let tree = express_tree(self.alloc, &mut self.kept, text)?;
+        self.holds(host, limits, left, &tree)
+    }
+
+    /// Whether a condition holds.
+    #[cycle(evaluate)]
+    #[tactic(none)]
+    fn holds<H: Host>(
+        &mut self,
+        host: &mut H,
+        limits: Limits,
+        left: u32,
+        tree: &OwnedExpr,
+    ) -> Result<bool, Stop>
+        ensures comes { (k : Bool → State → plans.Step) → Leads limits.commands (rule limits.value_bytes)
+            (decided (bounds limits.value_bytes left) (expression.owned_view tree.now) self.old.variables k)
+            (point (H.oracle host.old) (H.told host.old) self.old.used)
+            (after result k self.new.variables)
+            (point (H.oracle host.new) (H.told host.new) self.new.used) }
+        ensures later { Later self.old self.new }
+    {
+        if let Some(holds) = self.comparison(limits, tree)? {
+            return Ok(holds);
+        }
+        let value = self.tree_value(host, limits, left, tree)?;
         Ok(truth(self.alloc, value.as_str())?)
     }
 
@@ -316,11 +366,11 @@ impl Evaluator {
         host: &mut H,
         limits: Limits,
         left: u32,
-        condition: &str,
+        condition: &OwnedExpr,
         body: &str,
     ) -> Result<bool, Stop>
         ensures comes { (again : State → plans.Step) → Leads limits.commands (rule limits.value_bytes)
-            (decide (bounds limits.value_bytes left) condition.now self.old.variables
+            (decided (bounds limits.value_bytes left) (expression.owned_view condition.now) self.old.variables
             (guarded (bounds limits.value_bytes left) body.now again))
             (point (H.oracle host.old) (H.told host.old) self.old.used)
             (after result (turned again) self.new.variables)
@@ -329,7 +379,7 @@ impl Evaluator {
         ensures counted { IfOk result (λ more. more ≡ true
             → (self.old.used < limits.commands) × (self.old.used < self.new.used)) }
     {
-        if self.decide(host, limits, left, condition)? {
+        if self.holds(host, limits, left, condition)? {
             return self.turn(host, limits, left, body);
         }
         Ok(false)
@@ -353,8 +403,9 @@ impl Evaluator {
             (point (H.oracle host.new) (H.told host.new) self.new.used) }
         ensures later { Later self.old self.new }
     {
+        let tree = express_tree(self.alloc, &mut self.kept, condition)?;
         loop {
-            if !self.guarded_turn(host, limits, left, condition, body)? {
+            if !self.guarded_turn(host, limits, left, &tree, body)? {
                 return Ok(String::new(self.alloc));
             }
         }
@@ -404,8 +455,9 @@ impl Evaluator {
             (point (H.oracle host.new) (H.told host.new) self.new.used) }
         ensures later { Later self.old self.new }
     {
+        let tree = express_tree(self.alloc, &mut self.kept, condition)?;
         loop {
-            if !self.guarded_turn(host, limits, left, condition, body)? {
+            if !self.guarded_turn(host, limits, left, &tree, body)? {
                 return Ok(String::new(self.alloc));
             }
             if !after_next(self.script(host, limits, left, next, false))? {

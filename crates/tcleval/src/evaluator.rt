@@ -1,18 +1,23 @@
 //! What changes while a script is evaluated.
-ghost use Rattle.std.specs.Prelude.{◌≡◌, ◌≤◌, ◌<◌, ◌+◌, ℕ, Bool, MatchResult, IfOk, length, string_bytes};
+ghost use Rattle.std.specs.Prelude.{◌≡◌, ◌≤◌, ◌<◌, ◌+◌, ℕ, Bool, MatchResult, IfOk, IfErr, IfSome, length, string_bytes};
 ghost use Rattle.tclrules.specs.Leads.{Leads, Point};
 ghost use Rattle.tclrules.specs.Variables.{State};
 ghost use Rattle.tclrules.specs.Plans as plans;
 ghost use Rattle.tclrules.specs.Plans.{Job, Next, sized};
-ghost use Rattle.tclsteps.specs.Stops.{after};
-ghost use Rattle.tcleval.specs.Runs.{Comes};
+ghost use Rattle.tclsteps.specs.Stops.{after, stopped};
+ghost use Rattle.tclexpr.specs.Owned as expression;
+ghost use Rattle.tclsteps.specs.Machine.{bounds};
+ghost use Rattle.tcleval.specs.Runs.{Comes, decided};
+ghost use Rattle.tcloperators.specs.declared.operators.Computed.TheVariants.{Truth};
 ghost use Rattle.tclsteps.specs.declared.stop.Stop.TheVariants.{Halted};
 ghost use Rattle.tclsteps.specs.declared.stop.Halt.TheVariants.{TooManyCommands};
 
 use std::alloc::Global;
+use tclexpr::OwnedExpr;
 use tclkept::Kept;
+use tcloperators::Computed;
 use tclrules::Limits;
-use tclsteps::{Halt, Stop};
+use tclsteps::{Context, Halt, Stop, compute_at_hand};
 use tclvariables::Variables;
 
 /// The trees that are kept, the variables, and how many commands and turns of loops were counted.
@@ -39,6 +44,39 @@ impl Evaluator {
         }
         self.used += 1;
         Ok(())
+    }
+
+    /// Whether a comparison of two operands at hand holds; None of any other expression.
+    pub(crate) fn comparison(&self, limits: Limits, tree: &OwnedExpr) -> Result<Option<bool>, Stop>
+        ensures found { IfOk result (λ found. IfSome found (λ holds. (most left : ℕ) (r : Job → plans.Step)
+            (k : Bool → State → plans.Step) (x : Point) → Leads most r
+            (decided (bounds limits.value_bytes left) (expression.owned_view tree.now) self.now.variables k) x
+            (k holds self.now.variables) x)) }
+        ensures err { IfErr result (λ stop. (most left : ℕ) (r : Job → plans.Step)
+            (k : Bool → State → plans.Step) (x : Point) → Leads most r
+            (decided (bounds limits.value_bytes left) (expression.owned_view tree.now) self.now.variables k) x
+            (stopped stop self.now.variables) x) }
+    {
+        let context = Context {
+            alloc: self.alloc,
+            limits,
+            source: tree.text.as_str(),
+            variables: &self.variables,
+        };
+        match compute_at_hand(context, &tree.expression)? {
+            Some(made) => Ok(truth_of(limits, made)),
+            None => Ok(None),
+        }
+    }
+}
+
+/// The truth value that an operator made, where its text is within the limit on values.
+fn truth_of(limits: Limits, made: Computed) -> Option<bool>
+    ensures { IfSome result (λ holds. (made ≡ Truth holds) × (1 ≤ limits.value_bytes)) }
+{
+    match made {
+        Computed::Truth(holds) if limits.value_bytes > 0 => Some(holds),
+        _ => None,
     }
 }
 

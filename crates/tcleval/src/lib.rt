@@ -5,6 +5,7 @@ mod cycle;
 mod endings;
 mod evaluator;
 mod file;
+mod literals;
 mod plain;
 mod trees;
 mod turns;

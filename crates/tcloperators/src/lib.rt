@@ -17,5 +17,5 @@ pub use messages::{
     not_numeric, tcl_error, wrong_words,
 };
 pub use operands::sum;
-pub use operators::{binary, text_order, truth_text, unary};
+pub use operators::{Computed, binary, compute, text_order, truth_text, unary};
 pub use truth_values::truth;

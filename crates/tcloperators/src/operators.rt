@@ -6,6 +6,7 @@ ghost use Rattle.tcloperators.specs.Faults.{reason_of, GivesText};
 ghost use Rattle.tcloperators.specs.Numbers.{within_64_bits, other_bits};
 ghost use Rattle.tcloperators.specs.Operators.{unary_value, binary_value, truth_text, text_order, order_of, decimal_text};
 ghost use Rattle.tcloperators.specs.Operators.{whole_operand, whole_operands, number_operand, found_in};
+ghost use Rattle.tcloperators.specs.Values.{computed_text};
 ghost use Rattle.tcloperators.specs.Views.{operands_view};
 
 use crate::fault::ValueFault;
@@ -16,6 +17,29 @@ use crate::truth_values::truth;
 use std::alloc::Global;
 use std::cmp::Ordering;
 use tcltext::{BinaryOperator, Numeral, UnaryOperator, read_number};
+
+/// What an operator between its operands makes.
+#[derive(Clone, Copy, Debug, PartialEq, Eq)]
+pub enum Computed {
+    /// Whether a comparison holds.
+    Truth(bool),
+    /// A whole number.
+    Whole(i64),
+}
+
+impl Computed {
+    /// The text of the value: 1 or 0 of a truth value, and a number in decimal.
+    ///
+    /// Errors: `OutOfMemory`.
+    pub fn into_text(self, alloc: Global) -> Result<String, ValueFault>
+        ensures { GivesText result (Ok (computed_text self)) }
+    {
+        match self {
+            Computed::Truth(holds) => truth_text(alloc, holds),
+            Computed::Whole(number) => decimal_text(alloc, number),
+        }
+    }
+}
 
 /// The value of an operator before its operand: `-`, `+` and `~` want a whole number, `!` a truth value.
 ///
@@ -55,17 +79,29 @@ pub fn binary(
 ) -> Result<String, ValueFault>
     ensures { GivesText result (binary_value op left.now right.now) }
 {
+    compute(alloc, op, left, right)?.into_text(alloc)
+}
+
+/// What an operator between two operands makes of them, of which no text is made yet; its faults are those of `binary`.
+pub fn compute(
+    alloc: Global,
+    op: BinaryOperator,
+    left: &str,
+    right: &str,
+) -> Result<Computed, ValueFault>
+    ensures { Gives reason_of computed_text result (binary_value op left.now right.now) }
+{
     let number = match op {
-        BinaryOperator::TextEqual => return truth_text(alloc, left == right),
-        BinaryOperator::TextNotEqual => return truth_text(alloc, left != right),
-        BinaryOperator::In => return truth_text(alloc, is_in(alloc, left, right)?),
-        BinaryOperator::NotIn => return truth_text(alloc, !is_in(alloc, left, right)?),
-        BinaryOperator::Less => return truth_text(alloc, order(left, right)?.is_lt()),
-        BinaryOperator::Greater => return truth_text(alloc, order(left, right)?.is_gt()),
-        BinaryOperator::LessEqual => return truth_text(alloc, order(left, right)?.is_le()),
-        BinaryOperator::GreaterEqual => return truth_text(alloc, order(left, right)?.is_ge()),
-        BinaryOperator::Equal => return truth_text(alloc, order(left, right)?.is_eq()),
-        BinaryOperator::NotEqual => return truth_text(alloc, order(left, right)?.is_ne()),
+        BinaryOperator::TextEqual => return Ok(Computed::Truth(left == right)),
+        BinaryOperator::TextNotEqual => return Ok(Computed::Truth(left != right)),
+        BinaryOperator::In => return Ok(Computed::Truth(is_in(alloc, left, right)?)),
+        BinaryOperator::NotIn => return Ok(Computed::Truth(!is_in(alloc, left, right)?)),
+        BinaryOperator::Less => return Ok(Computed::Truth(order(left, right)?.is_lt())),
+        BinaryOperator::Greater => return Ok(Computed::Truth(order(left, right)?.is_gt())),
+        BinaryOperator::LessEqual => return Ok(Computed::Truth(order(left, right)?.is_le())),
+        BinaryOperator::GreaterEqual => return Ok(Computed::Truth(order(left, right)?.is_ge())),
+        BinaryOperator::Equal => return Ok(Computed::Truth(order(left, right)?.is_eq())),
+        BinaryOperator::NotEqual => return Ok(Computed::Truth(order(left, right)?.is_ne())),
         BinaryOperator::Multiply => whole_operands(alloc, op, left, right)?.product()?,
         BinaryOperator::Divide => whole_operands(alloc, op, left, right)?.quotient(alloc)?,
         BinaryOperator::Remainder => whole_operands(alloc, op, left, right)?.remainder(alloc)?,
@@ -77,7 +113,7 @@ pub fn binary(
         BinaryOperator::BitXor => whole_operands(alloc, op, left, right)?.bits_of_one(),
         BinaryOperator::BitOr => whole_operands(alloc, op, left, right)?.bits_of_either(),
     };
-    decimal_text(alloc, number)
+    Ok(Computed::Whole(number))
 }
 
 /// Whether a text is an element of a list.

@@ -2,12 +2,14 @@
 //! for a value stands on a stack in memory, so that no nesting takes a frame of the machine.
 #![tactic(auto)]
 
+mod at_hand;
 mod context;
 mod frame;
 mod reading;
 mod stop;
 mod substitution;
 
+pub use at_hand::compute_at_hand;
 pub use context::Context;
 pub use frame::{Control, Frame, Step};
 pub use reading::{read, read_element};

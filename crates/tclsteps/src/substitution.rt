@@ -14,6 +14,7 @@ ghost use Rattle.tclsteps.specs.declared.frame.Frame.TheVariants.{And, Or, Choic
 ghost use Rattle.tclsteps.specs.declared.stop.Stop.TheVariants.{Halted};
 ghost use Rattle.tclsteps.specs.declared.stop.Halt.TheVariants.{OutOfMemory};
 
+use crate::at_hand::compute_at_hand;
 use crate::context::Context;
 use crate::frame::{Control, Frame, Step};
 use crate::reading::{read, read_element};
@@ -217,6 +218,10 @@ fn expression<'a, H: Host>(
             Ok(Step::Next(Control::Expression(inner)))
         }
         Expr::Binary(operator, left, right) => {
+            if let Some(value) = compute_at_hand(context, expression)? {
+                let text = value.into_text(context.alloc)?;
+                return Ok(Step::Next(Control::Value(text)));
+            }
             wait(stack, Frame::Left(*operator, right))?;
             Ok(Step::Next(Control::Expression(left)))
         }

@@ -11,7 +11,8 @@ use Rattle.tclrules.specs.Plans.{Next, sized}
 use Rattle.tclrules.specs.Rules.{rule, called, turn}
 use Rattle.tclforms.specs.Views.{pair_texts}
 use Rattle.tclsteps.specs.Machine.{shown, bounds}
-use Rattle.tcleval.specs.Runs.{sized_next, guarded}
+use Rattle.tcleval.specs.Runs.{sized_next, guarded, decided}
+use Rattle.tclsteps.proofs.AtHand.{from_same}
 use Rattle.tclrules.specs.Rules as table
 use Rattle.std.proofs.lemmas.Bool.{false≢true}
 use Rattle.std.proofs.lemmas.Result.{err_from_is_err_and}
@@ -219,8 +220,8 @@ command-returns-clause-comes g t c =
     let b = bounds c.args.limits.value_bytes c.args.left in
     let h = c.in_ok-count.ensures in
     let v = command_words (shown c.args.source.now) c.args.command.now in
-    let a = rw c.deref-2.ensures.value at c.called.ensures.comes in
-    let w = λ (k : Next). rw (h.variables, h.counted.1, c.deref.ensures.value) at (c.in_ok-texts.ensures.comes (λ texts s1. called b texts s1 (sized_next c.args.limits.value_bytes k))) in
+    let a = rw c.deref-3.ensures.value at c.called.ensures.comes in
+    let w = λ (k : Next). rw (h.variables, h.counted.1, c.deref-2.ensures.value) at (c.in_ok-texts.ensures.comes (λ texts s1. called b texts s1 (sized_next c.args.limits.value_bytes k))) in
     (a.0, a.1, λ k. rw v (go_on (go_on (count_on h.counted.0) (w k)) (a.2 k)))
 
 pub command-returns-clause-later : goal.command-returns-clause-later
@@ -239,7 +240,7 @@ command-returns-in_err-texts-clause-comes g t c =
     let b = bounds c.args.limits.value_bytes c.args.left in
     let h = c.in_ok-count.ensures in
     let v = command_words (shown c.args.source.now) c.args.command.now in
-    let w = λ (k : Next). rw (h.variables, h.counted.1, c.deref.ensures.value) at (c.in_err-texts.ensures.comes (λ texts s1. called b texts s1 (sized_next c.args.limits.value_bytes k))) in
+    let w = λ (k : Next). rw (h.variables, h.counted.1, c.deref-2.ensures.value) at (c.in_err-texts.ensures.comes (λ texts s1. called b texts s1 (sized_next c.args.limits.value_bytes k))) in
     comes_stopped _ _ _ _ _ c.from_residual-in_err-texts.ensures.1 (λ k. rw v (go_on (count_on h.counted.0) (w k)))
 
 pub command-returns-in_err-texts-clause-later : goal.command-returns-in_err-texts-clause-later
@@ -322,73 +323,6 @@ core_command-returns-in_err-form-clause-comes g t c =
 pub core_command-returns-in_err-form-clause-later : goal.core_command-returns-in_err-form-clause-later
 core_command-returns-in_err-form-clause-later g t c = later_refl
 
-pub decide-express-requires : goal.decide-express-requires
-decide-express-requires g t c κs within = search rules
-
-pub decide-returns-clause-comes : goal.decide-returns-clause-comes
-decide-returns-clause-comes g t c = λ k.
-    let h = rw c.as_str.ensures.value at c.in_ok-truth.ensures in
-    go_on (c.in_ok-value.ensures.comes _) (given_on _ _ _ _ h)
-
-pub decide-returns-clause-later : goal.decide-returns-clause-later
-decide-returns-clause-later g t c = c.in_ok-value.ensures.later
-
-pub decide-returns-in_err-truth-clause-comes : goal.decide-returns-in_err-truth-clause-comes
-decide-returns-in_err-truth-clause-comes g t c = λ k.
-    let h = rw c.as_str.ensures.value at c.in_err-truth.ensures in
-    go_on (c.in_ok-value.ensures.comes _) (value_stops _ _ _ _ _ _ c.from_residual-in_err-truth.ensures.1 h)
-
-pub decide-returns-in_err-truth-clause-later : goal.decide-returns-in_err-truth-clause-later
-decide-returns-in_err-truth-clause-later g t c = c.in_ok-value.ensures.later
-
-pub decide-returns-in_err-value-clause-comes : goal.decide-returns-in_err-value-clause-comes
-decide-returns-in_err-value-clause-comes g t c = λ k. passed_on _ _ _ _ c.from_residual.ensures.1 (c.in_err-value.ensures.comes _)
-
-pub decide-returns-in_err-value-clause-later : goal.decide-returns-in_err-value-clause-later
-decide-returns-in_err-value-clause-later g t c = c.in_err-value.ensures.later
-
-pub decide-truth-requires-text-text : goal.decide-truth-requires-text-text
-decide-truth-requires-text-text g t c κs = search rules
-
-pub express-express_tree-requires-text-text : goal.express-express_tree-requires-text-text
-express-express_tree-requires-text-text g t c κs = search rules
-
-pub express-returns-clause-comes : goal.express-returns-clause-comes
-express-returns-clause-comes g t c = λ k.
-    let h = rw (c.as_str.ensures.value, c.deref-2.ensures, c.deref.ensures) at (c.in_ok-value.ensures.comes (λ v s'. given (normal v (numeral v)) s' (λ u. sized c.args.limits.value_bytes u (k u s')))) in
-    let l = go_on (given_on _ _ _ _ c.in_ok-tree.ensures.tree) h in
-    go_on (go_on l (given_on _ _ _ _ c.in_ok-value-2.ensures)) (c.sized.ensures.comes _ _ k _ _)
-
-pub express-returns-clause-later : goal.express-returns-clause-later
-express-returns-clause-later g t c = later_parsed refl c.in_ok-tree.ensures.begins c.in_ok-value.ensures.later
-
-pub express-returns-in_err-tree-clause-comes : goal.express-returns-in_err-tree-clause-comes
-express-returns-in_err-tree-clause-comes g t c = λ k. value_stops _ _ _ _ _ _ c.from_residual.ensures.1 c.in_err-tree.ensures.tree
-
-pub express-returns-in_err-tree-clause-later : goal.express-returns-in_err-tree-clause-later
-express-returns-in_err-tree-clause-later g t c = later_begun refl c.in_err-tree.ensures.begins
-
-pub express-returns-in_err-value-2-clause-comes : goal.express-returns-in_err-value-2-clause-comes
-express-returns-in_err-value-2-clause-comes g t c = λ k.
-    let h = rw (c.as_str.ensures.value, c.deref-2.ensures, c.deref.ensures) at (c.in_ok-value.ensures.comes (λ v s'. given (normal v (numeral v)) s' (λ u. sized c.args.limits.value_bytes u (k u s')))) in
-    let l = go_on (given_on _ _ _ _ c.in_ok-tree.ensures.tree) h in
-    go_on l (value_stops _ _ _ _ _ _ c.from_residual-in_err-value-2.ensures.1 c.in_err-value-2.ensures)
-
-pub express-returns-in_err-value-2-clause-later : goal.express-returns-in_err-value-2-clause-later
-express-returns-in_err-value-2-clause-later g t c = later_parsed refl c.in_ok-tree.ensures.begins c.in_ok-value.ensures.later
-
-pub express-returns-in_err-value-clause-comes : goal.express-returns-in_err-value-clause-comes
-express-returns-in_err-value-clause-comes g t c = λ k.
-    let h = rw (c.as_str.ensures.value, c.deref-2.ensures, c.deref.ensures) at (c.in_err-value.ensures.comes (λ v s'. given (normal v (numeral v)) s' (λ u. sized c.args.limits.value_bytes u (k u s')))) in
-    let l = go_on (given_on _ _ _ _ c.in_ok-tree.ensures.tree) h in
-    passed_on _ _ _ _ c.from_residual-in_err-value.ensures.1 l
-
-pub express-returns-in_err-value-clause-later : goal.express-returns-in_err-value-clause-later
-express-returns-in_err-value-clause-later g t c = later_parsed refl c.in_ok-tree.ensures.begins c.in_err-value.ensures.later
-
-pub express-value-requires : goal.express-value-requires
-express-value-requires g t c κs within = search rules
-
 pub for_loop-for_turns-requires : goal.for_loop-for_turns-requires
 for_loop-for_turns-requires g t c κs within = search rules
 
@@ -410,23 +344,23 @@ for_loop-script-requires g t c κs within = search rules
 pub for_turns-guarded_turn-requires : goal.for_turns-guarded_turn-requires
 for_turns-guarded_turn-requires g t c κs within = search rules
 
-pub for_turns-loop-self-init : goal.for_turns-loop-self-init
-for_turns-loop-self-init g t c = record { comes = λ k. stay; later = later_refl }
+pub for_turns-loop-tree-init : goal.for_turns-loop-tree-init
+for_turns-loop-tree-init g t c = record { comes = λ k. stay; later = later_begun refl c.in_ok-tree.ensures.begins }
 
-pub for_turns-loop-self-preserved : goal.for_turns-loop-self-preserved
-for_turns-loop-self-preserved g t c = record {
+pub for_turns-loop-tree-preserved : goal.for_turns-loop-tree-preserved
+for_turns-loop-tree-preserved g t c = record {
   comes = λ k.
       let again = λ (s3 : State). Runs (plans.For c.args.left c.args.condition.now c.args.next.now c.args.body.now s3) plans.ended in
       let between = λ (s2 : State). table.body (bounds c.args.limits.value_bytes c.args.left) c.args.next.now s2 (table.after_next again) in
-      let h = rw c.if-not-branch.false at (c.in_ok-guarded_turn.ensures.comes between) in
+      let h = rw c.if-not-branch.false at (go_on (given_on _ _ c.loop-tree.self.variables (λ e. decided (bounds c.args.limits.value_bytes c.args.left) e c.loop-tree.self.variables (guarded (bounds c.args.limits.value_bytes c.args.left) c.args.body.now between)) c.in_ok-tree.ensures.tree) (rw c.deref.ensures at (c.in_ok-guarded_turn.ensures.comes between))) in
       let n = go_on h (run_next again _ _ _ c.script.ensures.comes) in
       let e = rw c.if-not-branch-2.false at (c.in_ok-after_next.ensures again c.script.new.self.variables) in
-      go_on (c.loop-self.invariant.comes k) (run_tail (same_as e n));
-  later = later_on (later_on c.loop-self.invariant.later c.in_ok-guarded_turn.ensures.later) c.script.ensures.later;
+      go_on (c.loop-tree.invariant.comes k) (run_tail (same_as e n));
+  later = later_on (later_on c.loop-tree.invariant.later c.in_ok-guarded_turn.ensures.later) c.script.ensures.later;
 }
 
-pub for_turns-loop-self-smaller : goal.for_turns-loop-self-smaller
-for_turns-loop-self-smaller g t c =
+pub for_turns-loop-tree-smaller : goal.for_turns-loop-tree-smaller
+for_turns-loop-tree-smaller g t c =
     let h = c.in_ok-guarded_turn.ensures.counted c.if-not-branch.false in
     omega (arith, h.0, h.1, c.script.ensures.later.rises)
 
@@ -434,43 +368,43 @@ pub for_turns-returns-in_err-after_next-clause-comes : goal.for_turns-returns-in
 for_turns-returns-in_err-after_next-clause-comes g t c = λ k.
     let again = λ (s3 : State). Runs (plans.For c.args.left c.args.condition.now c.args.next.now c.args.body.now s3) plans.ended in
     let between = λ (s2 : State). table.body (bounds c.args.limits.value_bytes c.args.left) c.args.next.now s2 (table.after_next again) in
-    let h = rw c.if-not-branch.false at (c.in_ok-guarded_turn.ensures.comes between) in
+    let h = rw c.if-not-branch.false at (go_on (given_on _ _ c.loop-tree.self.variables (λ e. decided (bounds c.args.limits.value_bytes c.args.left) e c.loop-tree.self.variables (guarded (bounds c.args.limits.value_bytes c.args.left) c.args.body.now between)) c.in_ok-tree.ensures.tree) (rw c.deref.ensures at (c.in_ok-guarded_turn.ensures.comes between))) in
     let n = go_on h (run_next again _ _ _ c.script.ensures.comes) in
-    passed_on _ _ _ _ c.from_residual-in_err-after_next.ensures.1 (go_on (c.loop-self.invariant.comes k) (run_stops _ _ (same_as (c.in_err-after_next.ensures again _) n)))
+    passed_on _ _ _ _ c.from_residual-in_err-after_next.ensures.1 (go_on (c.loop-tree.invariant.comes k) (run_stops _ _ (same_as (c.in_err-after_next.ensures again _) n)))
 
 pub for_turns-returns-in_err-after_next-clause-later : goal.for_turns-returns-in_err-after_next-clause-later
-for_turns-returns-in_err-after_next-clause-later g t c = later_on (later_on c.loop-self.invariant.later c.in_ok-guarded_turn.ensures.later) c.script.ensures.later
+for_turns-returns-in_err-after_next-clause-later g t c = later_on (later_on c.loop-tree.invariant.later c.in_ok-guarded_turn.ensures.later) c.script.ensures.later
 
 pub for_turns-returns-in_err-guarded_turn-clause-comes : goal.for_turns-returns-in_err-guarded_turn-clause-comes
 for_turns-returns-in_err-guarded_turn-clause-comes g t c = λ k.
     let again = λ (s3 : State). Runs (plans.For c.args.left c.args.condition.now c.args.next.now c.args.body.now s3) plans.ended in
     let between = λ (s2 : State). table.body (bounds c.args.limits.value_bytes c.args.left) c.args.next.now s2 (table.after_next again) in
-    passed_on _ _ _ _ c.from_residual.ensures.1 (go_on (c.loop-self.invariant.comes k) (run_stops _ _ (c.in_err-guarded_turn.ensures.comes between)))
+    passed_on _ _ _ _ c.from_residual-in_err-guarded_turn.ensures.1 (go_on (c.loop-tree.invariant.comes k) (run_stops _ _ (go_on (given_on _ _ c.loop-tree.self.variables (λ e. decided (bounds c.args.limits.value_bytes c.args.left) e c.loop-tree.self.variables (guarded (bounds c.args.limits.value_bytes c.args.left) c.args.body.now between)) c.in_ok-tree.ensures.tree) (rw c.deref.ensures at (c.in_err-guarded_turn.ensures.comes between)))))
 
 pub for_turns-returns-in_err-guarded_turn-clause-later : goal.for_turns-returns-in_err-guarded_turn-clause-later
-for_turns-returns-in_err-guarded_turn-clause-later g t c = later_on c.loop-self.invariant.later c.in_err-guarded_turn.ensures.later
+for_turns-returns-in_err-guarded_turn-clause-later g t c = later_on c.loop-tree.invariant.later c.in_err-guarded_turn.ensures.later
 
 pub for_turns-returns-then-not-branch-2-clause-comes : goal.for_turns-returns-then-not-branch-2-clause-comes
 for_turns-returns-then-not-branch-2-clause-comes g t c = λ k.
     let again = λ (s3 : State). Runs (plans.For c.args.left c.args.condition.now c.args.next.now c.args.body.now s3) plans.ended in
     let between = λ (s2 : State). table.body (bounds c.args.limits.value_bytes c.args.left) c.args.next.now s2 (table.after_next again) in
-    let h = rw c.if-not-branch.false at (c.in_ok-guarded_turn.ensures.comes between) in
+    let h = rw c.if-not-branch.false at (go_on (given_on _ _ c.loop-tree.self.variables (λ e. decided (bounds c.args.limits.value_bytes c.args.left) e c.loop-tree.self.variables (guarded (bounds c.args.limits.value_bytes c.args.left) c.args.body.now between)) c.in_ok-tree.ensures.tree) (rw c.deref.ensures at (c.in_ok-guarded_turn.ensures.comes between))) in
     let n = go_on h (run_next again _ _ _ c.script.ensures.comes) in
     let e = rw c.if-not-branch-2.true at (c.in_ok-after_next.ensures again c.script.new.self.variables) in
-    rw c.new-then-not-branch-2.ensures.bytes (go_on (c.loop-self.invariant.comes k) (run_on (same_as e n)))
+    rw c.new-then-not-branch-2.ensures.bytes (go_on (c.loop-tree.invariant.comes k) (run_on (same_as e n)))
 
 pub for_turns-returns-then-not-branch-2-clause-later : goal.for_turns-returns-then-not-branch-2-clause-later
-for_turns-returns-then-not-branch-2-clause-later g t c = later_on (later_on c.loop-self.invariant.later c.in_ok-guarded_turn.ensures.later) c.script.ensures.later
+for_turns-returns-then-not-branch-2-clause-later g t c = later_on (later_on c.loop-tree.invariant.later c.in_ok-guarded_turn.ensures.later) c.script.ensures.later
 
 pub for_turns-returns-then-not-branch-clause-comes : goal.for_turns-returns-then-not-branch-clause-comes
 for_turns-returns-then-not-branch-clause-comes g t c = λ k.
     let again = λ (s3 : State). Runs (plans.For c.args.left c.args.condition.now c.args.next.now c.args.body.now s3) plans.ended in
     let between = λ (s2 : State). table.body (bounds c.args.limits.value_bytes c.args.left) c.args.next.now s2 (table.after_next again) in
-    let h = rw c.if-not-branch.true at (c.in_ok-guarded_turn.ensures.comes between) in
-    rw c.new.ensures.bytes (go_on (c.loop-self.invariant.comes k) (run_on h))
+    let h = rw c.if-not-branch.true at (go_on (given_on _ _ c.loop-tree.self.variables (λ e. decided (bounds c.args.limits.value_bytes c.args.left) e c.loop-tree.self.variables (guarded (bounds c.args.limits.value_bytes c.args.left) c.args.body.now between)) c.in_ok-tree.ensures.tree) (rw c.deref.ensures at (c.in_ok-guarded_turn.ensures.comes between))) in
+    rw c.new.ensures.bytes (go_on (c.loop-tree.invariant.comes k) (run_on h))
 
 pub for_turns-returns-then-not-branch-clause-later : goal.for_turns-returns-then-not-branch-clause-later
-for_turns-returns-then-not-branch-clause-later g t c = later_on c.loop-self.invariant.later c.in_ok-guarded_turn.ensures.later
+for_turns-returns-then-not-branch-clause-later g t c = later_on c.loop-tree.invariant.later c.in_ok-guarded_turn.ensures.later
 
 pub for_turns-script-requires : goal.for_turns-script-requires
 for_turns-script-requires g t c κs within = search rules
@@ -669,42 +603,42 @@ form-returns-in_ok-text-in-Express-clause-later g t c = c.express.ensures.later
 pub form-while_turns-requires : goal.form-while_turns-requires
 form-while_turns-requires g t c κs within = search rules
 
-pub guarded_turn-decide-requires : goal.guarded_turn-decide-requires
-guarded_turn-decide-requires g t c κs within = search rules
+pub guarded_turn-holds-requires : goal.guarded_turn-holds-requires
+guarded_turn-holds-requires g t c κs within = search rules
 
 pub guarded_turn-returns-clause-comes : goal.guarded_turn-returns-clause-comes
 guarded_turn-returns-clause-comes g t c = λ again.
     let g = guarded (bounds c.args.limits.value_bytes c.args.left) c.args.body.now again in
-    rw c.if-branch.false at (c.in_ok-decide.ensures.comes g)
+    rw c.if-branch.false at (c.in_ok-holds.ensures.comes g)
 
 pub guarded_turn-returns-clause-counted : goal.guarded_turn-returns-clause-counted
 guarded_turn-returns-clause-counted g t c = λ e. absurd (false≢true e)
 
 pub guarded_turn-returns-clause-later : goal.guarded_turn-returns-clause-later
-guarded_turn-returns-clause-later g t c = c.in_ok-decide.ensures.later
+guarded_turn-returns-clause-later g t c = c.in_ok-holds.ensures.later
 
-pub guarded_turn-returns-in_err-decide-clause-comes : goal.guarded_turn-returns-in_err-decide-clause-comes
-guarded_turn-returns-in_err-decide-clause-comes g t c = λ again. passed_on _ _ _ _ c.from_residual.ensures.1 (c.in_err-decide.ensures.comes _)
+pub guarded_turn-returns-in_err-holds-clause-comes : goal.guarded_turn-returns-in_err-holds-clause-comes
+guarded_turn-returns-in_err-holds-clause-comes g t c = λ again. passed_on _ _ _ _ c.from_residual.ensures.1 (c.in_err-holds.ensures.comes _)
 
-pub guarded_turn-returns-in_err-decide-clause-counted : goal.guarded_turn-returns-in_err-decide-clause-counted
-guarded_turn-returns-in_err-decide-clause-counted g t c =
+pub guarded_turn-returns-in_err-holds-clause-counted : goal.guarded_turn-returns-in_err-holds-clause-counted
+guarded_turn-returns-in_err-holds-clause-counted g t c =
     let p = err_from_is_err_and c.from_residual.result c.from_residual.ensures.1 in
     rw p.1 tt
 
-pub guarded_turn-returns-in_err-decide-clause-later : goal.guarded_turn-returns-in_err-decide-clause-later
-guarded_turn-returns-in_err-decide-clause-later g t c = c.in_err-decide.ensures.later
+pub guarded_turn-returns-in_err-holds-clause-later : goal.guarded_turn-returns-in_err-holds-clause-later
+guarded_turn-returns-in_err-holds-clause-later g t c = c.in_err-holds.ensures.later
 
 pub guarded_turn-returns-then-branch-clause-comes : goal.guarded_turn-returns-then-branch-clause-comes
 guarded_turn-returns-then-branch-clause-comes g t c = λ again.
     let g = guarded (bounds c.args.limits.value_bytes c.args.left) c.args.body.now again in
-    let h = rw c.if-branch.true at (c.in_ok-decide.ensures.comes g) in
+    let h = rw c.if-branch.true at (c.in_ok-holds.ensures.comes g) in
     go_on h (c.turn.ensures.comes again)
 
 pub guarded_turn-returns-then-branch-clause-counted : goal.guarded_turn-returns-then-branch-clause-counted
-guarded_turn-returns-then-branch-clause-counted g t c = counted_on c.args.limits.commands c.turn.new.self.used c.args.self.now.used c.decide.new.self.used c.turn.result c.in_ok-decide.ensures.later.rises c.turn.ensures.counted
+guarded_turn-returns-then-branch-clause-counted g t c = counted_on c.args.limits.commands c.turn.new.self.used c.args.self.now.used c.holds.new.self.used c.turn.result c.in_ok-holds.ensures.later.rises c.turn.ensures.counted
 
 pub guarded_turn-returns-then-branch-clause-later : goal.guarded_turn-returns-then-branch-clause-later
-guarded_turn-returns-then-branch-clause-later g t c = later_on c.in_ok-decide.ensures.later c.turn.ensures.later
+guarded_turn-returns-then-branch-clause-later g t c = later_on c.in_ok-holds.ensures.later c.turn.ensures.later
 
 pub guarded_turn-turn-requires : goal.guarded_turn-turn-requires
 guarded_turn-turn-requires g t c κs within = search rules
@@ -883,39 +817,39 @@ value-returns-in_err-value-in-Bracket-clause-later g t c = later_on c.loop-stack
 pub while_turns-guarded_turn-requires : goal.while_turns-guarded_turn-requires
 while_turns-guarded_turn-requires g t c κs within = search rules
 
-pub while_turns-loop-init : goal.while_turns-loop-init
-while_turns-loop-init g t c = record { comes = λ k. stay; later = later_refl }
+pub while_turns-loop-tree-init : goal.while_turns-loop-tree-init
+while_turns-loop-tree-init g t c = record { comes = λ k. stay; later = later_begun refl c.in_ok-tree.ensures.begins }
 
-pub while_turns-loop-preserved : goal.while_turns-loop-preserved
-while_turns-loop-preserved g t c = record {
+pub while_turns-loop-tree-preserved : goal.while_turns-loop-tree-preserved
+while_turns-loop-tree-preserved g t c = record {
   comes = λ k.
       let again = λ (s2 : State). Runs (plans.While c.args.left c.args.condition.now c.args.body.now s2) plans.ended in
-      let h = rw c.if-not-branch.false at (c.in_ok-guarded_turn.ensures.comes again) in
-      go_on (c.loop.invariant.comes k) (run_tail h);
-  later = later_on c.loop.invariant.later c.in_ok-guarded_turn.ensures.later;
+      let h = rw c.if-not-branch.false at (go_on (given_on _ _ c.loop-tree.self.variables (λ e. decided (bounds c.args.limits.value_bytes c.args.left) e c.loop-tree.self.variables (guarded (bounds c.args.limits.value_bytes c.args.left) c.args.body.now again)) c.in_ok-tree.ensures.tree) (rw c.deref.ensures at (c.in_ok-guarded_turn.ensures.comes again))) in
+      go_on (c.loop-tree.invariant.comes k) (run_tail h);
+  later = later_on c.loop-tree.invariant.later c.in_ok-guarded_turn.ensures.later;
 }
 
-pub while_turns-loop-smaller : goal.while_turns-loop-smaller
-while_turns-loop-smaller g t c =
+pub while_turns-loop-tree-smaller : goal.while_turns-loop-tree-smaller
+while_turns-loop-tree-smaller g t c =
     let h = c.in_ok-guarded_turn.ensures.counted c.if-not-branch.false in
     omega (arith, h.0, h.1)
 
 pub while_turns-returns-in_err-guarded_turn-clause-comes : goal.while_turns-returns-in_err-guarded_turn-clause-comes
 while_turns-returns-in_err-guarded_turn-clause-comes g t c = λ k.
     let again = λ (s2 : State). Runs (plans.While c.args.left c.args.condition.now c.args.body.now s2) plans.ended in
-    passed_on _ _ _ _ c.from_residual.ensures.1 (go_on (c.loop.invariant.comes k) (run_stops _ _ (c.in_err-guarded_turn.ensures.comes again)))
+    passed_on _ _ _ _ c.from_residual-in_err-guarded_turn.ensures.1 (go_on (c.loop-tree.invariant.comes k) (run_stops _ _ (go_on (given_on _ _ c.loop-tree.self.variables (λ e. decided (bounds c.args.limits.value_bytes c.args.left) e c.loop-tree.self.variables (guarded (bounds c.args.limits.value_bytes c.args.left) c.args.body.now again)) c.in_ok-tree.ensures.tree) (rw c.deref.ensures at (c.in_err-guarded_turn.ensures.comes again)))))
 
 pub while_turns-returns-in_err-guarded_turn-clause-later : goal.while_turns-returns-in_err-guarded_turn-clause-later
-while_turns-returns-in_err-guarded_turn-clause-later g t c = later_on c.loop.invariant.later c.in_err-guarded_turn.ensures.later
+while_turns-returns-in_err-guarded_turn-clause-later g t c = later_on c.loop-tree.invariant.later c.in_err-guarded_turn.ensures.later
 
 pub while_turns-returns-then-not-branch-clause-comes : goal.while_turns-returns-then-not-branch-clause-comes
 while_turns-returns-then-not-branch-clause-comes g t c = λ k.
     let again = λ (s2 : State). Runs (plans.While c.args.left c.args.condition.now c.args.body.now s2) plans.ended in
-    let h = rw c.if-not-branch.true at (c.in_ok-guarded_turn.ensures.comes again) in
-    rw c.new.ensures.bytes (go_on (c.loop.invariant.comes k) (run_on h))
+    let h = rw c.if-not-branch.true at (go_on (given_on _ _ c.loop-tree.self.variables (λ e. decided (bounds c.args.limits.value_bytes c.args.left) e c.loop-tree.self.variables (guarded (bounds c.args.limits.value_bytes c.args.left) c.args.body.now again)) c.in_ok-tree.ensures.tree) (rw c.deref.ensures at (c.in_ok-guarded_turn.ensures.comes again))) in
+    rw c.new.ensures.bytes (go_on (c.loop-tree.invariant.comes k) (run_on h))
 
 pub while_turns-returns-then-not-branch-clause-later : goal.while_turns-returns-then-not-branch-clause-later
-while_turns-returns-then-not-branch-clause-later g t c = later_on c.loop.invariant.later c.in_ok-guarded_turn.ensures.later
+while_turns-returns-then-not-branch-clause-later g t c = later_on c.loop-tree.invariant.later c.in_ok-guarded_turn.ensures.later
 
 pub words-loop-word-init : goal.words-loop-word-init
 words-loop-word-init g t c = record { comes = λ k. rw c.new-texts.ensures.items stay; later = later_refl }
@@ -1010,12 +944,6 @@ commands-command-requires-text-source g t c κs within = search rules
 pub core_command-other_command-requires-text-name : goal.core_command-other_command-requires-text-name
 core_command-other_command-requires-text-name g t c κs within = search rules
 
-pub decide-express-requires-text-text : goal.decide-express-requires-text-text
-decide-express-requires-text-text g t c κs within = search rules
-
-pub express-value-requires-text-source : goal.express-value-requires-text-source
-express-value-requires-text-source g t c κs within = search rules
-
 pub for_loop-script-requires-text-text : goal.for_loop-script-requires-text-text
 for_loop-script-requires-text-text g t c κs within = search rules
 
@@ -1027,9 +955,6 @@ for_loop-for_turns-requires-text-next g t c κs within = search rules
 
 pub for_loop-for_turns-requires-text-body : goal.for_loop-for_turns-requires-text-body
 for_loop-for_turns-requires-text-body g t c κs within = search rules
-
-pub for_turns-guarded_turn-requires-text-condition : goal.for_turns-guarded_turn-requires-text-condition
-for_turns-guarded_turn-requires-text-condition g t c κs within = search rules
 
 pub for_turns-guarded_turn-requires-text-body : goal.for_turns-guarded_turn-requires-text-body
 for_turns-guarded_turn-requires-text-body g t c κs within = search rules
@@ -1070,9 +995,6 @@ form-foreach-requires-text-body g t c κs within = search rules
 pub form-catch-requires-text-body : goal.form-catch-requires-text-body
 form-catch-requires-text-body g t c κs within = search rules
 
-pub guarded_turn-decide-requires-text-text : goal.guarded_turn-decide-requires-text-text
-guarded_turn-decide-requires-text-text g t c κs within = search rules
-
 pub guarded_turn-turn-requires-text-body : goal.guarded_turn-turn-requires-text-body
 guarded_turn-turn-requires-text-body g t c κs within = search rules
 
@@ -1090,9 +1012,6 @@ turn-script-requires-text-text g t c κs within = search rules
 
 pub value-bracket-requires-text-source : goal.value-bracket-requires-text-source
 value-bracket-requires-text-source g t c κs within = search rules
-
-pub while_turns-guarded_turn-requires-text-condition : goal.while_turns-guarded_turn-requires-text-condition
-while_turns-guarded_turn-requires-text-condition g t c κs within = search rules
 
 pub while_turns-guarded_turn-requires-text-body : goal.while_turns-guarded_turn-requires-text-body
 while_turns-guarded_turn-requires-text-body g t c κs within = search rules
@@ -1131,3 +1050,156 @@ word-of-requires-text-text g t c κs = search rules
 
 pub word-from_str-requires-text-s : goal.word-from_str-requires-text-s
 word-from_str-requires-text-s g t c κs = search rules
+
+pub command-literal_form-requires-text-source : goal.command-literal_form-requires-text-source
+command-literal_form-requires-text-source g t c κs = search rules
+
+pub command-form-requires : goal.command-form-requires
+command-form-requires g t c κs within = search rules
+
+pub command-returns-in-Some-clause-comes : goal.command-returns-in-Some-clause-comes
+command-returns-in-Some-clause-comes g t c =
+    let h = c.in_ok-count.ensures in
+    let v = command_words (shown c.args.source.now) c.args.command.now in
+    let a = c.form.ensures.comes in
+    let e = λ (k : Next). rw c.deref.ensures.value at (c.in-Some.ensures c.args.left c.args.self.now.variables (sized_next c.args.limits.value_bytes k)) in
+    let w = λ (k : Next). rw (h.variables, h.counted.1) at (a.2 k) in
+    (a.0, a.1, λ k. rw v (go_on (count_on h.counted.0) (from_same (e k) (w k))))
+
+pub command-returns-in-Some-clause-later : goal.command-returns-in-Some-clause-later
+command-returns-in-Some-clause-later g t c = later_on (later_counted c.in_ok-count.ensures.counted.1 c.in_ok-count.ensures.kept) c.form.ensures.later
+
+pub express-express_tree-requires-text-text : goal.express-express_tree-requires-text-text
+express-express_tree-requires-text-text g t c κs = search rules
+
+pub express-tree_value-requires : goal.express-tree_value-requires
+express-tree_value-requires g t c κs within = search rules
+
+pub express-returns-clause-comes : goal.express-returns-clause-comes
+express-returns-clause-comes g t c = λ k. go_on (given_on _ _ _ _ c.in_ok-tree.ensures.tree) (rw c.deref.ensures at (c.tree_value.ensures.comes k))
+
+pub express-returns-clause-later : goal.express-returns-clause-later
+express-returns-clause-later g t c = later_parsed refl c.in_ok-tree.ensures.begins c.tree_value.ensures.later
+
+pub express-returns-in_err-tree-clause-comes : goal.express-returns-in_err-tree-clause-comes
+express-returns-in_err-tree-clause-comes g t c = λ k. value_stops _ _ _ _ _ _ c.from_residual.ensures.1 c.in_err-tree.ensures.tree
+
+pub express-returns-in_err-tree-clause-later : goal.express-returns-in_err-tree-clause-later
+express-returns-in_err-tree-clause-later g t c = later_begun refl c.in_err-tree.ensures.begins
+
+pub tree_value-value-requires : goal.tree_value-value-requires
+tree_value-value-requires g t c κs within = search rules
+
+pub tree_value-value-requires-text-source : goal.tree_value-value-requires-text-source
+tree_value-value-requires-text-source g t c κs within = search rules
+
+pub tree_value-returns-clause-comes : goal.tree_value-returns-clause-comes
+tree_value-returns-clause-comes g t c = λ k.
+    let h = rw c.as_str.ensures.value at (c.in_ok-value.ensures.comes (λ v s'. given (normal v (numeral v)) s' (λ u. sized c.args.limits.value_bytes u (k u s')))) in
+    go_on (go_on h (given_on _ _ _ _ c.in_ok-value-2.ensures)) (c.sized.ensures.comes _ _ k _ _)
+
+pub tree_value-returns-clause-later : goal.tree_value-returns-clause-later
+tree_value-returns-clause-later g t c = c.in_ok-value.ensures.later
+
+pub tree_value-returns-in_err-value-2-clause-comes : goal.tree_value-returns-in_err-value-2-clause-comes
+tree_value-returns-in_err-value-2-clause-comes g t c = λ k.
+    let h = rw c.as_str.ensures.value at (c.in_ok-value.ensures.comes (λ v s'. given (normal v (numeral v)) s' (λ u. sized c.args.limits.value_bytes u (k u s')))) in
+    go_on h (value_stops _ _ _ _ _ _ c.from_residual-in_err-value-2.ensures.1 c.in_err-value-2.ensures)
+
+pub tree_value-returns-in_err-value-2-clause-later : goal.tree_value-returns-in_err-value-2-clause-later
+tree_value-returns-in_err-value-2-clause-later g t c = c.in_ok-value.ensures.later
+
+pub tree_value-returns-in_err-value-clause-comes : goal.tree_value-returns-in_err-value-clause-comes
+tree_value-returns-in_err-value-clause-comes g t c = λ k.
+    let h = rw c.as_str.ensures.value at (c.in_err-value.ensures.comes (λ v s'. given (normal v (numeral v)) s' (λ u. sized c.args.limits.value_bytes u (k u s')))) in
+    passed_on _ _ _ _ c.from_residual.ensures.1 h
+
+pub tree_value-returns-in_err-value-clause-later : goal.tree_value-returns-in_err-value-clause-later
+tree_value-returns-in_err-value-clause-later g t c = c.in_err-value.ensures.later
+
+pub decide-express_tree-requires-text-text : goal.decide-express_tree-requires-text-text
+decide-express_tree-requires-text-text g t c κs = search rules
+
+pub decide-holds-requires : goal.decide-holds-requires
+decide-holds-requires g t c κs within = search rules
+
+pub decide-returns-clause-comes : goal.decide-returns-clause-comes
+decide-returns-clause-comes g t c = λ k. go_on (given_on _ _ _ _ c.in_ok-tree.ensures.tree) (rw c.deref.ensures at (c.holds.ensures.comes k))
+
+pub decide-returns-clause-later : goal.decide-returns-clause-later
+decide-returns-clause-later g t c = later_parsed refl c.in_ok-tree.ensures.begins c.holds.ensures.later
+
+pub decide-returns-in_err-tree-clause-comes : goal.decide-returns-in_err-tree-clause-comes
+decide-returns-in_err-tree-clause-comes g t c = λ k. value_stops _ _ _ _ _ _ c.from_residual.ensures.1 c.in_err-tree.ensures.tree
+
+pub decide-returns-in_err-tree-clause-later : goal.decide-returns-in_err-tree-clause-later
+decide-returns-in_err-tree-clause-later g t c = later_begun refl c.in_err-tree.ensures.begins
+
+pub holds-tree_value-requires : goal.holds-tree_value-requires
+holds-tree_value-requires g t c κs within = search rules
+
+pub holds-truth-requires-text-text : goal.holds-truth-requires-text-text
+holds-truth-requires-text-text g t c κs = search rules
+
+pub holds-returns-in_err-holds-clause-comes : goal.holds-returns-in_err-holds-clause-comes
+holds-returns-in_err-holds-clause-comes g t c = λ k. passed_on _ _ _ _ c.from_residual.ensures.1 (c.in_err-holds.ensures.err _ _ _ k _)
+
+pub holds-returns-in_err-holds-clause-later : goal.holds-returns-in_err-holds-clause-later
+holds-returns-in_err-holds-clause-later g t c = later_refl
+
+pub holds-returns-in-Some-clause-comes : goal.holds-returns-in-Some-clause-comes
+holds-returns-in-Some-clause-comes g t c =
+    let h = rw c.in-Some.is at c.in_ok-holds.ensures.found in
+    λ k. h _ _ _ k _
+
+pub holds-returns-in-Some-clause-later : goal.holds-returns-in-Some-clause-later
+holds-returns-in-Some-clause-later g t c = later_refl
+
+pub holds-returns-in_err-value-clause-comes : goal.holds-returns-in_err-value-clause-comes
+holds-returns-in_err-value-clause-comes g t c = λ k. passed_on _ _ _ _ c.from_residual-in_err-value.ensures.1 (c.in_err-value.ensures.comes _)
+
+pub holds-returns-in_err-value-clause-later : goal.holds-returns-in_err-value-clause-later
+holds-returns-in_err-value-clause-later g t c = c.in_err-value.ensures.later
+
+pub holds-returns-in_err-truth-clause-comes : goal.holds-returns-in_err-truth-clause-comes
+holds-returns-in_err-truth-clause-comes g t c = λ k.
+    let h = rw c.as_str.ensures.value at c.in_err-truth.ensures in
+    go_on (c.in_ok-value.ensures.comes _) (value_stops _ _ _ _ _ _ c.from_residual-in_err-truth.ensures.1 h)
+
+pub holds-returns-in_err-truth-clause-later : goal.holds-returns-in_err-truth-clause-later
+holds-returns-in_err-truth-clause-later g t c = c.in_ok-value.ensures.later
+
+pub holds-returns-clause-comes : goal.holds-returns-clause-comes
+holds-returns-clause-comes g t c = λ k.
+    let h = rw c.as_str.ensures.value at c.in_ok-truth.ensures in
+    go_on (c.in_ok-value.ensures.comes _) (given_on _ _ _ _ h)
+
+pub holds-returns-clause-later : goal.holds-returns-clause-later
+holds-returns-clause-later g t c = c.in_ok-value.ensures.later
+
+pub while_turns-express_tree-requires-text-text : goal.while_turns-express_tree-requires-text-text
+while_turns-express_tree-requires-text-text g t c κs = search rules
+
+pub while_turns-returns-in_err-tree-clause-comes : goal.while_turns-returns-in_err-tree-clause-comes
+while_turns-returns-in_err-tree-clause-comes g t c = λ k.
+    let b = bounds c.args.limits.value_bytes c.args.left in
+    let s = c.args.self.now.variables in
+    let again = λ (s2 : State). Runs (plans.While c.args.left c.args.condition.now c.args.body.now s2) plans.ended in
+    passed_on _ _ _ _ c.from_residual.ensures.1 (run_stops _ _ (given_stops _ _ s (λ e. decided b e s (guarded b c.args.body.now again)) c.in_err-tree.ensures.tree))
+
+pub while_turns-returns-in_err-tree-clause-later : goal.while_turns-returns-in_err-tree-clause-later
+while_turns-returns-in_err-tree-clause-later g t c = later_begun refl c.in_err-tree.ensures.begins
+
+pub for_turns-express_tree-requires-text-text : goal.for_turns-express_tree-requires-text-text
+for_turns-express_tree-requires-text-text g t c κs = search rules
+
+pub for_turns-returns-in_err-tree-clause-comes : goal.for_turns-returns-in_err-tree-clause-comes
+for_turns-returns-in_err-tree-clause-comes g t c = λ k.
+    let b = bounds c.args.limits.value_bytes c.args.left in
+    let s = c.args.self.now.variables in
+    let again = λ (s3 : State). Runs (plans.For c.args.left c.args.condition.now c.args.next.now c.args.body.now s3) plans.ended in
+    let between = λ (s2 : State). table.body b c.args.next.now s2 (table.after_next again) in
+    passed_on _ _ _ _ c.from_residual.ensures.1 (run_stops _ _ (given_stops _ _ s (λ e. decided b e s (guarded b c.args.body.now between)) c.in_err-tree.ensures.tree))
+
+pub for_turns-returns-in_err-tree-clause-later : goal.for_turns-returns-in_err-tree-clause-later
+for_turns-returns-in_err-tree-clause-later g t c = later_begun refl c.in_err-tree.ensures.begins

@@ -28,10 +28,16 @@ abbrev pub decreases-value : goal.decreases-value
 decreases-value g l = 16 * l.left + 1
 
 abbrev pub decreases-express : goal.decreases-express
-decreases-express g l = 16 * l.left + 2
+decreases-express g l = 16 * l.left + 3
+
+abbrev pub decreases-tree_value : goal.decreases-tree_value
+decreases-tree_value g l = 16 * l.left + 2
+
+abbrev pub decreases-holds : goal.decreases-holds
+decreases-holds g l = 16 * l.left + 3
 
 abbrev pub decreases-decide : goal.decreases-decide
-decreases-decide g l = 16 * l.left + 3
+decreases-decide g l = 16 * l.left + 4
 
 abbrev pub decreases-turn : goal.decreases-turn
 decreases-turn g l = 16 * l.left + 3
@@ -52,7 +58,7 @@ abbrev pub decreases-otherwise : goal.decreases-otherwise
 decreases-otherwise g l = 16 * l.left + 1
 
 abbrev pub decreases-branches : goal.decreases-branches
-decreases-branches g l = 16 * l.left + 4
+decreases-branches g l = 16 * l.left + 5
 
 abbrev pub decreases-catch : goal.decreases-catch
 decreases-catch g l = 16 * l.left + 1
@@ -112,8 +118,8 @@ invariant-commands-loop-command g l =
       later : Later l.fn.self l.self;
     }
 
-abbrev pub invariant-for_turns-loop-self : goal.invariant-for_turns-loop-self
-invariant-for_turns-loop-self g l =
+abbrev pub invariant-for_turns-loop-tree : goal.invariant-for_turns-loop-tree
+invariant-for_turns-loop-tree g l =
     let o = g.H.Host.oracle in
     let t = g.H.Host.told in
     record {
@@ -121,11 +127,11 @@ invariant-for_turns-loop-self g l =
       later : Later l.fn.self l.self;
     }
 
-abbrev pub decreases-for_turns-loop-self : goal.decreases-for_turns-loop-self
-decreases-for_turns-loop-self g l = l.limits.commands - l.self.used
+abbrev pub decreases-for_turns-loop-tree : goal.decreases-for_turns-loop-tree
+decreases-for_turns-loop-tree g l = l.limits.commands - l.self.used
 
-abbrev pub invariant-while_turns-loop : goal.invariant-while_turns-loop
-invariant-while_turns-loop g l =
+abbrev pub invariant-while_turns-loop-tree : goal.invariant-while_turns-loop-tree
+invariant-while_turns-loop-tree g l =
     let o = g.H.Host.oracle in
     let t = g.H.Host.told in
     record {
@@ -133,8 +139,8 @@ invariant-while_turns-loop g l =
       later : Later l.fn.self l.self;
     }
 
-abbrev pub decreases-while_turns-loop : goal.decreases-while_turns-loop
-decreases-while_turns-loop g l = l.limits.commands - l.self.used
+abbrev pub decreases-while_turns-loop-tree : goal.decreases-while_turns-loop-tree
+decreases-while_turns-loop-tree g l = l.limits.commands - l.self.used
 
 abbrev pub invariant-value-loop-stack : goal.invariant-value-loop-stack
 invariant-value-loop-stack g l =

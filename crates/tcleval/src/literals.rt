@@ -1,0 +1,102 @@
+//! Commands of literal words that take no list of words: their forms need no copies.
+ghost use Rattle.std.specs.Prelude.{◌≡◌, ◌∷◌, [], ℕ, List, None, Some, Ok, IfSome, map};
+ghost use Rattle.tclchars.specs.Runs.{Text};
+ghost use Rattle.tclscript.specs.Tree.{words_of};
+ghost use Rattle.tclscript.specs.View.{word_view};
+ghost use Rattle.tclvalue.specs.Commands.{command_value};
+ghost use Rattle.tclrules.specs.Variables.{State};
+ghost use Rattle.tclrules.specs.Plans as plans;
+ghost use Rattle.tclrules.specs.Plans.{Next};
+ghost use Rattle.tclrules.specs.Words as pieces;
+ghost use Rattle.tclrules.specs.Rules as rules;
+ghost use Rattle.tclrules.specs.Forms.{core_form};
+ghost use Rattle.tclforms.specs.Views.{form_view};
+ghost use Rattle.tclsteps.specs.Machine.{shown, bounds};
+
+use crate::words::literal;
+use tclforms::Form;
+use tclrules::Limits;
+use tclscript::{ByteRange, Word};
+
+/// The text of a word that is one literal part, within the limit on values.
+fn literal_text<'t>(limits: Limits, source: &'t str, word: &Word<ByteRange>) -> Option<&'t str>
+    ensures { IfSome result (λ t. (left : ℕ) (s : State) (k : List Text → State → plans.Step)
+        → pieces.one_word (bounds limits.value_bytes left) (word_view (shown source.entry.now) word.now) s k
+        ≡ k (t.now ∷ []) s) }
+{
+    if word.expands {
+        return None;
+    }
+    let text = literal(word.parts.as_slice())?.of(source);
+    if text.len() > limits.value_bytes {
+        return None;
+    }
+    Some(text)
+}
+
+/// The form of a command that has no word behind its name.
+#[tactic(auto, unfolding(tclrules::specs::Forms::core_form))]
+fn form_alone(name: &str) -> Option<Form<'_>>
+    ensures { IfSome result (λ form. (limit : ℕ) → (core_form name.entry.now [] ≡ Some (Ok (form_view form)))
+        × (command_value (name.entry.now ∷ []) limit ≡ Ok None)) }
+{
+    match name {
+        "break" => Some(Form::Break),
+        "continue" => Some(Form::Continue),
+        _ => None,
+    }
+}
+
+/// The form of a command with one word behind its name that is no list of words.
+#[tactic(auto, unfolding(tclrules::specs::Forms::core_form))]
+fn form_of_one<'t>(name: &str, word: &'t str) -> Option<Form<'t>>
+    ensures { IfSome result (λ form. (limit : ℕ)
+        → (core_form name.now (word.entry.now ∷ []) ≡ Some (Ok (form_view form)))
+        × (command_value (name.now ∷ word.entry.now ∷ []) limit ≡ Ok None)) }
+{
+    match name {
+        "incr" => Some(Form::Increase(word, &[])),
+        "set" => Some(Form::Get(word)),
+        _ => None,
+    }
+}
+
+/// The form of a command with two words behind its name that are no list of words.
+#[tactic(auto, unfolding(tclrules::specs::Forms::core_form))]
+fn form_of_two<'t>(name: &str, first: &'t str, second: &'t str) -> Option<Form<'t>>
+    ensures { IfSome result (λ form. (limit : ℕ)
+        → (core_form name.now (first.entry.now ∷ second.entry.now ∷ []) ≡ Some (Ok (form_view form)))
+        × (command_value (name.now ∷ first.entry.now ∷ second.entry.now ∷ []) limit ≡ Ok None)) }
+{
+    match name {
+        "set" => Some(Form::Set(first, second)),
+        _ => None,
+    }
+}
+
+/// The form of a command of literal words that takes no list of words; None of any other command.
+pub(crate) fn literal_form<'t>(
+    limits: Limits,
+    source: &'t str,
+    words: &'t [Word<ByteRange>],
+) -> Option<Form<'t>>
+    ensures { IfSome result (λ form. (left : ℕ) (s : State) (k : Next)
+        → pieces.words (bounds limits.value_bytes left)
+        (words_of (map (word_view (shown source.entry.now)) words.entry.now)) [] s
+        (λ texts s1. rules.called (bounds limits.value_bytes left) texts s1 k)
+        ≡ rules.form (bounds limits.value_bytes left) (form_view form) s k) }
+{
+    match words {
+        [name] => form_alone(literal_text(limits, source, name)?),
+        [name, word] => form_of_one(
+            literal_text(limits, source, name)?,
+            literal_text(limits, source, word)?,
+        ),
+        [name, first, second] => form_of_two(
+            literal_text(limits, source, name)?,
+            literal_text(limits, source, first)?,
+            literal_text(limits, source, second)?,
+        ),
+        _ => None,
+    }
+}

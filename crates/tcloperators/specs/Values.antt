@@ -1,0 +1,10 @@
+-- What an operator between its operands makes, as a text.
+use Rattle.std.specs.Fmt.{signed_decimal}
+use Rattle.tclchars.specs.Runs.{Text}
+use Rattle.tcloperators.specs.Operators.{truth_text}
+use Rattle.tcloperators.specs.declared.operators.Computed.{Computed}
+use Rattle.tcloperators.specs.declared.operators.Computed.TheVariants as values
+
+abbrev pub computed_text : Computed → Text
+computed_text (values.Truth holds) = truth_text holds
+computed_text (values.Whole number) = signed_decimal number

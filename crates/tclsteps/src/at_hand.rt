@@ -1,0 +1,102 @@
+//! Operands whose texts are at hand, and operators between them, which need no frame and no copy.
+ghost use Rattle.std.specs.Prelude.{◌≡◌, ℕ, IfSome, IfOk, IfErr, MatchResult};
+ghost use Rattle.tclexpr.specs.View.{expr_view, operand_view};
+ghost use Rattle.tcloperators.specs.Values.{computed_text};
+ghost use Rattle.tclrules.specs.Variables.{State};
+ghost use Rattle.tclrules.specs.Plans as plans;
+ghost use Rattle.tclrules.specs.Plans.{Job, Next};
+ghost use Rattle.tclrules.specs.Leads.{Leads, Point};
+ghost use Rattle.tclchars.specs.Runs.{Text};
+ghost use Rattle.tclrules.specs.Words.{read, read_plain};
+ghost use Rattle.tclrules.specs.Expressions.{expr, operand_value};
+ghost use Rattle.tclsteps.specs.Machine.{shown, bounds};
+ghost use Rattle.tclsteps.specs.Stops.{stopped};
+
+use crate::context::Context;
+use crate::stop::Stop;
+use std::alloc::Global;
+use tclexpr::{Expr, Operand};
+use tcloperators::{Computed, compute};
+use tclscript::ByteRange;
+use tclvariables::{Place, Variables, place_named};
+
+/// The value of a variable at its place, where it is kept, and not in the environment.
+fn value_at_place<'v>(variables: &'v Variables, global: bool, name: &str) -> Option<&'v str>
+    ensures { IfSome result (λ v. (spelled : Text) (k : Next)
+        → read_plain spelled global name.now variables.entry.now k ≡ k v.now variables.entry.now) }
+{
+    if global && name == "env" {
+        return None;
+    }
+    variables.get(global, name)
+}
+
+/// The value of a variable that is kept, and not in the environment.
+fn kept_value<'v>(alloc: Global, variables: &'v Variables, name: &str) -> Option<&'v str>
+    ensures { IfSome result (λ v. (k : Next) → read name.now variables.entry.now k ≡ k v.now variables.entry.now) }
+{
+    match place_named(variables, alloc, name) {
+        Ok(Place::Plain(global, name)) => value_at_place(variables, global, name),
+        _ => None,
+    }
+}
+
+/// The text of an operand that is a literal or a variable.
+fn operand_text<'t>(
+    alloc: Global,
+    source: &'t str,
+    variables: &'t Variables,
+    operand: &'t Operand<ByteRange>,
+) -> Option<&'t str>
+    ensures { IfSome result (λ t. (bytes left : ℕ) (k : Next) → operand_value (bounds bytes left)
+        (operand_view (shown source.entry.now) operand.entry.now) variables.entry.now k
+        ≡ k t.now variables.entry.now) }
+{
+    match operand {
+        Operand::Number(range) | Operand::Word(range) => Some(range.of(source)),
+        Operand::Variable(name) => kept_value(alloc, variables, name.of(source)),
+        _ => None,
+    }
+}
+
+/// The text of an expression that is an operand at hand, within the limit on values.
+fn text_at_hand<'t>(context: Context<'t, 't>, expression: &'t Expr<ByteRange>) -> Option<&'t str>
+    ensures { IfSome result (λ t. (left : ℕ) (k : Next) → expr (bounds context.entry.limits.value_bytes left)
+        (expr_view (shown context.entry.source.now) expression.entry.now) context.entry.variables.now k
+        ≡ k t.now context.entry.variables.now) }
+{
+    let Expr::Operand(operand) = expression else {
+        return None;
+    };
+    let text = operand_text(context.alloc, context.source, context.variables, operand)?;
+    if text.len() > context.limits.value_bytes {
+        return None;
+    }
+    Some(text)
+}
+
+/// What an operator makes of two operands that are at hand; None of any other expression.
+pub fn compute_at_hand(
+    context: Context<'_, '_>,
+    expression: &Expr<ByteRange>,
+) -> Result<Option<Computed>, Stop>
+    ensures some { IfOk result (λ made. IfSome made (λ v. (most left : ℕ) (r : Job → plans.Step) (k : Next) (x : Point)
+        → Leads most r (expr (bounds context.entry.limits.value_bytes left)
+        (expr_view (shown context.entry.source.now) expression.now) context.entry.variables.now k) x
+        (k (computed_text v) context.entry.variables.now) x)) }
+    ensures err { IfErr result (λ stop. (most left : ℕ) (r : Job → plans.Step) (k : Next) (x : Point)
+        → Leads most r (expr (bounds context.entry.limits.value_bytes left)
+        (expr_view (shown context.entry.source.now) expression.now) context.entry.variables.now k) x
+        (stopped stop context.entry.variables.now) x) }
+{
+    let Expr::Binary(operator, left, right) = expression else {
+        return Ok(None);
+    };
+    let Some(left) = text_at_hand(context, left) else {
+        return Ok(None);
+    };
+    let Some(right) = text_at_hand(context, right) else {
+        return Ok(None);
+    };
+    Ok(Some(compute(context.alloc, *operator, left, right)?))
+}
