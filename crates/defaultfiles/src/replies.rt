@@ -1,8 +1,10 @@
 //! What commands of default files are answered.
 ghost use Rattle.std.specs.Prelude.{◌≡◌, map, string_bytes};
-ghost use Rattle.tclrules.specs.Names.{is_among, left_out_module_commands};
+ghost use Rattle.tclrules.specs.Names.{is_among};
 ghost use Rattle.defaultfiles.specs.Leaves.{version_answer, renaming_commands, named_answer, answer_to};
 ghost use Rattle.defaultfiles.specs.Replies.{reply_view};
+
+use tclarguments::is_left_out_of_modules;
 
 /// What is answered to a command.
 #[derive(Clone, Copy)]
@@ -31,22 +33,6 @@ fn is_renaming(name: &str) -> bool
     }
 }
 
-/// Whether a command of this name is left out.
-#[tactic(auto, unfolding(tclrules::specs::Names::left_out_module_commands))]
-fn is_left_out(name: &str) -> bool
-    ensures { result ≡ is_among left_out_module_commands name.now }
-{
-    match name {
-        "module" | "depends-on" | "set-alias" | "set-function" | "system" | "uname" => true,
-        "source-sh" | "x-resource" | "chdir" | "family" | "complete" | "module-alias" => true,
-        "module-virtual" | "module-tag" | "module-hide" | "module-forbid" => true,
-        "prereq-all" | "prereq-any" | "module-help" | "is-avail" | "is-saved" | "is-used" => true,
-        "unset-alias" | "unset-function" | "uncomplete" => true,
-        "variant" | "getvariant" | "versioncmp" => true,
-        _ => false,
-    }
-}
-
 /// What `module-version` is answered, by all its words.
 fn version_reply(words: &[String]) -> Reply<'static>
     ensures { reply_view result (map string_bytes words.now) ≡ version_answer (map string_bytes words.now) }
@@ -68,7 +54,7 @@ fn named_reply<'a>(name: &'a str, words: &[String]) -> Reply<'a>
         Reply::Dropped
     } else if is_renaming(name) {
         Reply::Refused(45)
-    } else if is_left_out(name) {
+    } else if is_left_out_of_modules(name) {
         Reply::LeftOut(name)
     } else {
         Reply::Unknown

@@ -1,5 +1,6 @@
 pub mod Agreement
 pub mod Answers
+pub mod Causes
 pub mod Contents
 pub mod Devices
 pub mod Search

@@ -15,7 +15,8 @@ use Rattle.requests.specs.Laws.{CommandsReturn}
 use Rattle.requests.specs.Reasons.{RequestReason}
 use Rattle.requests.specs.Requests.{Asked, Request}
 use Rattle.requests.specs.Steps.{Site, Done, Step}
-use Rattle.modulesteps.specs.Answers.{Cause, memory, device, because, cause_of, Stands}
+use Rattle.lookup.specs.Causes.{Cause, memory, device, because, Applies}
+use Rattle.modulesteps.specs.Answers.{cause_of}
 use Rattle.modules.specs.Replies.{site_in, left_by, changed_view}
 use Rattle.modulecmd.specs.declared.refuse.CommandFault.{CommandFault}
 use Rattle.modulecmd.specs.declared.refuse.CommandFault.TheVariants.{Refused, Unprinted, UnknownShell, WriteFailed}
@@ -33,7 +34,7 @@ pub makes_none : (arguments : List Text) (e : Environment) (files : Files) (list
     → command_of arguments ≡ Err reason → Does arguments e files listings (Err reason)
 makes_none arguments e files listings reason made = (Err reason, sym made, refl)
 
-pub stands_so : (c : Cause) (Is Is' : RequestReason → Type 0) (failed failed' : Type 0) → ((r : RequestReason) → Is r → Is' r) → (failed → failed') → Stands c failed Is → Stands c failed' Is'
+pub stands_so : (c : Cause RequestReason) (Is Is' : RequestReason → Type 0) (failed failed' : Type 0) → ((r : RequestReason) → Is r → Is' r) → (failed → failed') → Applies c failed Is → Applies c failed' Is'
 stands_so memory Is Is' failed failed' more fails h = tt
 stands_so device Is Is' failed failed' more fails h = fails h
 stands_so (because r) Is Is' failed failed' more fails h = more r h

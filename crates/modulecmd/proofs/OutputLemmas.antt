@@ -11,7 +11,7 @@ use Rattle.modulecmd.specs.declared.refuse.CommandFault.{CommandFault}
 use Rattle.modulecmd.specs.declared.refuse.CommandFault.TheVariants.{WriteFailed}
 use Rattle.modulecmd.specs.declared.command.Answer.{Answer}
 use Rattle.modulecmd.specs.Command.{Effect}
-use Rattle.modulecmd.specs.Output.{BreaksOff, Ends, Finishes, IsAnswer, Outcomes, Tells, said}
+use Rattle.modulecmd.specs.Output.{BreaksOff, Ends, Finishes, IsAnswer, Outcomes, WritesFault, said}
 use Rattle.modulecmd.specs.Words.{effect_in, words_of}
 use Rattle.modulecmd.specs.Writing.{AppendsPart}
 
@@ -19,7 +19,7 @@ use Rattle.modulecmd.specs.Writing.{AppendsPart}
 abbrev pub Half : Exit → Text → Text → Option Text → Option Text → Option Text → Option Text → Type 0
 Half exit words text out out' err err' =
     (Keeps out out' × BreaksOff exit err err' words)
-    ⊎ (AppendsPart out out' text × Tells exit err err' words WriteFailed)
+    ⊎ (AppendsPart out out' text × WritesFault exit err err' words WriteFailed)
 
 no_success : (words text : Text) (out out' err err' : Option Text) → Half Success words text out out' err err' → ⊥
 no_success words text out out' err err' (inl h) = h.1.2

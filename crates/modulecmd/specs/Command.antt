@@ -14,7 +14,8 @@ use Rattle.requests.specs.Reasons.{RequestReason, bad_arguments}
 use Rattle.requests.specs.Requests.{Asked, Request, request_of}
 use Rattle.requests.specs.Steps.{Done, Step}
 use Rattle.requests.specs.declared.request_fault.RequestFault.TheVariants as requests
-use Rattle.modulesteps.specs.Answers.{cause_of, Stands}
+use Rattle.lookup.specs.Causes.{Applies}
+use Rattle.modulesteps.specs.Answers.{cause_of}
 use Rattle.modulesteps.specs.Messages as texts
 use Rattle.modulesteps.specs.declared.refusal.Refusal.TheVariants as refusals
 use Rattle.modules.specs.Replies.{site_in}
@@ -70,7 +71,7 @@ LacksText shell old new name = (cs : List Edit) × AreChanges old new cs × IsUn
 -- A refusal has a reason: memory can always be wanting, a device has failed, a variable can't be said, or the
 -- command has a reason.
 abbrev pub HasReason : CommandFault → (CommandReason → Type 0) → (Text → Type 0) → Type 0 → Type 0
-HasReason (Refused refusal) Has Lacks failed = Stands (cause_of refusal) failed (λ reason. Has (because reason))
+HasReason (Refused refusal) Has Lacks failed = Applies (cause_of refusal) failed (λ reason. Has (because reason))
 HasReason (UnknownShell word) Has Lacks failed = Has (unknown_shell (string_bytes word))
 HasReason (Unprinted prints.OutOfMemory) Has Lacks failed = Unit {0}
 HasReason (Unprinted (prints.NotSayable name)) Has Lacks failed = Lacks (string_bytes name)

@@ -50,15 +50,15 @@ IsAnswer agrees e Does f text =
     ComesTo agrees Does (Ok f) × SaysDifference f.0 text e f.1.env × Shows agrees (λ files listings. LeadsBack e f text)
 
 -- What is left where a fault is told behind a text: the whole line, or else a beginning that is not the whole of it.
-abbrev pub Tells : Exit → Option Text → Option Text → Text → CommandFault → Type 0
-Tells Success err err' text fault = ⊥
-Tells Told err err' text fault = Appends err err' (text ++ line_of fault)
-Tells CutShort err err' text fault =
+abbrev pub WritesFault : Exit → Option Text → Option Text → Text → CommandFault → Type 0
+WritesFault Success err err' text fault = ⊥
+WritesFault Told err err' text fault = Appends err err' (text ++ line_of fault)
+WritesFault CutShort err err' text fault =
     (k : ℕ) × (k < length (line_of fault)) × Appends err err' (text ++ take k (line_of fault))
 
 -- a beginning of the words that is not the whole of them, and then the line that tells of a failed write
 abbrev pub BreaksOff : Exit → Option Text → Option Text → Text → Type 0
-BreaksOff exit err err' words = (k : ℕ) × (k < length words) × Tells exit err err' (take k words) WriteFailed
+BreaksOff exit err err' words = (k : ℕ) × (k < length words) × WritesFault exit err err' (take k words) WriteFailed
 
 -- What the writing of an answer leaves: the words on standard error, and the text on standard output; or where a write
 -- failed, on standard error before all the words were there, and then nothing is on standard output; or there, and then
@@ -67,7 +67,7 @@ abbrev pub Finishes : Exit → Text → Text → Option Text → Option Text →
 Finishes Success words text out out' err err' = Appends out out' text × Appends err err' words
 Finishes exit words text out out' err err' =
     (Keeps out out' × BreaksOff exit err err' words)
-    ⊎ (AppendsPart out out' text × Tells exit err err' words WriteFailed)
+    ⊎ (AppendsPart out out' text × WritesFault exit err err' words WriteFailed)
 
 -- What an accepted command leaves: its messages and its report, and its text; or as much as a failed write left of them.
 abbrev pub Accepts : Exit → (Files → Listings → Type 0) → Environment → Outcomes → Option Text → Option Text → Option Text
@@ -77,7 +77,7 @@ Accepts exit agrees e Does out out' err err' =
 
 -- What a refused command leaves: nothing on standard output, and the line that tells why on standard error.
 abbrev pub Refuses : Exit → CommandFault → Option Text → Option Text → Option Text → Option Text → Type 0
-Refuses exit fault out out' err err' = Keeps out out' × Tells exit err err' [] fault
+Refuses exit fault out out' err err' = Keeps out out' × WritesFault exit err err' [] fault
 
 -- It comes to an effect whose changes have no text in the shell.
 abbrev pub IsUnsaid : (Files → Listings → Type 0) → Environment → Outcomes → Text → Type 0

@@ -7,7 +7,7 @@ ghost use Rattle.modulesteps.specs.Views.{done_view};
 ghost use Rattle.modulecmd.specs.declared.ends.Exit.{Exit};
 ghost use Rattle.modulecmd.specs.Command as spec;
 ghost use Rattle.modulecmd.specs.Command.{Does, HasReason};
-ghost use Rattle.modulecmd.specs.Output.{Ends, Finishes, IsAnswer, IsRefused, Tells, said, status_of};
+ghost use Rattle.modulecmd.specs.Output.{Ends, Finishes, IsAnswer, IsRefused, WritesFault, said, status_of};
 ghost use Rattle.modulecmd.specs.Words.{effect_in, words_of};
 ghost use Rattle.modulecmd.specs.Writing.{AppendsPart};
 
@@ -101,7 +101,7 @@ fn write_answer<W: Write, E: Write>(
 
 /// Writes the line that tells of a fault.
 fn tell<E: Write>(fault: &CommandFault, err: &mut E) -> Exit
-    ensures { Tells result (E.contents err.old) (E.contents err.new) [] fault.now }
+    ensures { WritesFault result (E.contents err.old) (E.contents err.new) [] fault.now }
 {
     match write_refusal(fault, err) {
         Ok(()) => Exit::Told,

@@ -1,4 +1,4 @@
-//! Answers calls of `modulecmd` and `modules`, a line each on standard input, and shows each behind `> `.
+//! Answers calls of `modulecmd`, `modules` and `rehearsal`, a line each on standard input, and shows each behind `> `.
 //!
 //! The calls share files and folders in memory and an environment. In a text `\n`, `\t`, `\s`, `\z` and `\\` stand for a
 //! newline, a tab, a space, NUL and a backslash; words are parted by blanks, and the word `''` is empty.
@@ -13,6 +13,8 @@
 //! `ask WORD...` runs a request under the limits of `limits COMMANDS DEPTH BYTES` and shows its changes, moves, loaded
 //! names, messages and report, or the number and the text of its refusal. `session REQUEST, REQUEST...` runs requests
 //! one after another, and shows what came of each and how the variables at the end differ from those at the start.
+//! `rehearse SHELL REQUEST, SHELL REQUEST...` rehearses requests: for each `accepted` and the text that it prints, or
+//! `none`, and then the variables that are left.
 //! `poor PATH REQUEST, REQUEST...` does so where memory is refused for the file at the path.
 //! `write OUT ERR KIND WORD...` runs a command whose writers take so many bytes, and shows how it ended and what they
 //! hold. `failing WORD...` runs a command while each of its reads and listings in turn fails, and shows what is new of
@@ -20,6 +22,7 @@
 #![tactic(auto)]
 
 mod failing;
+mod rehearsed;
 mod session;
 mod shown;
 mod words;

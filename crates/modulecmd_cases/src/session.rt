@@ -1,5 +1,6 @@
 //! Calls over one tree and one environment.
 use crate::failing::{Failing, Poor};
+use crate::rehearsed::shown_rehearsal;
 use crate::shown::{
     differences, exit_name, held, marked, shown_done, shown_outcome, shown_refusal, variables,
 };
@@ -115,6 +116,7 @@ impl Session {
             "go" => self.go(rest),
             "ask" => self.ask(rest),
             "session" => shown_session(self.alloc, rest, &self.env, &mut self.tree),
+            "rehearse" => self.rehearse(rest),
             "poor" => self.poor(rest),
             "write" => self.write(rest),
             "failing" => self.failing(rest),
@@ -226,6 +228,10 @@ impl Session {
             }
             Err(refusal) => Ok(shown_refusal(self.alloc, &refusal)?),
         }
+    }
+
+    fn rehearse(&mut self, rest: &str) -> Result<String> {
+        shown_rehearsal(self.alloc, rest, &self.env, &mut self.tree, STANDARD)
     }
 
     fn poor(&mut self, rest: &str) -> Result<String> {

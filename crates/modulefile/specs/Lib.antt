@@ -1,6 +1,7 @@
 pub mod Results
 pub mod Calls
 pub mod CallViews
+pub mod RecordFaults
 pub mod RecordViews
 pub mod Answers
 pub mod Files

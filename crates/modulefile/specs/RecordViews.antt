@@ -11,8 +11,8 @@ use Rattle.modulefile.specs.declared.records.Record.{Record}
 use Rattle.modulefile.specs.declared.records.Record.TheVariants as code
 use Rattle.modulefile.specs.declared.records.Mode.{Mode}
 use Rattle.modulefile.specs.declared.records.Mode.TheVariants as modes
-use Rattle.modulefile.specs.declared.effects.RecordFault.{RecordFault}
-use Rattle.modulefile.specs.declared.effects.RecordFault.TheVariants as faults
+use Rattle.modulefile.specs.declared.record_fault.RecordFault.{RecordFault}
+use Rattle.modulefile.specs.declared.record_fault.RecordFault.TheVariants as faults
 use Rattle.modulefile.specs.CallViews.{edit_record}
 
 abbrev pub mode_view : Mode → effects.Mode

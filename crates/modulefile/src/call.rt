@@ -3,7 +3,6 @@ ghost use Rattle.std.specs.Prelude.{◌≡◌, map, string_bytes};
 ghost use Rattle.std.specs.Option.{option_map};
 ghost use Rattle.tclchars.specs.Runs.{begins};
 ghost use Rattle.tclvalue.specs.Indexes.{after_front};
-ghost use Rattle.tclrules.specs.Names.{is_among, left_out_module_commands};
 ghost use Rattle.modulerecords.specs.Records.{Set, Push, Conflict, Prereq};
 ghost use Rattle.modulefile.specs.Calls.{no_option, without_option, var_and_value, var_and_perhaps, with_delimiter, by_next_word, by_same_word};
 ghost use Rattle.modulefile.specs.Calls.{by_option, delimited, path_form, some_words, getenv_form, puts_form, told_or_tested};
@@ -13,6 +12,7 @@ ghost use Rattle.modulefile.specs.CallViews.{reason_of, HasReason, texts_of, cal
 
 use crate::call_fault::CallFault;
 use std::alloc::Global;
+use tclarguments::is_left_out_of_modules;
 
 /// What a question of `module-info` is about.
 #[derive(Clone, Copy, Debug, PartialEq, Eq)]
@@ -297,27 +297,11 @@ fn info_form<'a>(alloc: Global, words: &'a [String]) -> Result<Call<'a>, CallFau
     }
 }
 
-/// Whether a command of this name is left out.
-#[tactic(auto, unfolding(tclrules::specs::Names::left_out_module_commands))]
-fn is_left_out(name: &str) -> bool
-    ensures { result ≡ is_among left_out_module_commands name.now }
-{
-    match name {
-        "module" | "depends-on" | "set-alias" | "set-function" | "system" | "uname" => true,
-        "source-sh" | "x-resource" | "chdir" | "family" | "complete" | "module-alias" => true,
-        "module-virtual" | "module-tag" | "module-hide" | "module-forbid" => true,
-        "prereq-all" | "prereq-any" | "module-help" | "is-avail" | "is-saved" | "is-used" => true,
-        "unset-alias" | "unset-function" | "uncomplete" => true,
-        "variant" | "getvariant" | "versioncmp" => true,
-        _ => false,
-    }
-}
-
 /// Why a name that is none of the commands' isn't one.
 fn unknown_or_left_out(alloc: Global, name: &str) -> CallFault
     ensures { HasReason (not_a_command name.now) result }
 {
-    if is_left_out(name) {
+    if is_left_out_of_modules(name) {
         CallFault::left_out(alloc, name)
     } else {
         CallFault::Unknown

@@ -10,6 +10,7 @@ ghost use Rattle.modulerecords.specs.Effects.{loaded_by, unloaded_by, edited, ef
 ghost use Rattle.modulefile.specs.RecordViews.{record_view, mode_view, IsJudged, IsEdited, HasFault};
 
 use crate::call::PathEdit;
+use crate::record_fault::RecordFault;
 use crate::records::{Mode, Record};
 use environment::fields::slices;
 use environment::{EnvFault, Vars, is_plain_value, judge_name};
@@ -17,15 +18,6 @@ use modulename::is_module_name;
 use pathstate::{End, add_path, drop_path};
 use stackstate::{pop_value, push_value};
 use std::alloc::Global;
-
-/// Why a record has no effect.
-#[derive(Debug, Drop)]
-pub enum RecordFault {
-    /// The variable can't be edited so, or memory ran out.
-    Env(EnvFault),
-    /// The name of a module is ill spelled.
-    BadModuleName(String),
-}
 
 /// The variable can't take a value.
 fn bad_value(alloc: Global, var: &str) -> RecordFault

@@ -1,7 +1,8 @@
 //! All modules along MODULEPATH, one after the other.
 ghost use Rattle.std.specs.Prelude.{◌≡◌, ◌<◌, ◌≤◌, ◌++◌, map, IfOk, IfErr, OnOk};
 ghost use Rattle.lookup.specs.Agreement.{Narrows, Shows};
-ghost use Rattle.modulefind.specs.Answers.{Stands, cause_of};
+ghost use Rattle.lookup.specs.Causes.{Applies};
+ghost use Rattle.modulefind.specs.Answers.{cause_of};
 ghost use Rattle.modulelist.specs.Listings.{listing_view};
 ghost use Rattle.modulelist.specs.Rows.{row_view};
 ghost use Rattle.defaultfiles.specs.Leaves.{Leaves};
@@ -78,7 +79,7 @@ pub fn available<T: Tree>(
     ensures listed { IfOk result (λ listings. Shows (T.agrees tree.new) (λ files folders.
         Available (Leaves limits) files folders modulepath.now (map line_view listings.items))) }
     ensures fault { IfErr result (λ e.
-        Stands (cause_of e) (T.failures tree.old < T.failures tree.new) (λ reason. ⊥)) }
+        Applies (cause_of e) (T.failures tree.old < T.failures tree.new) (λ reason. ⊥)) }
 {
     let default_files = Evaluated { limits };
     let directories = modulelist::available(alloc, tree, &default_files, modulepath)?;

@@ -11,7 +11,7 @@ use Rattle.modulerecords.specs.Effects.{effect, effects}
 use Rattle.modulerecords.proofs.Effected.{whole, effects_go_on}
 use Rattle.modulefile.specs.declared.records.Mode.{Mode}
 use Rattle.modulefile.specs.declared.records.Record.{Record}
-use Rattle.modulefile.specs.declared.effects.RecordFault.{RecordFault}
+use Rattle.modulefile.specs.declared.record_fault.RecordFault.{RecordFault}
 use Rattle.modulefile.specs.Results.{◌>>=◌}
 use Rattle.modulefile.specs.Calls.{CallReason, keeps, call_of}
 use Rattle.modulefile.specs.RecordViews.{mode_view, record_view, fault_reason, IsEdited}

@@ -17,7 +17,7 @@ use Rattle.modulerecords.specs.Judgments.{RecordReason, bad_edit, bad_module_nam
 use Rattle.modulefile.specs.declared.call.Call.{Call}
 use Rattle.modulefile.specs.declared.call_fault.CallFault.{CallFault}
 use Rattle.modulefile.specs.declared.records.Record.{Record}
-use Rattle.modulefile.specs.declared.effects.RecordFault.{RecordFault}
+use Rattle.modulefile.specs.declared.record_fault.RecordFault.{RecordFault}
 use Rattle.modulefile.specs.Calls as calls
 use Rattle.modulefile.specs.Calls.{CallReason, bad_record, bad_arguments, unknown, keeps, call_of}
 use Rattle.modulefile.specs.CallViews.{reason_of, call_view, HasReason}

@@ -9,7 +9,7 @@ use Rattle.modulerecords.specs.Effects as effects
 use Rattle.modulerecords.specs.Effects.{effect, effects}
 use Rattle.modulefile.specs.declared.records.Mode.{Mode}
 use Rattle.modulefile.specs.declared.records.Mode.TheVariants.{Load, Unload, Display, Whatis}
-use Rattle.modulefile.specs.declared.effects.RecordFault.{RecordFault}
+use Rattle.modulefile.specs.declared.record_fault.RecordFault.{RecordFault}
 use Rattle.modulefile.specs.Results.{◌>>=◌}
 use Rattle.modulefile.specs.RecordViews.{mode_view, record_view, fault_reason}
 use Rattle.modulefile.specs.Answers.{records_in, by_record, or_start}

@@ -6,10 +6,10 @@ ghost use Rattle.modulefile.specs.Files.{globals_of, halted};
 ghost use Rattle.modulerun.specs.Running.{context_view, eval_stop, stop_of, RunsTo, Drafts};
 
 use crate::context::Context;
-use crate::run_fault::{RunFault, record_number};
+use crate::run_fault::RunFault;
 use crate::runner::Runner;
-use environment::{Change, Vars};
-use modulefile::Record;
+use environment::{Change, EnvFault, Vars};
+use modulefile::{Record, RecordFault};
 use std::alloc::{AllocError, Global};
 use tcleval::evaluate;
 use tclrules::{EvalFault, Limits};
@@ -58,7 +58,8 @@ fn is_refused_by(fault: &RunFault, number: u16) -> bool
 {
     match fault {
         RunFault::BadArguments => number == 56,
-        RunFault::BadRecord(fault) => record_number(fault) == Some(number),
+        RunFault::BadRecord(RecordFault::Env(EnvFault::OutOfMemory)) => false,
+        RunFault::BadRecord(fault) => fault.number() == number,
         RunFault::OutOfMemory | RunFault::Eval(_) => false,
     }
 }

@@ -1,12 +1,8 @@
 //! Why a modulefile is refused.
-ghost use Rattle.std.specs.Prelude.{◌≡◌, MatchOption, IfSome, None, Some};
-ghost use Rattle.std.specs.Option.{option_map};
+ghost use Rattle.std.specs.Prelude.{◌≡◌, IfSome, Some};
 ghost use Rattle.message.specs.Messages.{text_of};
-ghost use Rattle.modulefile.specs.Answers.{record_number};
-ghost use Rattle.modulefile.specs.RecordViews.{fault_reason};
 ghost use Rattle.modulerun.specs.Messages as texts;
 
-use environment::EnvFault;
 use message::Message;
 use modulefile::RecordFault;
 use std::alloc::AllocError;
@@ -28,17 +24,6 @@ pub enum RunFault {
     BadRecord(RecordFault),
 }
 
-/// The number that a fault refuses a command by; none for want of memory.
-pub(crate) fn record_number(fault: &RecordFault) -> Option<u16>
-    ensures { result ≡ option_map record_number (fault_reason fault.now) }
-{
-    match fault {
-        RecordFault::Env(EnvFault::OutOfMemory) => None,
-        RecordFault::Env(fault) => Some(fault.number()),
-        RecordFault::BadModuleName(_) => Some(44),
-    }
-}
-
 fn eval_number(fault: &EvalFault) -> u16
     ensures { result ≡ texts.eval_number fault.now }
 {
@@ -46,42 +31,6 @@ fn eval_number(fault: &EvalFault) -> u16
         EvalFault::Text(fault) => fault.number(),
         EvalFault::Host(number) => *number,
         fault => fault.number(),
-    }
-}
-
-fn edit_number(fault: &RecordFault) -> u16
-    ensures { result ≡ texts.edit_number fault.now }
-{
-    match fault {
-        RecordFault::Env(fault) => fault.number(),
-        RecordFault::BadModuleName(_) => 44,
-    }
-}
-
-fn eval_message(fault: &EvalFault) -> Message<'_>
-    ensures { text_of result ≡ texts.eval_message fault.now }
-{
-    match fault {
-        EvalFault::OutOfMemory => Message::plain("Out of memory"),
-        EvalFault::Text(fault) => fault.message(),
-        EvalFault::TclError(message, line) => Message::at_line(message.as_str(), *line),
-        EvalFault::TooManyCommands => Message::plain("Too many commands"),
-        EvalFault::TooDeep => Message::plain("Too many nested evaluations"),
-        EvalFault::ValueTooLong => Message::plain("A value is too long"),
-        EvalFault::NumberTooLarge => Message::plain("A number is too large"),
-        EvalFault::FractionOperand => Message::plain("A number with a fraction is not computed"),
-        EvalFault::LeftOut(name) => Message::around("'", name.as_str(), "' is left out"),
-        EvalFault::Stopped => Message::plain("Stopped by the modulefile"),
-        EvalFault::Host(number) => Message::at_byte("Refused by ", usize::from(*number)),
-    }
-}
-
-fn edit_message(fault: &RecordFault) -> Message<'_>
-    ensures { text_of result ≡ texts.edit_message fault.now }
-{
-    match fault {
-        RecordFault::Env(fault) => fault.message(),
-        RecordFault::BadModuleName(name) => Message::quoting("Bad module name '", name.as_str()),
     }
 }
 
@@ -98,7 +47,7 @@ impl RunFault {
             RunFault::OutOfMemory => 31,
             RunFault::Eval(fault) => eval_number(fault),
             RunFault::BadArguments => 56,
-            RunFault::BadRecord(fault) => edit_number(fault),
+            RunFault::BadRecord(fault) => fault.number(),
         }
     }
 
@@ -108,9 +57,9 @@ impl RunFault {
     {
         match self {
             RunFault::OutOfMemory => Message::plain("Out of memory"),
-            RunFault::Eval(fault) => eval_message(fault),
+            RunFault::Eval(fault) => fault.message(),
             RunFault::BadArguments => Message::plain("Bad arguments"),
-            RunFault::BadRecord(fault) => edit_message(fault),
+            RunFault::BadRecord(fault) => fault.message(),
         }
     }
 }

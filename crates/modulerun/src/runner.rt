@@ -21,7 +21,7 @@ use crate::journal::{Journal, Made};
 use crate::made;
 use crate::questions::{any_loaded, is_mode, mode_word, truth};
 use crate::run::{Draft, Ran};
-use crate::run_fault::{RunFault, record_number};
+use crate::run_fault::RunFault;
 use environment::{EnvFault, Vars, is_variable_name};
 use modulefile::{Call, CallFault, Mode, Record, RecordFault, Topic, call_of};
 use std::alloc::{AllocError, Global};
@@ -102,13 +102,12 @@ impl<'a, V: Vars> Runner<'a, V> {
             → Replies (not_done (bad_record reason)) result (told_by self.old) (told_by self.new) }
         ensures same { context_of self.new ≡ context_of self.old }
     {
-        match record_number(&fault) {
-            None => HostAnswer::OutOfMemory,
-            Some(number) => {
-                self.refusal = Some(RunFault::BadRecord(fault));
-                HostAnswer::Refused(number)
-            }
+        if let RecordFault::Env(EnvFault::OutOfMemory) = fault {
+            return HostAnswer::OutOfMemory;
         }
+        let number = fault.number();
+        self.refusal = Some(RunFault::BadRecord(fault));
+        HostAnswer::Refused(number)
     }
 
     /// Keeps a record, where it has its effect.

@@ -16,7 +16,8 @@ use Rattle.requests.specs.Steps.{Site, Step}
 use Rattle.reversal.specs.Ways.{Way}
 use Rattle.reversal.specs.Standing.{IsStart}
 use Rattle.lookup.specs.Agreement.{Files, Listings, Shows}
-use Rattle.modulesteps.specs.Answers.{Cause, Stands, memory, device, because, cause_of}
+use Rattle.lookup.specs.Causes.{Cause, Applies, memory, device, because}
+use Rattle.modulesteps.specs.Answers.{cause_of}
 use Rattle.modulesteps.specs.declared.refusal.Refusal.{Refusal}
 use Rattle.modulesteps.specs.Views.{done_view, move_view}
 use Rattle.modulesteps.specs.declared.done.Done.{Done}
@@ -68,12 +69,12 @@ one_failed before after h = omega arith
 pub accepted_counts : (before after : ℕ) (done : Done) → before ≤ after → before + count_failed (Accepted done ∷ []) ≤ after
 accepted_counts before after done h = none_failed before after h
 
-cause_counts : (c : Cause) (before after : ℕ) (Is : RequestReason → Type 0) → before ≤ after → Stands c (before < after) Is → before + (count_cause c + 0) ≤ after
+cause_counts : (c : Cause RequestReason) (before after : ℕ) (Is : RequestReason → Type 0) → before ≤ after → Applies c (before < after) Is → before + (count_cause c + 0) ≤ after
 cause_counts memory before after Is later h = none_failed before after later
 cause_counts device before after Is later h = one_failed before after h
 cause_counts (because r) before after Is later h = none_failed before after later
 
-pub refused_counts : (before after : ℕ) (refusal : Refusal) (Is : RequestReason → Type 0) → before ≤ after → Stands (cause_of refusal) (before < after) Is
+pub refused_counts : (before after : ℕ) (refusal : Refusal) (Is : RequestReason → Type 0) → before ≤ after → Applies (cause_of refusal) (before < after) Is
     → before + count_failed (Refused refusal ∷ []) ≤ after
 refused_counts before after refusal Is later h = cause_counts (cause_of refusal) before after Is later h
 
@@ -82,19 +83,19 @@ responds law s e new asked done step =
     let P : Environment → Type 0 = λ x. Step s e asked (Ok (done_view done x)) in
     subst P (made_led law s e new asked done step) step
 
-cause_responds : (c : Cause) (agrees : Files → Listings → Type 0) (failed : Type 0) (site : Files → Listings → Site) (e : Environment) (asked : Asked)
-    → Stands c failed (λ r. Shows agrees (λ files listings. Step (site files listings) e asked (Err r)))
+cause_responds : (c : Cause RequestReason) (agrees : Files → Listings → Type 0) (failed : Type 0) (site : Files → Listings → Site) (e : Environment) (asked : Asked)
+    → Applies c failed (λ r. Shows agrees (λ files listings. Step (site files listings) e asked (Err r)))
     → Shows agrees (λ files listings. IsResponse (site files listings) e asked (by_cause c))
 cause_responds memory agrees failed site e asked h = λ files listings agreed. refl
 cause_responds device agrees failed site e asked h = λ files listings agreed. refl
 cause_responds (because r) agrees failed site e asked h = h
 
 pub refused_responds : (refusal : Refusal) (agrees : Files → Listings → Type 0) (failed : Type 0) (site : Files → Listings → Site) (e : Environment) (asked : Asked)
-    → Stands (cause_of refusal) failed (λ r. Shows agrees (λ files listings. Step (site files listings) e asked (Err r)))
+    → Applies (cause_of refusal) failed (λ r. Shows agrees (λ files listings. Step (site files listings) e asked (Err r)))
     → Shows agrees (λ files listings. IsResponse (site files listings) e asked (response_of e (Refused refusal)))
 refused_responds refusal agrees failed site e asked h = cause_responds (cause_of refusal) agrees failed site e asked h
 
-cause_leaves : (c : Cause) (e : Environment) → e ≡ env_after e (by_cause c)
+cause_leaves : (c : Cause RequestReason) (e : Environment) → e ≡ env_after e (by_cause c)
 cause_leaves memory e = refl
 cause_leaves device e = refl
 cause_leaves (because r) e = refl

@@ -10,7 +10,8 @@ use Rattle.reversal.specs.Laws.{Holds}
 use Rattle.requests.specs.Sessions as sessions
 use Rattle.requests.specs.Sessions.{Response, accepted, refused, given_up, env_after, session_moves}
 use Rattle.requests.specs.Returning.{AreNew, AreFitting}
-use Rattle.modulesteps.specs.Answers.{Cause, memory, device, because, cause_of}
+use Rattle.lookup.specs.Causes.{Cause, memory, device, because}
+use Rattle.modulesteps.specs.Answers.{cause_of}
 use Rattle.modulesteps.specs.Views.{done_view, move_view}
 use Rattle.modulesteps.specs.declared.done.Done.{Done}
 use Rattle.modules.specs.declared.sessions.Outcome.{Outcome}
@@ -25,7 +26,7 @@ abbrev pub led_to : Environment → Done → Environment
 led_to e done = accepted_in e (made (map move_view done.moves.items) e)
 
 -- a refusal as a response: given up where its cause is no reason of the step
-abbrev pub by_cause : Cause → Response
+abbrev pub by_cause : Cause RequestReason → Response
 by_cause memory = given_up 31
 by_cause device = given_up 43
 by_cause (because reason) = refused reason
@@ -41,7 +42,7 @@ responses e [] = []
 responses e (o ∷ os) = response_of e o ∷ responses (env_after e (response_of e o)) os
 
 -- how many were refused since the device failed
-abbrev pub count_cause : Cause → ℕ
+abbrev pub count_cause : Cause RequestReason → ℕ
 count_cause memory = 0
 count_cause device = 1
 count_cause (because reason) = 0

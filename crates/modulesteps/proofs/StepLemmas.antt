@@ -5,6 +5,7 @@ use Rattle.environment.specs.Environment.{Environment}
 use Rattle.environment.specs.Reasons.{EnvReason}
 use Rattle.loadedlist.specs.Loaded.{Entry, names_of, dropped_loaded}
 use Rattle.lookup.specs.Agreement.{Files, Listings, Shows}
+use Rattle.lookup.specs.Causes.{Cause, Applies, memory, device, because}
 use Rattle.tclrules.specs.declared.limits.Limits.{Limits}
 use Rattle.tclrules.specs.Derivation.{Outcome, Ended, Halted}
 use Rattle.tclrules.specs.Plans.{Ending, Normal, Raised, Returned, Broken, Continued}
@@ -18,28 +19,26 @@ use Rattle.modulefile.specs.Results.{◌>>=◌}
 use Rattle.modulefile.specs.Calls.{CallReason}
 use Rattle.modulefile.specs.Answers.{Context, by_record, records_in}
 use Rattle.modulefile.specs.Files.{Ran, Stop, Runs, Finishes, ran_of}
-use Rattle.modulefind.specs.Answers as finding
 use Rattle.modulesearch.specs.Reasons as search
 use Rattle.requests.specs.Reasons.{RequestReason, missed, stopped, refused_edit}
 use Rattle.requests.specs.Refusals.{refused_as, unless, RefusedAs}
 use Rattle.requests.specs.Conditions.{load_objection}
 use Rattle.requests.specs.Steps.{Site, Done, moved_on, went, joins}
 use Rattle.modulesteps.specs.declared.refusal.Refusal.{Refusal}
-use Rattle.modulesteps.specs.Answers.{Cause, Stands, Gives, Tells, by_reason, by_search, cause_of}
-use Rattle.modulesteps.specs.Answers.Cause.{memory, device, because}
+use Rattle.modulesteps.specs.Answers.{Gives, Tells, by_reason, by_search, cause_of}
 use Rattle.modulesteps.specs.declared.files.Topic.{Topic}
 use Rattle.modulesteps.specs.declared.files.Topic.TheVariants.{Commands, Whatis}
 use Rattle.modulesteps.specs.Parts.{added, objection, topic_mode}
 
 -- a cause of one step is a cause of the whole
-pub stands_as : (c : Cause) (failed before : Type 0) (P Q : RequestReason → Type 0) → (failed → before) → ((r : RequestReason) → P r → Q r) → Stands c failed P → Stands c before Q
+pub stands_as : (c : Cause RequestReason) (failed before : Type 0) (P Q : RequestReason → Type 0) → (failed → before) → ((r : RequestReason) → P r → Q r) → Applies c failed P → Applies c before Q
 stands_as memory failed before P Q later then h = tt
 stands_as device failed before P Q later then h = later h
 stands_as (because r) failed before P Q later then h = then r h
 
-stands_each : (c : Cause) (agrees : Files → Listings → Type 0) (before : Type 0) (P Q : Files → Listings → RequestReason → Type 0)
+stands_each : (c : Cause RequestReason) (agrees : Files → Listings → Type 0) (before : Type 0) (P Q : Files → Listings → RequestReason → Type 0)
     → ((files : Files) (listings : Listings) (r : RequestReason) → agrees files listings → P files listings r → Q files listings r)
-    → ((files : Files) (listings : Listings) → Stands c ⊥ (P files listings)) → Stands c before (λ r. Shows agrees (λ files listings. Q files listings r))
+    → ((files : Files) (listings : Listings) → Applies c ⊥ (P files listings)) → Applies c before (λ r. Shows agrees (λ files listings. Q files listings r))
 stands_each memory agrees before P Q then h = tt
 stands_each device agrees before P Q then h = absurd (h (λ path. None) (λ path. None))
 stands_each (because r) agrees before P Q then h = λ files listings a. then files listings r a (h files listings)
@@ -88,15 +87,15 @@ if_no true Yes No o e h = absurd (cc)
 if_no false Yes No o e h = h
 
 -- a search, as a part of the step
-pub search_stands : (k : finding.Cause) (failed : Type 0) (P : search.Reason → Type 0) (Q : RequestReason → Type 0) → ((r : search.Reason) → P r → Q (missed r)) → finding.Stands k failed P → Stands (by_search k) failed Q
-search_stands finding.memory failed P Q then h = tt
-search_stands finding.device failed P Q then h = h
-search_stands (finding.because r) failed P Q then h = then r h
+pub search_stands : (k : Cause search.Reason) (failed : Type 0) (P : search.Reason → Type 0) (Q : RequestReason → Type 0) → ((r : search.Reason) → P r → Q (missed r)) → Applies k failed P → Applies (by_search k) failed Q
+search_stands memory failed P Q then h = tt
+search_stands device failed P Q then h = h
+search_stands (because r) failed P Q then h = then r h
 
 -- ---- a file
 
 -- a stop, as a reason
-pub run_refused : (o : Option Stop) (Runs' : Result Ran Stop → Type 0) → IfSome o (λ stop. Runs' (Err stop)) → Stands (by_reason stopped o) ⊥ (λ r. RefusedAs stopped Runs' (Err r))
+pub run_refused : (o : Option Stop) (Runs' : Result Ran Stop → Type 0) → IfSome o (λ stop. Runs' (Err stop)) → Applies (by_reason stopped o) ⊥ (λ r. RefusedAs stopped Runs' (Err r))
 run_refused None Runs' h = tt
 run_refused (Some stop) Runs' h = (Err stop, h, refl)
 
@@ -191,7 +190,7 @@ unloads_so d m messages mid x made h =
 -- ---- more of the parts
 
 pub edit_refused : (o : Option EnvReason) (P : EnvReason → Type 0) (Q : RequestReason → Type 0) → ((r : EnvReason) → P r → Q (refused_edit (bad_edit r))) → IfSome o P
-    → Stands (by_reason (λ r. refused_edit (bad_edit r)) o) ⊥ Q
+    → Applies (by_reason (λ r. refused_edit (bad_edit r)) o) ⊥ Q
 edit_refused None P Q then h = tt
 edit_refused (Some r) P Q then h = then r h
 

@@ -4,39 +4,35 @@ use Rattle.environment.specs.Texts.{Text, texts_in}
 use Rattle.environment.specs.Reasons.{EnvReason, reason_of}
 use Rattle.environment.specs.Reasons.{message_of as edit_message}
 use Rattle.environment.specs.Reasons.{number_of as edit_number}
-use Rattle.lookup.specs.Agreement.{Files, Listings, Shows}
+use Rattle.lookup.specs.Agreement.{Files, Listings}
 use Rattle.lookup.specs.Answers.{find_message, find_number}
+use Rattle.lookup.specs.Causes as causes
+use Rattle.lookup.specs.Causes.{Cause, Applies, memory, device, because}
 use Rattle.lookup.specs.declared.search.FindFault.TheVariants as finds
 use Rattle.lookup.specs.declared.tree.TreeFault.{TreeFault}
 use Rattle.lookup.specs.declared.tree.TreeFault.TheVariants as trees
 use Rattle.message.specs.Messages.{quoting}
 use Rattle.modulerecords.specs.Judgments.{bad_edit}
 use Rattle.modulefile.specs.Files.{Stop}
-use Rattle.modulefind.specs.Answers as finding
 use Rattle.modulefind.specs.Answers.{cause_of as find_cause}
 use Rattle.modulerun.specs.Running.{stop_of}
+use Rattle.modulesearch.specs.Reasons as search
 use Rattle.requests.specs.Reasons.{RequestReason, bad_arguments, unknown_subcommand, missed, file_gone, not_a_modulefile, stopped, conflict_with, prereq_missing, still_needed_by, refused_edit}
 use Rattle.requests.specs.RequestViews.{reason_of as request_reason}
 use Rattle.modulesteps.specs.declared.refusal.Refusal.{Refusal}
 use Rattle.modulesteps.specs.declared.refusal.Refusal.TheVariants as refusals
 
--- what is behind a refusal: want of memory, a device that failed, or a reason of the step
-pub data Cause : Type 0 where
-  memory : Cause
-  device : Cause
-  because : RequestReason → Cause
-
 -- the reason, where there is one
-abbrev pub by_reason : {R : Type 0} → (R → RequestReason) → Option R → Cause
+abbrev pub by_reason : {R : Type 0} → (R → RequestReason) → Option R → Cause RequestReason
 by_reason view None = memory
 by_reason view (Some r) = because (view r)
 
-abbrev pub by_search : finding.Cause → Cause
-by_search finding.memory = memory
-by_search finding.device = device
-by_search (finding.because r) = because (missed r)
+abbrev pub by_search : Cause search.Reason → Cause RequestReason
+by_search memory = memory
+by_search device = device
+by_search (because r) = because (missed r)
 
-abbrev pub cause_of : Refusal → Cause
+abbrev pub cause_of : Refusal → Cause RequestReason
 cause_of refusals.OutOfMemory = memory
 cause_of (refusals.Run fault) = by_reason stopped (stop_of fault)
 cause_of (refusals.Find fault) = by_search (find_cause fault)
@@ -48,24 +44,15 @@ cause_of (refusals.StillNeededBy name) = because (still_needed_by (string_bytes 
 cause_of (refusals.FileGone path) = because (file_gone (string_bytes path))
 cause_of (refusals.NotAModulefile path) = because (not_a_modulefile (string_bytes path))
 
--- A cause stands: memory can always be wanting, a device has failed, and a reason is the step's.
-abbrev pub Stands : Cause → Type 0 → (RequestReason → Type 0) → Type 0
-Stands memory failed Is = Unit {0}
-Stands device failed Is = failed
-Stands (because r) failed Is = Is r
-
 -- A call without a tree: what it gives, seen by view, is what it comes to; or its refusal has a cause.
 abbrev pub Gives : {X Y : Type 0} → (X → Y) → Result X Refusal → (Result Y RequestReason → Type 0) → Type 0
 Gives view (Ok x) Comes = Comes (Ok (view x))
-Gives view (Err e) Comes = Stands (cause_of e) ⊥ (λ r. Comes (Err r))
+Gives view (Err e) Comes = Applies (cause_of e) ⊥ (λ r. Comes (Err r))
 
--- A call over a tree: what it gives is what it comes to in each pair of maps that agrees with the tree now; or its refusal
--- has a cause.
+-- what a call over a tree tells, whose faults are refusals
 abbrev pub Tells : {X Y : Type 0} → (Files → Listings → Type 0) → Type 0 → (X → Y) → Result X Refusal
     → (Files → Listings → Result Y RequestReason → Type 0) → Type 0
-Tells agrees failed view (Ok x) Comes = Shows agrees (λ files listings. Comes files listings (Ok (view x)))
-Tells agrees failed view (Err e) Comes =
-    Stands (cause_of e) failed (λ r. Shows agrees (λ files listings. Comes files listings (Err r)))
+Tells = causes.Tells cause_of
 
 -- a tree's fault, as a refusal
 abbrev pub refused_read : TreeFault → Refusal

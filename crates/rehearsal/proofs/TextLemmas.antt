@@ -19,7 +19,8 @@ use Rattle.requests.specs.RequestViews.{request_view}
 use Rattle.requests.specs.declared.asked.Request as code
 use Rattle.requests.specs.Steps.{Site, Done, Step}
 use Rattle.requests.specs.Sessions.{accepted, refused, given_up, Session, left_by}
-use Rattle.modulesteps.specs.Answers.{Cause, Stands, memory, device, because, cause_of}
+use Rattle.lookup.specs.Causes.{Cause, Applies, memory, device, because}
+use Rattle.modulesteps.specs.Answers.{cause_of}
 use Rattle.modulesteps.specs.declared.refusal.Refusal.{Refusal}
 use Rattle.modules.specs.Replies.{site_in}
 use Rattle.rehearsal.specs.Rehearsals.{ArePrints, Rehearsal, one_failed, count_failed}
@@ -55,7 +56,7 @@ module _ (agrees : Files → Listings → Type 0) (limits : Limits) (r : Request
     failures = none_more before after later;
   }
 
-  cause_came : (c : Cause) → Stands c (before < after) (λ reason. Steps (Err reason)) → Came agrees limits r e e None before after
+  cause_came : (c : Cause RequestReason) → Applies c (before < after) (λ reason. Steps (Err reason)) → Came agrees limits r e e None before after
   cause_came memory h = wanting_came
   cause_came device h = record {
     response = given_up 43;
@@ -72,7 +73,7 @@ module _ (agrees : Files → Listings → Type 0) (limits : Limits) (r : Request
     failures = none_more before after later;
   }
 
-  pub refused_came : (refusal : Refusal) → Stands (cause_of refusal) (before < after) (λ reason. Steps (Err reason)) → Came agrees limits r e e None before after
+  pub refused_came : (refusal : Refusal) → Applies (cause_of refusal) (before < after) (λ reason. Steps (Err reason)) → Came agrees limits r e e None before after
   refused_came refusal h = cause_came (cause_of refusal) h
 
   module _ (d : Done) (cs : List Edit) (step : Steps (Ok d)) (changes : AreChanges e d.env cs) where

@@ -13,6 +13,6 @@ mod switch;
 pub use calls::allotted;
 pub use foreach::Loops;
 pub use messages::{no_command, not_to_unset, outside_loop};
-pub use names::{is_kept, is_left_out};
+pub use names::{is_kept, is_left_out, is_left_out_of_modules};
 pub use procedures::parameters;
 pub use switch::chosen;

@@ -171,7 +171,7 @@ fn is_of_modules(name: &str) -> bool
 
 /// Whether a command of modulefiles of this name is left out.
 #[tactic(auto, unfolding(tclrules::specs::Names::left_out_module_commands))]
-fn is_left_out_of_modules(name: &str) -> bool
+pub fn is_left_out_of_modules(name: &str) -> bool
     ensures { result ≡ is_among left_out_module_commands name.now }
 {
     is_in(&LEFT_OUT_MODULES, name)

@@ -1,5 +1,7 @@
--- The numbers of faults.
-use Rattle.std.specs.Prelude.{ℕ}
+-- The numbers of faults, and what they say.
+use Rattle.std.specs.Prelude.{ℕ, [], codes, decimal, string_bytes}
+use Rattle.message.specs.Messages.{Text, around, at_line}
+use Rattle.tclchars.specs.Faults.{fault_message}
 use Rattle.tclrules.specs.declared.outcome.EvalFault.{EvalFault}
 use Rattle.tclrules.specs.declared.outcome.EvalFault.TheVariants as fault
 
@@ -15,3 +17,16 @@ number_of fault.FractionOperand = 18
 number_of (fault.LeftOut name) = 19
 number_of fault.Stopped = 20
 number_of (fault.Host n) = 21
+
+abbrev pub message_of : EvalFault → Text
+message_of fault.OutOfMemory = codes "Out of memory"
+message_of (fault.Text f) = fault_message f
+message_of (fault.TclError message line) = at_line (string_bytes message) line
+message_of fault.TooManyCommands = codes "Too many commands"
+message_of fault.TooDeep = codes "Too many nested evaluations"
+message_of fault.ValueTooLong = codes "A value is too long"
+message_of fault.NumberTooLarge = codes "A number is too large"
+message_of fault.FractionOperand = codes "A number with a fraction is not computed"
+message_of (fault.LeftOut name) = around (codes "'") (string_bytes name) (codes "' is left out")
+message_of fault.Stopped = codes "Stopped by the modulefile"
+message_of (fault.Host n) = around (codes "Refused by ") (decimal n) []

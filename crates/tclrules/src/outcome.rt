@@ -1,12 +1,16 @@
 //! How an evaluation ends.
 
-ghost use Rattle.std.specs.Prelude.{◌≡◌};
+ghost use Rattle.std.specs.Prelude.{◌≡◌, Some};
+ghost use Rattle.message.specs.Messages.{text_of};
 ghost use Rattle.tclrules.specs.declared.outcome.EvalFault.TheVariants as faults;
-ghost use Rattle.tclrules.specs.Faults.{number_of};
+ghost use Rattle.tclrules.specs.Faults.{number_of, message_of};
 
+use message::Message;
 use std::alloc::{AllocError, AllocFailed};
+use std::error::Error;
+use std::fmt;
+use std::fmt::Display;
 use tclchars::TextFault;
-use thiserror::Error;
 
 /// How a script ended: its result, the global variables in the order of their making, and how many commands and turns
 /// of loops were counted.
@@ -18,40 +22,29 @@ pub struct Ending {
 }
 
 /// Why an evaluation ended early. Its `Display` is what follows `ERROR: `, but for the name of a host's refusal.
-#[derive(Debug, Drop, Error)]
+#[derive(Debug, Drop)]
 pub enum EvalFault {
     /// 11: a growth of memory was refused.
-    #[error("Out of memory")]
     OutOfMemory,
     /// 12: the script, a body or an expression can't be parsed.
-    #[error(transparent)]
     Text(TextFault),
     /// 13: an error that catch(n) sees, with its message and the line of the file's command.
-    #[error("{0} (line {1})")]
     TclError(String, usize),
     /// 14: the limit on commands was met.
-    #[error("Too many commands")]
     TooManyCommands,
     /// 15: the limit on depth was met.
-    #[error("Too many nested evaluations")]
     TooDeep,
     /// 16: a value has more bytes than the limit.
-    #[error("A value is too long")]
     ValueTooLong,
     /// 17: a whole number lies outside 64 bits.
-    #[error("A number is too large")]
     NumberTooLarge,
     /// 18: a number is spelled with a fraction or an exponent.
-    #[error("A number with a fraction is not computed")]
     FractionOperand,
     /// 19: this command, option or kind of variable is left out.
-    #[error("'{0}' is left out")]
     LeftOut(String),
     /// 20: the script stopped itself.
-    #[error("Stopped by the modulefile")]
     Stopped,
     /// 21: the host refused a command by this number.
-    #[error("Refused by {0}")]
     Host(u16),
 }
 
@@ -74,7 +67,38 @@ impl EvalFault {
             EvalFault::Host(_) => 21,
         }
     }
+
+    /// What the fault says; of a host's refusal its number alone.
+    pub fn message(&self) -> Message<'_>
+        ensures { text_of result ≡ message_of self.now }
+    {
+        match self {
+            EvalFault::OutOfMemory => Message::plain("Out of memory"),
+            EvalFault::Text(fault) => fault.message(),
+            EvalFault::TclError(message, line) => Message::at_line(message.as_str(), *line),
+            EvalFault::TooManyCommands => Message::plain("Too many commands"),
+            EvalFault::TooDeep => Message::plain("Too many nested evaluations"),
+            EvalFault::ValueTooLong => Message::plain("A value is too long"),
+            EvalFault::NumberTooLarge => Message::plain("A number is too large"),
+            EvalFault::FractionOperand => {
+                Message::plain("A number with a fraction is not computed")
+            }
+            EvalFault::LeftOut(name) => Message::around("'", name.as_str(), "' is left out"),
+            EvalFault::Stopped => Message::plain("Stopped by the modulefile"),
+            EvalFault::Host(number) => Message::at_byte("Refused by ", usize::from(*number)),
+        }
+    }
 }
+
+impl fmt::Display for EvalFault {
+    ghost output = { λ fault. Some (message_of fault) };
+
+    fn fmt<W: fmt::Write>(&self, f: &mut fmt::Formatter<W>) -> fmt::Result {
+        self.message().fmt(f)
+    }
+}
+
+impl Error for EvalFault {}
 
 impl From<AllocError> for EvalFault {
     ghost from_gives = { λ _ e. e ≡ faults.OutOfMemory };

@@ -1,0 +1,50 @@
+//! Sessions that are rehearsed.
+use crate::shown::variables;
+use crate::words::{parted, words};
+use anyhow::Result;
+use lookup::Tree;
+use modules::{Env, Limits, Request, Shell, request};
+use rehearsal::rehearse;
+use std::alloc::{AllocError, Global};
+
+/// The requests of a line, parted by commas, each behind the name of its shell.
+fn requests(alloc: Global, line: &str) -> Result<Vec<Request>> {
+    let mut requests = Vec::new(alloc);
+    for part in line.split(',') {
+        let (name, rest) = parted(part.trim());
+        let words = words(alloc, rest)?;
+        let shell = Shell::named(name).unwrap_or(Shell::Sh);
+        requests.push(request(alloc, shell, words.as_slice())?)?;
+    }
+    Ok(requests)
+}
+
+/// What is printed for each request.
+fn shown_prints(alloc: Global, prints: &[Option<String>]) -> Result<String, AllocError> {
+    let mut text = String::new(alloc);
+    for print in prints {
+        match print {
+            Some(print) => {
+                text.push_str("accepted\n")?;
+                text.push_str(print.as_str())?;
+            }
+            None => text.push_str("none\n")?,
+        }
+    }
+    Ok(text)
+}
+
+/// Rehearses requests, and shows what is printed for each and the variables that are left.
+pub(crate) fn shown_rehearsal<T: Tree>(
+    alloc: Global,
+    line: &str,
+    env: &Env,
+    tree: &mut T,
+    limits: Limits,
+) -> Result<String> {
+    let requests = requests(alloc, line)?;
+    let (left, prints) = rehearse(alloc, requests.as_slice(), env.copy()?, tree, limits)?;
+    let prints = shown_prints(alloc, prints.as_slice())?;
+    let left = variables(alloc, &left)?;
+    Ok(format!(in alloc; "{prints}left\n{left}")?)
+}

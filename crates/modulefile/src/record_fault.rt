@@ -1,0 +1,54 @@
+//! Why a record has no effect.
+ghost use Rattle.std.specs.Prelude.{◌≡◌, Some, IfSome};
+ghost use Rattle.message.specs.Messages.{text_of};
+ghost use Rattle.modulefile.specs.Answers.{record_number};
+ghost use Rattle.modulefile.specs.RecordFaults.{number_of, message_of};
+ghost use Rattle.modulefile.specs.RecordViews.{fault_reason};
+
+use environment::EnvFault;
+use message::Message;
+use std::error::Error;
+use std::fmt;
+use std::fmt::Display;
+
+/// Why a record has no effect. Its `Display` is what follows `ERROR: `.
+#[derive(Debug, Drop)]
+pub enum RecordFault {
+    /// The variable can't be edited so, or memory ran out.
+    Env(EnvFault),
+    /// The name of a module is ill spelled.
+    BadModuleName(String),
+}
+
+impl RecordFault {
+    /// The number of the fault: that of the variable's fault, or 44.
+    pub fn number(&self) -> u16
+        ensures exact { result ≡ number_of self.now }
+        ensures by_reason { IfSome (fault_reason self.now) (λ reason. result ≡ record_number reason) }
+    {
+        match self {
+            RecordFault::Env(fault) => fault.number(),
+            RecordFault::BadModuleName(_) => 44,
+        }
+    }
+
+    /// What the fault says.
+    pub fn message(&self) -> Message<'_>
+        ensures { text_of result ≡ message_of self.now }
+    {
+        match self {
+            RecordFault::Env(fault) => fault.message(),
+            RecordFault::BadModuleName(name) => Message::quoting("Bad module name '", name.as_str()),
+        }
+    }
+}
+
+impl fmt::Display for RecordFault {
+    ghost output = { λ fault. Some (message_of fault) };
+
+    fn fmt<W: fmt::Write>(&self, f: &mut fmt::Formatter<W>) -> fmt::Result {
+        self.message().fmt(f)
+    }
+}
+
+impl Error for RecordFault {}
