@@ -1,6 +1,8 @@
 -- The class of a text is that of a whole number exactly where the text is one.
-use Rattle.std.proofs.Common.{◌≡◌, ◌≢◌, ℕ, ◌+◌, ◌*◌, ◌<◌, ◌≤◌, [], ◌∷◌, ◌++◌, Bool, true, false, not, ◌||◌, ◌==◌, nat_lt, Option, Some, None, refl, sym, ap, subst, ◌∙◌, arith, append_assoc, append-nil, ◌⊎◌, inl, inr, lit≤, lit<}
+use Rattle.std.proofs.Common.{◌≡◌, ◌≢◌, ℕ, ◌+◌, ◌*◌, ◌^◌, ◌<◌, ◌≤◌, [], ◌∷◌, ◌++◌, length, get_or, Bool, true, false, not, ◌||◌, ◌==◌, nat_lt, Option, Some, None, refl, sym, ap, subst, ◌∙◌, arith, append_assoc, append-nil, ◌⊎◌, inl, inr, lit≤, lit<}
+use Rattle.std.proofs.lemmas.Bool.{ne_eqb}
 use Rattle.std.proofs.lemmas.Bool.Decides.{nat_tests}
+use Rattle.std.specs.Prelude.{pos}
 use Rattle.std.specs.Char.{digit_value}
 use Rattle.std.specs.Str.Parse.{AllDigits, digits_value_after}
 use Rattle.tclchars.specs.Bytes.{is_space, AllPass, DoesBegin}
@@ -268,6 +270,15 @@ whole_read t minus n h =
     ap numeral_of (trimmed_is t core h.2 read.2)
     ∙ ap (λ found. class_of (is_minus core) (without_sign core) found) counted
     ∙ ap (λ m. whole_of m n) read.0
+
+-- decimal digits alone, of which the first isn't 0, are the number that they make
+pub plain_read : (t : Text) (n : ℕ) → 0 < length t → (get_or t 0 0 ≡ 48 → ⊥) → digits_from 10 0 t ≡ Some n → n < 2 ^ 63 → numeral t ≡ numerals.Whole (pos n)
+plain_read [] n some starts h small = absurd (omega arith)
+plain_read (b ∷ bs) n some starts h small =
+    let first : (b == 48) ≡ false = ne_eqb b 48 starts in
+    let digits = numbers.IsMagnitude.decimal (ap not first) (digits_found 10 n (b ∷ bs) h) in
+    let fits : nat_lt n (2 ^ 63) ≡ true = grind (arith, nat_tests) in
+    whole_read (b ∷ bs) false n (b ∷ bs, b ∷ bs, ([], [], sym (append-nil (b ∷ bs)), tt, tt), numbers.IsSigned.without_sign, digits) ∙ rw fits refl
 
 pub whole_found : (t : Text) → numeral t ≢ numerals.Fraction → numeral t ≢ numerals.Text → (minus : Bool) × (n : ℕ) × IsWhole t minus n
 unfolding numeral

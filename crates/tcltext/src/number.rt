@@ -1,8 +1,9 @@
-ghost use Rattle.std.specs.Prelude.{◌≡◌, ◌≤◌, ◌<◌, ◌-◌, ◌^◌, min, option_map};
+ghost use Rattle.std.specs.Prelude.{◌≡◌, ◌≤◌, ◌<◌, ◌-◌, ◌^◌, min, option_map, IfSome, Some};
 ghost use Rattle.std.specs.Char.{digit_value};
 ghost use Rattle.tclchars.specs.Runs.{back};
-ghost use Rattle.tcltext.specs.Numerals.{trimmed, without_end, is_minus, without_sign, digits_in, base_of, magnitude, behind_zero, is_digit, begins_digit, are_digits, is_exponent, may_be_exponent, is_fraction_end, is_word, is_fraction, whole_of, numeral};
+ghost use Rattle.tcltext.specs.Numerals.{trimmed, without_end, is_minus, without_sign, digits_in, base_of, magnitude, digits_from, behind_zero, is_digit, begins_digit, are_digits, is_exponent, may_be_exponent, is_fraction_end, is_word, is_fraction, whole_of, numeral};
 ghost use Rattle.tclchars.specs.Bytes.{is_space};
+ghost use Rattle.tcltext.specs.declared.number.Numeral.TheVariants.{Whole};
 
 /// A text as a number.
 #[derive(Clone, Copy, Debug, PartialEq, Eq)]
@@ -29,7 +30,40 @@ pub enum Numeral {
 pub fn read_number(text: &str) -> Numeral
     ensures { result ≡ numeral text.now }
 {
-    let signed = trim(text.as_bytes());
+    if let Some(number) = plain_decimal(text.as_bytes()) {
+        return Numeral::Whole(number);
+    }
+    any_number(text.as_bytes())
+}
+
+// The number of decimal digits alone, of at most 18; None of some texts that are larger numbers.
+fn few_digits(digits: &[u8]) -> Option<u64>
+    ensures { IfSome result (λ n. (n < 2 ^ 63) × (digits_from 10 0 digits.now ≡ Some n)) }
+{
+    let mut number = 0u64;
+    for digit in digits {
+        if !is_digit(*digit) || number >= 100_000_000_000_000_000 {
+            return None;
+        }
+        number = number * 10 + u64::from(*digit - b'0');
+    }
+    Some(number)
+}
+
+// The number of decimal digits alone that begin with no 0, of at most 18: what most numbers are, read at once.
+fn plain_decimal(text: &[u8]) -> Option<i64>
+    ensures { IfSome result (λ n. numeral text.now ≡ Whole n) }
+{
+    match text {
+        [first, ..] if *first != b'0' => Some(few_digits(text)? as i64),
+        _ => None,
+    }
+}
+
+fn any_number(text: &[u8]) -> Numeral
+    ensures { result ≡ numeral text.now }
+{
+    let signed = trim(text);
     let digits = without_sign(signed);
     match magnitude(digits) {
         Some(n) => whole_of(is_minus(signed), n),
