@@ -19,8 +19,8 @@ use Rattle.modulesteps.specs.Answers.{cause_of}
 use Rattle.modulesteps.specs.Messages as texts
 use Rattle.modulesteps.specs.declared.refusal.Refusal.TheVariants as refusals
 use Rattle.modules.specs.Replies.{site_in}
-use Rattle.modulecmd.specs.declared.process.ArgumentsFault.{ArgumentsFault}
-use Rattle.modulecmd.specs.declared.process.ArgumentsFault.TheVariants as given
+use Rattle.processinput.specs.declared.process.ArgumentsFault.{ArgumentsFault}
+use Rattle.processinput.specs.declared.process.ArgumentsFault.TheVariants as given
 use Rattle.modulecmd.specs.declared.refuse.CommandFault.{CommandFault}
 use Rattle.modulecmd.specs.declared.refuse.CommandFault.TheVariants.{Refused, Unprinted, UnknownShell, WriteFailed}
 

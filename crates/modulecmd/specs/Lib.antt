@@ -1,5 +1,4 @@
 pub mod Writing
-pub mod Given
 pub mod Lines
 pub mod Command
 pub mod Output

@@ -1,14 +1,11 @@
 //! The command of environment modules: the words of a command line in, a text for a shell out.
 #![tactic(auto)]
 
-mod block;
 mod command;
 mod ends;
-pub mod process;
 mod refuse;
 mod writers;
 
-pub use block::environment_of;
 pub use command::{modulecmd, run_command};
 pub use ends::Exit;
 pub use environment::{Change, Env, EnvFault};
@@ -17,6 +14,7 @@ pub use modules::{
     Action, Changed, Done, Limits, Module, Move, Refusal, Request, RequestFault, request,
     run_changes,
 };
+pub use processinput::{ArgumentsFault, arguments, environment_block, environment_of};
 pub use refuse::{CommandFault, write_refusal};
 pub use shells::Shell;
 pub use shelltext::{PrintFault, print_changes};

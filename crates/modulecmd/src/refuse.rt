@@ -9,12 +9,12 @@ ghost use Rattle.modulesteps.specs.declared.refusal.Refusal.TheVariants as refus
 ghost use Rattle.modulecmd.specs.declared.refuse.CommandFault.TheVariants.{Refused, Unprinted};
 ghost use Rattle.modulecmd.specs.Command.{number_of, of_arguments};
 
-use crate::process::ArgumentsFault;
 use crate::writers::{WriteFault, write_parts};
 use environment::EnvFault;
 use itoa::Buffer;
 use message::Message;
 use modules::{Refusal, RequestFault};
+use processinput::ArgumentsFault;
 use shelltext::PrintFault;
 use std::alloc::AllocError;
 use std::error::Error;

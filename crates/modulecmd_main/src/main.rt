@@ -1,8 +1,10 @@
 //! `modulecmd SHELL SUBCOMMAND [ARG...]`: prints the text by which the shell loads or unloads modules.
 #![tactic(auto)]
 
-use modulecmd::process::{arguments, environment_block};
-use modulecmd::{CommandFault, DiskTree, Env, environment_of, modulecmd, write_refusal};
+use modulecmd::{
+    CommandFault, DiskTree, Env, arguments, environment_block, environment_of, modulecmd,
+    write_refusal,
+};
 use std::process::ExitCode;
 
 /// The arguments behind the program's name, and the environment.

@@ -17,6 +17,3 @@ pub use record_fault::RecordFault;
 pub use records::{Mode, Record};
 pub use rows::{ending_rows, file_rows, path_rows, question_rows, refused_rows, report_rows};
 pub use shells::Shell;
-
-#[cfg(test)]
-mod tests;

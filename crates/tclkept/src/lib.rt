@@ -3,8 +3,6 @@
 
 mod kept;
 mod parsed;
-#[cfg(test)]
-mod tests;
 mod texts;
 
 pub use kept::Kept;

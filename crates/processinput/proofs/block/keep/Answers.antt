@@ -1,6 +1,6 @@
 use Rattle.std.proofs.Common.{sym, refl, ◌∙◌}
-use Rattle.modulecmd.proofs.EntryLemmas.{given, on_ok}
-use Rattle.modulecmd.proofs.block.keep.Goals as goal
+use Rattle.processinput.proofs.EntryLemmas.{given, on_ok}
+use Rattle.processinput.proofs.block.keep.Goals as goal
 
 pub returns-clause-ok : goal.returns-clause-ok
 returns-clause-ok c =

@@ -1,8 +1,7 @@
 //! What a process is given.
 
 use crate::system::{System, Told};
-use modulecmd::environment_of;
-use modulecmd::process::{arguments, environment_block};
+use processinput::{arguments, environment_block, environment_of};
 use std::alloc::{AllocError, Global};
 use std::env;
 use std::io::ErrorKind;

@@ -1,7 +1,7 @@
 use Rattle.std.proofs.Common.{◌≡◌, map, length}
 use Rattle.std.specs.FinMap as finite
-use Rattle.modulecmd.specs.Given.{with_entries, entries_of}
-use Rattle.modulecmd.proofs.block.environment_of.Given as goal
+use Rattle.processinput.specs.Given.{with_entries, entries_of}
+use Rattle.processinput.proofs.block.environment_of.Given as goal
 
 -- what is left, over what is kept, says what the whole block says
 abbrev pub invariant-loop-entry : goal.invariant-loop-entry

@@ -1,8 +1,7 @@
 //! What the process was given: its arguments and its environment.
 ghost use Rattle.std.specs.Prelude.{◌≡◌, ◌≤◌, Some, IfOk, IfSome, vec_len};
 ghost use Rattle.message.specs.Messages.{text_of};
-ghost use Rattle.modulecmd.specs.Command.{number_of, of_arguments};
-ghost use Rattle.modulecmd.specs.Lines.{message_of};
+ghost use Rattle.processinput.specs.Faults.{number_of, message_of};
 
 use message::Message;
 use std::alloc::AllocError;
@@ -25,7 +24,7 @@ pub enum ArgumentsFault {
 impl ArgumentsFault {
     /// The number of the refusal: 31 for want of memory, else 56.
     pub fn number(&self) -> u16
-        ensures { result ≡ number_of (of_arguments self.now) }
+        ensures { result ≡ number_of self.now }
     {
         match self {
             ArgumentsFault::OutOfMemory => 31,
@@ -35,7 +34,7 @@ impl ArgumentsFault {
 
     /// What the fault says: as the refusal that it becomes.
     pub fn message(&self) -> Message<'static>
-        ensures { text_of result ≡ message_of (of_arguments self.now) }
+        ensures { text_of result ≡ message_of self.now }
     {
         match self {
             ArgumentsFault::OutOfMemory => Message::plain("Out of memory"),
@@ -45,7 +44,7 @@ impl ArgumentsFault {
 }
 
 impl fmt::Display for ArgumentsFault {
-    ghost output = { λ fault. Some (message_of (of_arguments fault)) };
+    ghost output = { λ fault. Some (message_of fault) };
 
     fn fmt<W: fmt::Write>(&self, f: &mut fmt::Formatter<W>) -> fmt::Result {
         self.message().fmt(f)

@@ -1,5 +1,5 @@
-use Rattle.modulecmd.proofs.EntryLemmas.{last_kept}
-use Rattle.modulecmd.proofs.block.environment_of.Goals as goal
+use Rattle.processinput.proofs.EntryLemmas.{last_kept}
+use Rattle.processinput.proofs.block.environment_of.Goals as goal
 
 pub loop-entry-preserved : goal.loop-entry-preserved
 loop-entry-preserved c =

@@ -3,8 +3,8 @@ ghost use Rattle.std.specs.Prelude.{◌≡◌, map, length, Some, None, IfOk, If
 ghost use Rattle.std.specs.List.{position_or_len};
 ghost use Rattle.environment.specs.Environment.{with_value};
 ghost use Rattle.environment.specs.declared.fault.EnvFault.TheVariants.{OutOfMemory};
-ghost use Rattle.modulecmd.specs.Given as given;
-ghost use Rattle.modulecmd.specs.Given.{with_entry, entries_of, is_equals, readable};
+ghost use Rattle.processinput.specs.Given as given;
+ghost use Rattle.processinput.specs.Given.{with_entry, entries_of, is_equals, readable};
 
 use environment::{Env, EnvFault};
 use std::alloc::{AllocError, Global};
