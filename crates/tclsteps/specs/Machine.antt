@@ -34,18 +34,29 @@ bounds bytes left = record { bytes = bytes; left = left }
 -- what a frame goes on with, before what goes on behind it
 abbrev pub behind : Text → Bounds → Frame → Next → Next
 behind source b (frames.Element name) k t s = read_element name.now t s k
-behind source b (frames.Joined text ps) k t s = sized b.bytes (string_bytes text ++ t) (parts b (parts_view (shown source) ps.now) (string_bytes text ++ t) s k)
+behind source b (frames.Joined text ps) k t s =
+    sized b.bytes (string_bytes text ++ t) (parts b (parts_view (shown source) ps.now) (string_bytes text ++ t) s k)
 behind source b frames.Operand k t s = sized b.bytes t (k t s)
 behind source b (frames.Unary u) k t s = given (unary_value u t) s (λ v. k v s)
-behind source b (frames.Left o r) k t s = expr b (expr_view (shown source) r.now) s (λ u s2. given (binary_value o t u) s2 (λ v. k v s2))
+behind source b (frames.Left o r) k t s =
+    expr b (expr_view (shown source) r.now) s (λ u s2. given (binary_value o t u) s2 (λ v. k v s2))
 behind source b (frames.Right o t) k u s = given (binary_value o (string_bytes t) u) s (λ v. k v s)
 behind source b (frames.And r) k t s =
-    given (truth t) s (elim [ true ↦ expr b (expr_view (shown source) r.now) s (λ u s2. given (truth u) s2 (λ v. k (truth_text v) s2)) | false ↦ k (codes "0") s ])
+    given (truth t) s (elim [
+      | true ↦ expr b (expr_view (shown source) r.now) s (λ u s2. given (truth u) s2 (λ v. k (truth_text v) s2))
+      | false ↦ k (codes "0") s
+    ])
 behind source b (frames.Or r) k t s =
-    given (truth t) s (elim [ true ↦ k (codes "1") s | false ↦ expr b (expr_view (shown source) r.now) s (λ u s2. given (truth u) s2 (λ v. k (truth_text v) s2)) ])
+    given (truth t) s (elim [
+      | true ↦ k (codes "1") s
+      | false ↦ expr b (expr_view (shown source) r.now) s (λ u s2. given (truth u) s2 (λ v. k (truth_text v) s2))
+    ])
 behind source b frames.Truth k u s = given (truth u) s (λ v. k (truth_text v) s)
 behind source b (frames.Choice y n) k t s =
-    given (truth t) s (elim [ true ↦ expr b (expr_view (shown source) y.now) s k | false ↦ expr b (expr_view (shown source) n.now) s k ])
+    given (truth t) s (elim [
+      | true ↦ expr b (expr_view (shown source) y.now) s k
+      | false ↦ expr b (expr_view (shown source) n.now) s k
+    ])
 
 -- what all frames go on with, of which the first waits for the next value
 abbrev pub behind_all : Text → Bounds → List Frame → Next → Next
@@ -62,7 +73,8 @@ control_plan source b (controls.Value t) s k = k (string_bytes t) s
 abbrev pub step_plan : Text → Bounds → Step → List Frame → State → Next → plans.Step
 step_plan source b (steps.Next c) fs s k = control_plan source b c s (behind_all source b fs k)
 step_plan source b (steps.Done t) fs s k = k (string_bytes t) s
-step_plan source b (steps.Bracket cs) fs s k = Runs (Bracket b.left (script_view (shown source) cs.now) s) (on_normal (behind_all source b fs k))
+step_plan source b (steps.Bracket cs) fs s k =
+    Runs (Bracket b.left (script_view (shown source) cs.now) s) (on_normal (behind_all source b fs k))
 
 -- how much is left to do
 
@@ -76,7 +88,8 @@ frame_weight source (frames.Right o t) = 1
 frame_weight source (frames.And r) = 3 + expr_weight (expr_view (shown source) r.now)
 frame_weight source (frames.Or r) = 3 + expr_weight (expr_view (shown source) r.now)
 frame_weight source frames.Truth = 1
-frame_weight source (frames.Choice y n) = 1 + (expr_weight (expr_view (shown source) y.now) + expr_weight (expr_view (shown source) n.now))
+frame_weight source (frames.Choice y n) =
+    1 + (expr_weight (expr_view (shown source) y.now) + expr_weight (expr_view (shown source) n.now))
 
 abbrev pub frames_weight : Text → List Frame → ℕ
 frames_weight source [] = 0
@@ -94,8 +107,11 @@ IsLess source (steps.Done t) fs n = Unit {0}
 IsLess source (steps.Bracket cs) fs n = frames_weight source fs < n
 
 -- a step's result is where the plan leads, with less left to do than this number
-abbrev pub StepsTo : (Bounds → Next → plans.Step) → Context → (ℕ → Point) → Result Step Stop → List Frame → ℕ → (ℕ → Point) → Type 0
+abbrev pub StepsTo : (Bounds → Next → plans.Step) → Context → (ℕ → Point) → Result Step Stop → List Frame → ℕ
+    → (ℕ → Point) → Type 0
 StepsTo p c x result fs n y =
-    ((most used left : ℕ) (r : Job → plans.Step) (k : Next) →
-    Leads most r (p (bounds c.limits.value_bytes left) k) (x used) (after result (λ st s. step_plan c.source.now (bounds c.limits.value_bytes left) st fs s k) c.variables.now) (y used))
+    ((most used left : ℕ) (r : Job → plans.Step) (k : Next)
+    → Leads most r (p (bounds c.limits.value_bytes left) k) (x used)
+    (after result (λ st s. step_plan c.source.now (bounds c.limits.value_bytes left) st fs s k) c.variables.now)
+    (y used))
     × IfOk result (λ st. IsLess c.source.now st fs n)

@@ -1,5 +1,5 @@
-//! Words and expressions of Tcl's scripts, evaluated step by step: each step leads on in the rules of evaluation, and what waits
-//! for a value stands on a stack in memory, so that no nesting takes a frame of the machine.
+//! Words and expressions of Tcl's scripts, evaluated step by step: each step leads on in the rules of evaluation, and
+//! what waits for a value stands on a stack in memory, so that no nesting takes a frame of the machine.
 #![tactic(auto)]
 
 mod at_hand;

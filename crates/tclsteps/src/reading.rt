@@ -66,7 +66,9 @@ fn value_at(
     global: bool,
     name: &str,
 ) -> Result<String, Stop>
-    ensures { (most : ℕ) (r : Job → plans.Step) (k : Next) (x : Point) → Leads most r (found (no_variable spelled.now) variables.now k (value_at variables.now (global, name.now))) x (after result (λ t s. k (string_bytes t) s) variables.now) x }
+    ensures { (most : ℕ) (r : Job → plans.Step) (k : Next) (x : Point)
+        → Leads most r (found (no_variable spelled.now) variables.now k (value_at variables.now (global, name.now))) x
+        (after result (λ t s. k (string_bytes t) s) variables.now) x }
 {
     match variables.get(global, name) {
         Some(value) => Ok(String::from_str(alloc, value)?),
@@ -82,7 +84,9 @@ fn read_plain(
     global: bool,
     name: &str,
 ) -> Result<String, Stop>
-    ensures { (most : ℕ) (r : Job → plans.Step) (k : Next) (x : Point) → Leads most r (read_plain spelled.now global name.now variables.now k) x (after result (λ t s. k (string_bytes t) s) variables.now) x }
+    ensures { (most : ℕ) (r : Job → plans.Step) (k : Next) (x : Point)
+        → Leads most r (read_plain spelled.now global name.now variables.now k) x
+        (after result (λ t s. k (string_bytes t) s) variables.now) x }
 {
     if global {
         if name == "env" {
@@ -101,7 +105,11 @@ fn read_env<H: Host>(
     spelled: &str,
     name: &str,
 ) -> Result<String, Stop>
-    ensures { (most used : ℕ) (r : Job → plans.Step) (k : Next) → Leads most r (Reads name.now (found (no_variable spelled.now) variables.now k)) (point (H.oracle host.old) (H.told host.old) used) (after result (λ t s. k (string_bytes t) s) variables.now) (point (H.oracle host.new) (H.told host.new) used) }
+    ensures { (most used : ℕ) (r : Job → plans.Step) (k : Next)
+        → Leads most r (Reads name.now (found (no_variable spelled.now) variables.now k))
+        (point (H.oracle host.old) (H.told host.old) used)
+        (after result (λ t s. k (string_bytes t) s) variables.now)
+        (point (H.oracle host.new) (H.told host.new) used) }
 {
     match host.read_env(name)? {
         Some(value) => Ok(value),
@@ -117,7 +125,11 @@ fn read_place<H: Host>(
     spelled: &str,
     place: Place<'_>,
 ) -> Result<String, Stop>
-    ensures { (most used : ℕ) (r : Job → plans.Step) (k : Next) → Leads most r (read_place spelled.now variables.now k (place_view place.entry)) (point (H.oracle host.old) (H.told host.old) used) (after result (λ t s. k (string_bytes t) s) variables.now) (point (H.oracle host.new) (H.told host.new) used) }
+    ensures { (most used : ℕ) (r : Job → plans.Step) (k : Next)
+        → Leads most r (read_place spelled.now variables.now k (place_view place.entry))
+        (point (H.oracle host.old) (H.told host.old) used)
+        (after result (λ t s. k (string_bytes t) s) variables.now)
+        (point (H.oracle host.new) (H.told host.new) used) }
 {
     match place {
         Place::Plain(global, name) => read_plain(alloc, variables, spelled, global, name),
@@ -138,7 +150,11 @@ pub fn read<H: Host>(
     host: &mut H,
     name: &str,
 ) -> Result<String, Stop>
-    ensures { (most used : ℕ) (r : Job → plans.Step) (k : Next) → Leads most r (read name.now variables.now k) (point (H.oracle host.old) (H.told host.old) used) (after result (λ t s. k (string_bytes t) s) variables.now) (point (H.oracle host.new) (H.told host.new) used) }
+    ensures { (most used : ℕ) (r : Job → plans.Step) (k : Next)
+        → Leads most r (read name.now variables.now k)
+        (point (H.oracle host.old) (H.told host.old) used)
+        (after result (λ t s. k (string_bytes t) s) variables.now)
+        (point (H.oracle host.new) (H.told host.new) used) }
 {
     let place = place_named(variables, alloc, name)?;
     read_place(alloc, variables, host, name, place)
@@ -159,7 +175,11 @@ pub fn read_element<H: Host>(
     name: &str,
     index: &str,
 ) -> Result<String, Stop>
-    ensures { (most used : ℕ) (r : Job → plans.Step) (k : Next) → Leads most r (read_element name.now index.now variables.now k) (point (H.oracle host.old) (H.told host.old) used) (after result (λ t s. k (string_bytes t) s) variables.now) (point (H.oracle host.new) (H.told host.new) used) }
+    ensures { (most used : ℕ) (r : Job → plans.Step) (k : Next)
+        → Leads most r (read_element name.now index.now variables.now k)
+        (point (H.oracle host.old) (H.told host.old) used)
+        (after result (λ t s. k (string_bytes t) s) variables.now)
+        (point (H.oracle host.new) (H.told host.new) used) }
 {
     let place = place_of(variables, alloc, name, Some(index))?;
     let spelled = spelled(alloc, name, index)?;

@@ -1,4 +1,5 @@
-//! Words and expressions, step by step: what waits for a value stands on a stack, so that no nesting takes a frame of the machine.
+//! Words and expressions, step by step: what waits for a value stands on a stack, so that no nesting takes a frame of
+//! the machine.
 ghost use Rattle.std.specs.Prelude.{◌≡◌, ◌++◌, ◌+◌, ℕ, [], ◌∷◌, reverse, string_bytes, OnOk, OnErr, IfOk, IfErr, encode_utf8};
 ghost use Rattle.tclchars.specs.BracedText.{braced_text};
 ghost use Rattle.tclscript.specs.View.{part_view, parts_view};
@@ -99,7 +100,14 @@ fn join<'a, H: Host>(
     piece: &str,
     rest: &'a [Part<ByteRange>],
 ) -> Result<Step<'a>, Stop>
-    ensures { StepsTo (λ b k. sized b.bytes (string_bytes text ++ piece.now) (parts b (parts_view (shown context.entry.source.now) rest.now) (string_bytes text ++ piece.now) context.entry.variables.now (behind_all context.entry.source.now b (reverse stack.old.items) k))) context.entry (λ used. point (H.oracle host.old) (H.told host.old) used) result (reverse stack.new.items) (2 + parts_weight (parts_view (shown context.entry.source.now) rest.now) + frames_weight context.entry.source.now (reverse stack.old.items)) (λ used. point (H.oracle host.new) (H.told host.new) used) }
+    ensures { StepsTo
+        (λ b k. sized b.bytes (string_bytes text ++ piece.now)
+        (parts b (parts_view (shown context.entry.source.now) rest.now) (string_bytes text ++ piece.now)
+        context.entry.variables.now (behind_all context.entry.source.now b (reverse stack.old.items) k)))
+        context.entry (λ used. point (H.oracle host.old) (H.told host.old) used) result (reverse stack.new.items)
+        (2 + parts_weight (parts_view (shown context.entry.source.now) rest.now)
+        + frames_weight context.entry.source.now (reverse stack.old.items))
+        (λ used. point (H.oracle host.new) (H.told host.new) used) }
 {
     let text = with_piece(text, piece)?;
     if text.len() > context.limits.value_bytes {
@@ -118,7 +126,17 @@ fn part<'a, H: Host>(
     part: &'a Part<ByteRange>,
     rest: &'a [Part<ByteRange>],
 ) -> Result<Step<'a>, Stop>
-    ensures { StepsTo (λ b k. one b (part_view (shown context.entry.source.now) part.now) context.entry.variables.now (λ u s'. sized b.bytes (string_bytes text ++ u) (parts b (parts_view (shown context.entry.source.now) rest.now) (string_bytes text ++ u) s' (behind_all context.entry.source.now b (reverse stack.old.items) k)))) context.entry (λ used. point (H.oracle host.old) (H.told host.old) used) result (reverse stack.new.items) (1 + (part_weight (part_view (shown context.entry.source.now) part.now) + parts_weight (parts_view (shown context.entry.source.now) rest.now)) + frames_weight context.entry.source.now (reverse stack.old.items)) (λ used. point (H.oracle host.new) (H.told host.new) used) }
+    ensures { StepsTo
+        (λ b k. one b (part_view (shown context.entry.source.now) part.now) context.entry.variables.now
+        (λ u s'. sized b.bytes (string_bytes text ++ u)
+        (parts b (parts_view (shown context.entry.source.now) rest.now) (string_bytes text ++ u) s'
+        (behind_all context.entry.source.now b (reverse stack.old.items) k))))
+        context.entry (λ used. point (H.oracle host.old) (H.told host.old) used) result (reverse stack.new.items)
+        (1
+        + (part_weight (part_view (shown context.entry.source.now) part.now)
+        + parts_weight (parts_view (shown context.entry.source.now) rest.now))
+        + frames_weight context.entry.source.now (reverse stack.old.items))
+        (λ used. point (H.oracle host.new) (H.told host.new) used) }
 {
     match part {
         Part::Literal(range) => join(
@@ -166,7 +184,13 @@ fn operand<'a, H: Host>(
     stack: &mut Vec<Frame<'a>>,
     operand: &'a Operand<ByteRange>,
 ) -> Result<Step<'a>, Stop>
-    ensures { StepsTo (λ b k. operand_value b (operand_view (shown context.entry.source.now) operand.now) context.entry.variables.now (behind_all context.entry.source.now b (reverse stack.old.items) k)) context.entry (λ used. point (H.oracle host.old) (H.told host.old) used) result (reverse stack.new.items) (operand_weight (operand_view (shown context.entry.source.now) operand.now) + frames_weight context.entry.source.now (reverse stack.old.items)) (λ used. point (H.oracle host.new) (H.told host.new) used) }
+    ensures { StepsTo
+        (λ b k. operand_value b (operand_view (shown context.entry.source.now) operand.now) context.entry.variables.now
+        (behind_all context.entry.source.now b (reverse stack.old.items) k))
+        context.entry (λ used. point (H.oracle host.old) (H.told host.old) used) result (reverse stack.new.items)
+        (operand_weight (operand_view (shown context.entry.source.now) operand.now)
+        + frames_weight context.entry.source.now (reverse stack.old.items))
+        (λ used. point (H.oracle host.new) (H.told host.new) used) }
 {
     match operand {
         Operand::Number(range) => {
@@ -206,7 +230,13 @@ fn expression<'a, H: Host>(
     stack: &mut Vec<Frame<'a>>,
     expression: &'a Expr<ByteRange>,
 ) -> Result<Step<'a>, Stop>
-    ensures { StepsTo (λ b k. expr b (expr_view (shown context.entry.source.now) expression.now) context.entry.variables.now (behind_all context.entry.source.now b (reverse stack.old.items) k)) context.entry (λ used. point (H.oracle host.old) (H.told host.old) used) result (reverse stack.new.items) (expr_weight (expr_view (shown context.entry.source.now) expression.now) + frames_weight context.entry.source.now (reverse stack.old.items)) (λ used. point (H.oracle host.new) (H.told host.new) used) }
+    ensures { StepsTo
+        (λ b k. expr b (expr_view (shown context.entry.source.now) expression.now) context.entry.variables.now
+        (behind_all context.entry.source.now b (reverse stack.old.items) k))
+        context.entry (λ used. point (H.oracle host.old) (H.told host.old) used) result (reverse stack.new.items)
+        (expr_weight (expr_view (shown context.entry.source.now) expression.now)
+        + frames_weight context.entry.source.now (reverse stack.old.items))
+        (λ used. point (H.oracle host.new) (H.told host.new) used) }
 {
     match expression {
         Expr::Operand(value) => {
@@ -249,7 +279,14 @@ fn and<'a, H: Host>(
     value: String,
     right: &'a Expr<ByteRange>,
 ) -> Result<Step<'a>, Stop>
-    ensures { StepsTo (λ b k. behind context.entry.source.now b (And right.entry) (behind_all context.entry.source.now b (reverse stack.old.items) k) (string_bytes value) context.entry.variables.now) context.entry (λ used. point (H.oracle host.old) (H.told host.old) used) result (reverse stack.new.items) (3 + expr_weight (expr_view (shown context.entry.source.now) right.now) + frames_weight context.entry.source.now (reverse stack.old.items)) (λ used. point (H.oracle host.new) (H.told host.new) used) }
+    ensures { StepsTo
+        (λ b k. behind context.entry.source.now b (And right.entry)
+        (behind_all context.entry.source.now b (reverse stack.old.items) k) (string_bytes value)
+        context.entry.variables.now)
+        context.entry (λ used. point (H.oracle host.old) (H.told host.old) used) result (reverse stack.new.items)
+        (3 + expr_weight (expr_view (shown context.entry.source.now) right.now)
+        + frames_weight context.entry.source.now (reverse stack.old.items))
+        (λ used. point (H.oracle host.new) (H.told host.new) used) }
 {
     if truth(context.alloc, value.as_str())? {
         wait(stack, Frame::Truth)?;
@@ -267,7 +304,14 @@ fn or<'a, H: Host>(
     value: String,
     right: &'a Expr<ByteRange>,
 ) -> Result<Step<'a>, Stop>
-    ensures { StepsTo (λ b k. behind context.entry.source.now b (Or right.entry) (behind_all context.entry.source.now b (reverse stack.old.items) k) (string_bytes value) context.entry.variables.now) context.entry (λ used. point (H.oracle host.old) (H.told host.old) used) result (reverse stack.new.items) (3 + expr_weight (expr_view (shown context.entry.source.now) right.now) + frames_weight context.entry.source.now (reverse stack.old.items)) (λ used. point (H.oracle host.new) (H.told host.new) used) }
+    ensures { StepsTo
+        (λ b k. behind context.entry.source.now b (Or right.entry)
+        (behind_all context.entry.source.now b (reverse stack.old.items) k) (string_bytes value)
+        context.entry.variables.now)
+        context.entry (λ used. point (H.oracle host.old) (H.told host.old) used) result (reverse stack.new.items)
+        (3 + expr_weight (expr_view (shown context.entry.source.now) right.now)
+        + frames_weight context.entry.source.now (reverse stack.old.items))
+        (λ used. point (H.oracle host.new) (H.told host.new) used) }
 {
     if truth(context.alloc, value.as_str())? {
         return Ok(Step::Next(Control::Value(copy(context.alloc, "1")?)));
@@ -286,7 +330,16 @@ fn choice<'a, H: Host>(
     yes: &'a Expr<ByteRange>,
     no: &'a Expr<ByteRange>,
 ) -> Result<Step<'a>, Stop>
-    ensures { StepsTo (λ b k. behind context.entry.source.now b (Choice yes.entry no.entry) (behind_all context.entry.source.now b (reverse stack.old.items) k) (string_bytes value) context.entry.variables.now) context.entry (λ used. point (H.oracle host.old) (H.told host.old) used) result (reverse stack.new.items) (1 + (expr_weight (expr_view (shown context.entry.source.now) yes.now) + expr_weight (expr_view (shown context.entry.source.now) no.now)) + frames_weight context.entry.source.now (reverse stack.old.items)) (λ used. point (H.oracle host.new) (H.told host.new) used) }
+    ensures { StepsTo
+        (λ b k. behind context.entry.source.now b (Choice yes.entry no.entry)
+        (behind_all context.entry.source.now b (reverse stack.old.items) k) (string_bytes value)
+        context.entry.variables.now)
+        context.entry (λ used. point (H.oracle host.old) (H.told host.old) used) result (reverse stack.new.items)
+        (1
+        + (expr_weight (expr_view (shown context.entry.source.now) yes.now)
+        + expr_weight (expr_view (shown context.entry.source.now) no.now))
+        + frames_weight context.entry.source.now (reverse stack.old.items))
+        (λ used. point (H.oracle host.new) (H.told host.new) used) }
 {
     if truth(context.alloc, value.as_str())? {
         return Ok(Step::Next(Control::Expression(yes)));
@@ -303,7 +356,14 @@ fn resume<'a, H: Host>(
     frame: Frame<'a>,
     value: String,
 ) -> Result<Step<'a>, Stop>
-    ensures { StepsTo (λ b k. behind context.entry.source.now b frame.entry (behind_all context.entry.source.now b (reverse stack.old.items) k) (string_bytes value) context.entry.variables.now) context.entry (λ used. point (H.oracle host.old) (H.told host.old) used) result (reverse stack.new.items) (frame_weight context.entry.source.now frame.entry + frames_weight context.entry.source.now (reverse stack.old.items)) (λ used. point (H.oracle host.new) (H.told host.new) used) }
+    ensures { StepsTo
+        (λ b k. behind context.entry.source.now b frame.entry
+        (behind_all context.entry.source.now b (reverse stack.old.items) k) (string_bytes value)
+        context.entry.variables.now)
+        context.entry (λ used. point (H.oracle host.old) (H.told host.old) used) result (reverse stack.new.items)
+        (frame_weight context.entry.source.now frame.entry
+        + frames_weight context.entry.source.now (reverse stack.old.items))
+        (λ used. point (H.oracle host.new) (H.told host.new) used) }
 {
     match frame {
         Frame::Element(name) => {
@@ -346,7 +406,13 @@ fn step<'a, H: Host>(
     stack: &mut Vec<Frame<'a>>,
     control: Control<'a>,
 ) -> Result<Step<'a>, Stop>
-    ensures { StepsTo (λ b k. control_plan context.entry.source.now b control.entry context.entry.variables.now (behind_all context.entry.source.now b (reverse stack.old.items) k)) context.entry (λ used. point (H.oracle host.old) (H.told host.old) used) result (reverse stack.new.items) (control_weight context.entry.source.now control.entry + frames_weight context.entry.source.now (reverse stack.old.items)) (λ used. point (H.oracle host.new) (H.told host.new) used) }
+    ensures { StepsTo
+        (λ b k. control_plan context.entry.source.now b control.entry context.entry.variables.now
+        (behind_all context.entry.source.now b (reverse stack.old.items) k))
+        context.entry (λ used. point (H.oracle host.old) (H.told host.old) used) result (reverse stack.new.items)
+        (control_weight context.entry.source.now control.entry
+        + frames_weight context.entry.source.now (reverse stack.old.items))
+        (λ used. point (H.oracle host.new) (H.told host.new) used) }
 {
     match control {
         Control::Parts(text, parts) => match parts.split_first() {
@@ -369,7 +435,13 @@ pub fn advance<'a, H: Host>(
     stack: &mut Vec<Frame<'a>>,
     control: Control<'a>,
 ) -> Result<Step<'a>, Stop>
-    ensures { StepsTo (λ b k. control_plan context.entry.source.now b control.entry context.entry.variables.now (behind_all context.entry.source.now b (reverse stack.old.items) k)) context.entry (λ used. point (H.oracle host.old) (H.told host.old) used) result (reverse stack.new.items) (control_weight context.entry.source.now control.entry + frames_weight context.entry.source.now (reverse stack.old.items)) (λ used. point (H.oracle host.new) (H.told host.new) used) }
+    ensures { StepsTo
+        (λ b k. control_plan context.entry.source.now b control.entry context.entry.variables.now
+        (behind_all context.entry.source.now b (reverse stack.old.items) k))
+        context.entry (λ used. point (H.oracle host.old) (H.told host.old) used) result (reverse stack.new.items)
+        (control_weight context.entry.source.now control.entry
+        + frames_weight context.entry.source.now (reverse stack.old.items))
+        (λ used. point (H.oracle host.new) (H.told host.new) used) }
 {
     let mut control = control;
     loop {
