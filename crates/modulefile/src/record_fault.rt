@@ -38,7 +38,10 @@ impl RecordFault {
     {
         match self {
             RecordFault::Env(fault) => fault.message(),
-            RecordFault::BadModuleName(name) => Message::quoting("Bad module name '", name.as_str()),
+            RecordFault::BadModuleName(name) => Message::quoting(
+                "Bad module name '",
+                name.as_str(),
+            ),
         }
     }
 }
