@@ -1,6 +1,6 @@
 //! Errors that catch(n) sees.
-ghost use Rattle.std.specs.Prelude.{◌≡◌, ◌++◌, MatchResult, codes, string_bytes};
-ghost use Rattle.tcloperators.specs.Faults.{HasReason, error, left_out};
+ghost use Rattle.std.specs.Prelude.{◌≡◌, ◌++◌, Some, MatchResult, codes, string_bytes};
+ghost use Rattle.tcloperators.specs.Faults.{HasReason, reason_of, error, left_out};
 ghost use Rattle.tcloperators.specs.Messages.{not_numeric, no_boolean, no_whole_number, bad_index, wrong_words};
 ghost use Rattle.tcloperators.specs.Messages.{divide_by_zero, negative_shift, not_a_list};
 ghost use Rattle.tcloperators.specs.declared.fault.ValueFault.TheVariants.{OutOfMemory};
@@ -10,7 +10,7 @@ use std::alloc::{AllocError, Global};
 
 /// The error with this message, or want of the memory for it.
 pub fn tcl_error(message: Result<String, AllocError>) -> ValueFault
-    ensures { MatchResult message (λ m. HasReason (error (string_bytes m)) result) (λ _. result ≡ OutOfMemory) }
+    ensures { MatchResult message (λ m. reason_of result ≡ Some (error (string_bytes m))) (λ _. result ≡ OutOfMemory) }
 {
     match message {
         Ok(message) => ValueFault::TclError(message),

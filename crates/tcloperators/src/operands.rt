@@ -1,8 +1,9 @@
 //! Arithmetic of two whole numbers (expr(n), OPERATORS).
-ghost use Rattle.std.specs.Prelude.{◌≡◌, ◌^◌, ◌*ℤ◌, pos};
+ghost use Rattle.std.specs.Prelude.{◌≡◌, ◌^◌, ◌*ℤ◌, pos, IfErr};
 ghost use Rattle.tclchars.specs.Answers.{Gives};
 ghost use Rattle.tcloperators.specs.Faults.{reason_of};
 ghost use Rattle.tcloperators.specs.Numbers as numbers;
+ghost use Rattle.tcloperators.specs.declared.fault.ValueFault.TheVariants.{NumberTooLarge};
 
 use crate::fault::ValueFault;
 use crate::messages::{divide_by_zero, negative_shift};
@@ -17,7 +18,8 @@ pub(crate) struct Operands {
 
 impl Operands {
     pub(crate) fn sum(self) -> Result<i64, ValueFault>
-        ensures { Gives reason_of (λ z. z) result (numbers.sum self.left self.right) }
+        ensures number { Gives reason_of (λ z. z) result (numbers.sum self.left self.right) }
+        ensures fault { IfErr result (λ e. e ≡ NumberTooLarge) }
     {
         self.left
             .checked_add(self.right)
@@ -120,7 +122,8 @@ impl Operands {
 ///
 /// Errors: `NumberTooLarge` where it lies outside 64 bits.
 pub fn sum(left: i64, right: i64) -> Result<i64, ValueFault>
-    ensures { Gives reason_of (λ z. z) result (numbers.sum left right) }
+    ensures number { Gives reason_of (λ z. z) result (numbers.sum left right) }
+    ensures fault { IfErr result (λ e. e ≡ NumberTooLarge) }
 {
     Operands { left, right }.sum()
 }

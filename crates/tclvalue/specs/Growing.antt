@@ -1,5 +1,5 @@
 -- Texts that are made within a limit on their bytes.
-use Rattle.std.specs.Prelude.{◌≡◌, ℕ, ◌<◌, ◌++◌, length, string_bytes, String, Result, Ok, Err, IfSome}
+use Rattle.std.specs.Prelude.{◌≡◌, ℕ, ◌<◌, ◌≤◌, ◌++◌, length, string_bytes, String, Result, Ok, Err, IfSome}
 use Rattle.std.specs.declared.alloc.Global.{Global}
 use Rattle.tclchars.specs.Runs.{Text}
 use Rattle.tcloperators.specs.Faults.{Answer, ◌>>=◌, GivesText, reason_of, value_too_long}
@@ -11,9 +11,14 @@ use Rattle.tclvalue.specs.declared.bounded.Bounded.{Bounded}
 abbrev pub Exceeds : ValueFault → ℕ → Text → Type 0
 Exceeds e limit made = IfSome (reason_of e) (λ r. (r ≡ value_too_long) × (limit < length made))
 
--- a text is put behind what was made, or this passes the limit
+-- a text within its limit stays so
+abbrev pub StaysWithin : Bounded → Bounded → Type 0
+StaysWithin old new = length (string_bytes old.text) ≤ old.limit → length (string_bytes new.text) ≤ old.limit
+
+-- a text is put behind what was made, within the limit where that was, or this passes the limit
 abbrev pub Appends : Result (Unit {0}) ValueFault → Bounded → Bounded → Text → Type 0
-Appends (Ok u) old new piece = (string_bytes new.text ≡ string_bytes old.text ++ piece) × (new.limit ≡ old.limit)
+Appends (Ok u) old new piece =
+    (string_bytes new.text ≡ string_bytes old.text ++ piece) × (new.limit ≡ old.limit) × StaysWithin old new
 Appends (Err e) old new piece = Exceeds e old.limit (string_bytes old.text ++ piece)
 
 -- what a call gave is this answer, refused where it is longer than the limit, unless memory ran out

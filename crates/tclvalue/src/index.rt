@@ -1,5 +1,5 @@
 //! Indexes of lists and texts (lindex(n), string(n)).
-ghost use Rattle.std.specs.Prelude.{◌≡◌, ◌+ℤ◌, pos, min, length, Some};
+ghost use Rattle.std.specs.Prelude.{◌≡◌, ◌+ℤ◌, ℤ, pos, min, length, Some, Ok};
 ghost use Rattle.tcltext.specs.Numerals.{numeral};
 ghost use Rattle.tclchars.specs.Answers.{Gives};
 ghost use Rattle.tcloperators.specs.Faults.{reason_of};
@@ -118,7 +118,10 @@ fn number_in(alloc: Global, word: &str, number: &str) -> Result<i64, ValueFault>
 /// Errors: `NumberTooLarge`, `FractionOperand`, `TclError` for another text, `OutOfMemory` where memory for its message
 /// runs out.
 pub fn count_of(alloc: Global, word: &str) -> Result<i64, ValueFault>
-    ensures { Gives reason_of (λ n. n) result (count_of word.now) }
+    ensures value { Gives reason_of (λ n. n) result (count_of word.now) }
+
+    // Memory is wanted for a message alone.
+    ensures sure { (n : ℤ) → count_of word.now ≡ Ok n → result ≡ Ok n }
 {
     match read_number(word) {
         Numeral::Whole(number) => Ok(number),

@@ -5,7 +5,7 @@ ghost use Rattle.std.specs.Str.{chars};
 ghost use Rattle.tclchars.specs.Answers.{Gives};
 ghost use Rattle.tcloperators.specs.Faults.{reason_of, GivesText};
 ghost use Rattle.tclvalue.specs.Limits.{limited};
-ghost use Rattle.tclvalue.specs.Growing.{Appends, Exceeds};
+ghost use Rattle.tclvalue.specs.Growing.{Appends, Exceeds, StaysWithin};
 ghost use Rattle.tclvalue.specs.Searches.{first_place, last_place, fits, first_fit, pairs_of, mapped};
 ghost use Rattle.tclvalue.specs.Views.{pair_view};
 
@@ -112,6 +112,7 @@ fn push_front<'a>(
 ) -> Result<&'a [char], ValueFault>
     ensures shorter { IfOk result (λ rest. 0 < length text.entry.now → length rest.now < length text.entry.now) }
     ensures limit { OnOk result (out.new.limit ≡ out.old.limit) }
+    ensures within { OnOk result (StaysWithin out.old out.new) }
     ensures ok { IfOk result (λ rest. string_bytes out.new.text ++ mapped (map pair_view replacements.now) 0 rest.now
         ≡ string_bytes out.old.text ++ mapped (map pair_view replacements.now) 0 text.entry.now) }
     ensures refused { IfErr result (λ e. Exceeds e out.old.limit
