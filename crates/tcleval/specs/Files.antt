@@ -31,7 +31,9 @@ ReportsCut script place cut f = (s : State) → s.place ≡ place → ReportsFau
 
 -- what is answered of a file that came to an end with these variables and this count
 abbrev pub Answers : Text → State → ℕ → Result (String Global) Cut → Result Ending EvalFault → Type 0
-Answers script s used (Ok t) (Ok end) = (string_bytes end.result ≡ string_bytes t) × (end.used_commands ≡ used) × (s.globals ≡ texts_of end.globals.items)
+Answers script s used (Ok t) (Ok end) =
+    (string_bytes end.result ≡ string_bytes t) × (end.used_commands ≡ used)
+    × (s.globals ≡ texts_of end.globals.items)
 Answers script s used (Ok t) (Err f) = f ≡ fault.OutOfMemory
 Answers script s used (Err cut) (Ok end) = ⊥
 Answers script s used (Err cut) (Err f) = ReportsFault script f (cut_outcome cut s)

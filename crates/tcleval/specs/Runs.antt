@@ -1,12 +1,16 @@
 -- What is left of a plan after a script.
-use Rattle.std.specs.Prelude.{◌≡◌, ℕ, ◌≤◌, length, [], Bool, true, false, Result, Ok, Err, string_bytes, String}
+use Rattle.std.specs.Prelude.{◌≡◌, ℕ, ◌≤◌, length, [], Bool, true, false, Option, Some, None, Result, Ok, Err, string_bytes, String}
 use Rattle.std.specs.declared.alloc.Global.{Global}
+use Rattle.std.specs.declared.rc.Rc.{Rc}
 use Rattle.tclchars.specs.Runs.{Text}
 use Rattle.tclchars.specs.declared.fault.TextFault.{TextFault}
 use Rattle.tclchars.specs.declared.fault.TextFault.TheVariants as texts
 use Rattle.tcloperators.specs.declared.fault.ValueFault.{ValueFault}
 use Rattle.tcloperators.specs.declared.fault.ValueFault.TheVariants as faults
 use Rattle.tclvalue.specs.Faults.{HasReason}
+use Rattle.tclscript.specs.Text.{script_of}
+use Rattle.tclscript.specs.Owned as scripts
+use Rattle.tclscript.specs.declared.owned.OwnedScript.{OwnedScript}
 use Rattle.tclexpr.specs.Tree.{Expr}
 use Rattle.tclexpr.specs.Operands.{Operand}
 use Rattle.tcltext.specs.Numerals.{numeral}
@@ -22,6 +26,11 @@ use Rattle.tclsteps.specs.declared.stop.Stop.TheVariants as stops
 -- a script that ended with its result
 abbrev pub finish : Text → State → Step
 finish t s = ended (Normal t s)
+
+-- what was parsed of a text, if anything, is its tree as a script
+abbrev pub IsTreeOf : Text → Option (Rc OwnedScript Global) → Type 0
+IsTreeOf text None = Unit {0}
+IsTreeOf text (Some tree) = script_of text ≡ Ok (scripts.owned_view tree.value)
 
 -- what goes on with a result goes on with one within the limit
 abbrev pub sized_next : ℕ → Next → Next

@@ -1,5 +1,5 @@
 //! Scripts, commands, words and expressions, which evaluate one another.
-ghost use Rattle.std.specs.Prelude.{◌≡◌, ◌<◌, ◌∷◌, [], Bool, true, List, map, option_map, IfOk, string_bytes};
+ghost use Rattle.std.specs.Prelude.{◌≡◌, ◌<◌, ◌∷◌, [], Bool, true, false, List, map, option_map, IfOk, string_bytes};
 ghost use Rattle.tclchars.specs.Runs.{Text};
 ghost use Rattle.tclscript.specs.Tree.{commands_of, words_of};
 ghost use Rattle.tclscript.specs.View.{script_view, command_view, word_view, parts_view};
@@ -18,22 +18,23 @@ ghost use Rattle.tclforms.specs.Views.{form_view, pair_texts};
 ghost use Rattle.tclsteps.specs.Machine.{shown, bounds, control_plan};
 ghost use Rattle.tclsteps.specs.Stops.{after};
 ghost use Rattle.tclexpr.specs.Owned as expression;
-ghost use Rattle.tcleval.specs.Runs.{Comes, finish, sized_next, turned, guarded, expressed, decided};
+ghost use Rattle.tcleval.specs.Runs.{Comes, IsTreeOf, finish, sized_next, turned, guarded, expressed, decided};
 ghost use Rattle.tcleval.specs.Later.{Later};
 
 use crate::endings::{after_call, after_catch, after_next, after_turn};
 use crate::evaluator::{Evaluator, sized, within};
 use crate::literals::literal_form;
 use crate::plain::{plain, unknown};
-use crate::trees::{express_tree, normal};
+use crate::trees::{express_tree, normal, tree_again};
 use crate::turns::begin_turn;
 use crate::words::{literal, push_words};
+use std::rc::Rc;
 use tclarguments::{Loops, allotted, chosen};
 use tclcommands::assign;
 use tclexpr::OwnedExpr;
 use tclforms::{Form, core_form};
 use tclrules::{Host, Limits};
-use tclscript::{ByteRange, Command, Part, Script, Word};
+use tclscript::{ByteRange, Command, OwnedScript, Part, Script, Word};
 use tclsteps::{Context, Control, Halt, Step, Stop, advance};
 use tclvalue::{concatenated, truth, value_command};
 use tclvariables::Procedure;
@@ -68,6 +69,42 @@ impl Evaluator {
                 tree.text.as_str(),
                 &tree.script,
                 wanted,
+            ),
+            Err(fault) => Err(Stop::of_text(fault)),
+        }
+    }
+
+    /// A text evaluated as a script again and again: it is parsed when that is first done.
+    #[cycle(evaluate)]
+    #[tactic(none)]
+    fn script_again<H: Host>(
+        &mut self,
+        host: &mut H,
+        limits: Limits,
+        left: u32,
+        text: &str,
+        parsed: &mut Option<Rc<OwnedScript>>,
+    ) -> Result<String, Stop>
+        requires { IsTreeOf text.now parsed.old }
+        ensures comes { Comes false limits.value_bytes result (λ t. Leads limits.commands (rule limits.value_bytes)
+            (rule limits.value_bytes (plans.Script left text.now self.old.variables))
+            (point (H.oracle host.old) (H.told host.old) self.old.used)
+            (after result (λ _ s. finish t s) self.new.variables)
+            (point (H.oracle host.new) (H.told host.new) self.new.used)) }
+        ensures later { Later self.old self.new }
+        ensures parsed { IsTreeOf text.now parsed.new }
+    {
+        if left == 0 {
+            return Err(Stop::Halted(Halt::TooDeep));
+        }
+        match tree_again(&mut self.kept, text, parsed) {
+            Ok(tree) => self.commands(
+                host,
+                limits,
+                left - 1,
+                tree.text.as_str(),
+                &tree.script,
+                false,
             ),
             Err(fault) => Err(Stop::of_text(fault)),
         }
@@ -345,17 +382,20 @@ impl Evaluator {
         limits: Limits,
         left: u32,
         body: &str,
+        parsed: &mut Option<Rc<OwnedScript>>,
     ) -> Result<bool, Stop>
+        requires { IsTreeOf body.now parsed.old }
         ensures comes { (again : State → plans.Step) → Leads limits.commands (rule limits.value_bytes)
             (turn (bounds limits.value_bytes left) body.now self.old.variables again)
             (point (H.oracle host.old) (H.told host.old) self.old.used)
             (after result (turned again) self.new.variables)
             (point (H.oracle host.new) (H.told host.new) self.new.used) }
         ensures later { Later self.old self.new }
+        ensures parsed { IsTreeOf body.now parsed.new }
         ensures counted { IfOk result (λ more. (self.old.used < limits.commands) × (self.old.used < self.new.used)) }
     {
         self.count(limits)?;
-        after_turn(self.script(host, limits, left, body, false))
+        after_turn(self.script_again(host, limits, left, body, parsed))
     }
 
     /// A condition and, where it holds, a turn of a loop: whether the loop goes on.
@@ -368,7 +408,9 @@ impl Evaluator {
         left: u32,
         condition: &OwnedExpr,
         body: &str,
+        parsed: &mut Option<Rc<OwnedScript>>,
     ) -> Result<bool, Stop>
+        requires { IsTreeOf body.now parsed.old }
         ensures comes { (again : State → plans.Step) → Leads limits.commands (rule limits.value_bytes)
             (decided (bounds limits.value_bytes left) (expression.owned_view condition.now) self.old.variables
             (guarded (bounds limits.value_bytes left) body.now again))
@@ -376,11 +418,12 @@ impl Evaluator {
             (after result (turned again) self.new.variables)
             (point (H.oracle host.new) (H.told host.new) self.new.used) }
         ensures later { Later self.old self.new }
+        ensures parsed { IsTreeOf body.now parsed.new }
         ensures counted { IfOk result (λ more. more ≡ true
             → (self.old.used < limits.commands) × (self.old.used < self.new.used)) }
     {
         if self.holds(host, limits, left, condition)? {
-            return self.turn(host, limits, left, body);
+            return self.turn(host, limits, left, body, parsed);
         }
         Ok(false)
     }
@@ -404,8 +447,9 @@ impl Evaluator {
         ensures later { Later self.old self.new }
     {
         let tree = express_tree(self.alloc, &mut self.kept, condition)?;
+        let mut parsed = None;
         loop {
-            if !self.guarded_turn(host, limits, left, &tree, body)? {
+            if !self.guarded_turn(host, limits, left, &tree, body, &mut parsed)? {
                 return Ok(String::new(self.alloc));
             }
         }
@@ -456,11 +500,13 @@ impl Evaluator {
         ensures later { Later self.old self.new }
     {
         let tree = express_tree(self.alloc, &mut self.kept, condition)?;
+        let mut parsed = None;
+        let mut between = None;
         loop {
-            if !self.guarded_turn(host, limits, left, &tree, body)? {
+            if !self.guarded_turn(host, limits, left, &tree, body, &mut parsed)? {
                 return Ok(String::new(self.alloc));
             }
-            if !after_next(self.script(host, limits, left, next, false))? {
+            if !after_next(self.script_again(host, limits, left, next, &mut between))? {
                 return Ok(String::new(self.alloc));
             }
         }
@@ -774,12 +820,13 @@ impl Evaluator {
             (point (H.oracle host.new) (H.told host.new) self.new.used) }
         ensures later { Later self.old self.new }
     {
+        let mut parsed = None;
         loop {
             if loops.are_done() {
                 return Ok(String::new(self.alloc));
             }
             begin_turn(self.alloc, &mut self.variables, limits, loops)?;
-            if !self.turn(host, limits, left, body)? {
+            if !self.turn(host, limits, left, body, &mut parsed)? {
                 return Ok(String::new(self.alloc));
             }
         }

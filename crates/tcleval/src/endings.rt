@@ -19,7 +19,8 @@ use tclvariables::Variables;
 
 /// Whether a loop goes on after its body.
 pub(crate) fn after_turn(outcome: Result<String, Stop>) -> Result<bool, Stop>
-    ensures { (again : State → plans.Step) (s : State) → ran outcome (after_turn again) s ≡ after result (turned again) s }
+    ensures { (again : State → plans.Step) (s : State)
+        → ran outcome (after_turn again) s ≡ after result (turned again) s }
 {
     match outcome {
         Ok(_) | Err(Stop::Continued) => Ok(true),
@@ -30,7 +31,8 @@ pub(crate) fn after_turn(outcome: Result<String, Stop>) -> Result<bool, Stop>
 
 /// Whether a loop goes on after the script between its turns.
 pub(crate) fn after_next(outcome: Result<String, Stop>) -> Result<bool, Stop>
-    ensures { (again : State → plans.Step) (s : State) → ran outcome (after_next again) s ≡ after result (turned again) s }
+    ensures { (again : State → plans.Step) (s : State)
+        → ran outcome (after_next again) s ≡ after result (turned again) s }
 {
     match outcome {
         Ok(_) => Ok(true),
@@ -49,7 +51,8 @@ pub(crate) struct Caught {
 /// Catches how a script ended, unless it is halted.
 pub(crate) fn catch_outcome(alloc: Global, outcome: Result<String, Stop>) -> Result<Caught, Stop>
     ensures { (b : Bounds) (v : Option Text) (k : Next) (s : State)
-        → ran outcome (caught b v k) s ≡ after result (λ c s'. catch_into b v c.code.now (string_bytes c.value) s' k) s }
+        → ran outcome (caught b v k) s
+        ≡ after result (λ c s'. catch_into b v c.code.now (string_bytes c.value) s' k) s }
 {
     let (code, value) = match outcome {
         Ok(value) => ("0", value),
@@ -103,8 +106,9 @@ pub(crate) fn after_catch(
 
 /// What a procedure gives back: `break` and `continue` don't leave it.
 pub(crate) fn after_call(alloc: Global, outcome: Result<String, Stop>) -> Result<String, Stop>
-    ensures { (most : ℕ) (r : Job → plans.Step) (caller : Option Frame) (k : Next) (s : State) (x : Point) → Leads most r
-        (ran outcome (after_call caller k) s) x (after result (λ t s'. k (string_bytes t) s') (in_frame s caller)) x }
+    ensures { (most : ℕ) (r : Job → plans.Step) (caller : Option Frame) (k : Next) (s : State) (x : Point)
+        → Leads most r (ran outcome (after_call caller k) s) x
+        (after result (λ t s'. k (string_bytes t) s') (in_frame s caller)) x }
 {
     match outcome {
         Ok(value) => Ok(value),

@@ -186,12 +186,14 @@ fn ending(
     }
 }
 
-/// The outcome of a script (Tcl(n)), evaluated for a host from these global variables within these limits. What is parsed is kept,
-/// and what is kept isn't parsed again; the lists then begin with those that were there, after a fault too.
+/// The outcome of a script (Tcl(n)), evaluated for a host from these global variables within these limits. What is
+/// parsed is kept, and what is kept isn't parsed again; the lists then begin with those that were there, after a fault
+/// too.
 ///
-/// Errors: 11 where memory runs out, here or in the host; 12 where the script, a body or an expression can't be parsed; 13 for
-/// an error, with its message and the line of the script's own command at hand; 14, 15 and 16 where a limit is met; 17 and 18 for
-/// numbers that aren't computed; 19 for what is left out; 20 where the script stops itself; 21 where the host refuses a command.
+/// Errors: 11 where memory runs out, here or in the host; 12 where the script, a body or an expression can't be parsed;
+/// 13 for an error, with its message and the line of the script's own command at hand; 14, 15 and 16 where a limit is
+/// met; 17 and 18 for numbers that aren't computed; 19 for what is left out; 20 where the script stops itself; 21 where
+/// the host refuses a command.
 #[tactic(none)]
 pub fn evaluate_with<H: Host>(
     alloc: Global,
@@ -201,8 +203,8 @@ pub fn evaluate_with<H: Host>(
     host: &mut H,
     limits: Limits,
 ) -> Result<Ending, EvalFault>
-    ensures evaluates { Evaluates limits script.now (texts_of globals.items) (H.oracle host.old) (H.told host.old) result
-        (H.told host.new) }
+    ensures evaluates { Evaluates limits script.now (texts_of globals.items) (H.oracle host.old) (H.told host.old)
+        result (H.told host.new) }
     ensures same { H.oracle host.new ≡ H.oracle host.old }
     ensures begins { BeginWith kept.old kept.new }
 {
@@ -233,8 +235,8 @@ pub fn evaluate<H: Host>(
     host: &mut H,
     limits: Limits,
 ) -> Result<Ending, EvalFault>
-    ensures evaluates { Evaluates limits script.now (texts_of globals.items) (H.oracle host.old) (H.told host.old) result
-        (H.told host.new) }
+    ensures evaluates { Evaluates limits script.now (texts_of globals.items) (H.oracle host.old) (H.told host.old)
+        result (H.told host.new) }
     ensures same { H.oracle host.new ≡ H.oracle host.old }
 {
     let mut kept = Kept::new(alloc);

@@ -1,21 +1,26 @@
 //! The trees of texts that are evaluated, and the values of whole expressions.
-ghost use Rattle.std.specs.Prelude.{◌≡◌, IfOk, None, MatchOption, drop, option_map, string_bytes};
+ghost use Rattle.std.specs.Prelude.{◌≡◌, IfOk, None, MatchOption, MatchResult, drop, option_map, string_bytes};
 ghost use Rattle.std.specs.Fmt.{signed_decimal};
+ghost use Rattle.tclscript.specs.Text.{script_of};
+ghost use Rattle.tclscript.specs.Owned as scripts;
 ghost use Rattle.tclexpr.specs.Text.{expr_of};
 ghost use Rattle.tclexpr.specs.Owned as expressions;
 ghost use Rattle.tcltext.specs.Numerals.{numeral};
 ghost use Rattle.tclchars.specs.Answers.{Gives};
+ghost use Rattle.tclchars.specs.Whole.{Reads};
+ghost use Rattle.tclchars.specs.declared.fault.TextFault.TheVariants.{OutOfMemory};
 ghost use Rattle.tclvalue.specs.Faults.{reason_of, GivesText, HasReason, left_out};
 ghost use Rattle.tclchars.specs.Runs.{begins};
 ghost use Rattle.tclrules.specs.Expressions.{omitted_at, begins_letter, is_operator, function_named, fault_of, parsed, normal};
 ghost use Rattle.tclkept.specs.Kept.{BeginWith};
-ghost use Rattle.tcleval.specs.Runs.{IsReasonOf, value_fault};
+ghost use Rattle.tcleval.specs.Runs.{IsTreeOf, IsReasonOf, value_fault};
 
 use std::alloc::{AllocError, Global};
 use std::rc::Rc;
 use tclchars::{Class, TextFault, split_front};
 use tclexpr::OwnedExpr;
 use tclkept::Kept;
+use tclscript::OwnedScript;
 use tcltext::{Numeral, read_number};
 use tclvalue::ValueFault;
 
@@ -127,6 +132,35 @@ pub(crate) fn express_tree(
     match kept.expr_tree(text) {
         Ok(tree) => Ok(tree),
         Err(fault) => Err(expr_fault(alloc, text, fault)),
+    }
+}
+
+/// The tree of a script that is evaluated again and again, which is parsed once.
+pub(crate) fn tree_again(
+    kept: &mut Kept,
+    text: &str,
+    parsed: &mut Option<Rc<OwnedScript>>,
+) -> Result<Rc<OwnedScript>, TextFault>
+    requires { IsTreeOf text.now parsed.old }
+    ensures tree { Reads (λ tree. scripts.owned_view tree.value) result (script_of text.now) }
+    ensures parsed { IsTreeOf text.now parsed.new }
+    ensures begins { BeginWith kept.old kept.new }
+{
+    if let Some(tree) = parsed {
+        return shared(tree);
+    }
+    let tree = kept.script_tree(text)?;
+    *parsed = Some(shared(&tree)?);
+    Ok(tree)
+}
+
+/// One owner more of a tree.
+fn shared(tree: &Rc<OwnedScript>) -> Result<Rc<OwnedScript>, TextFault>
+    ensures { MatchResult result (λ copy. copy.value ≡ tree.now.value) (λ fault. fault ≡ OutOfMemory) }
+{
+    match tree.clone() {
+        Ok(copy) => Ok(copy),
+        Err(_) => Err(TextFault::OutOfMemory),
     }
 }
 

@@ -342,72 +342,74 @@ pub for_loop-script-requires : goal.for_loop-script-requires
 for_loop-script-requires g t c κs within = search rules
 
 pub for_turns-guarded_turn-requires : goal.for_turns-guarded_turn-requires
-for_turns-guarded_turn-requires g t c κs within = search rules
+for_turns-guarded_turn-requires g t c κs within = (search rules, (search rules, c.loop-between.invariant.parsed))
 
-pub for_turns-loop-tree-init : goal.for_turns-loop-tree-init
-for_turns-loop-tree-init g t c = record { comes = λ k. stay; later = later_begun refl c.in_ok-tree.ensures.begins }
+pub for_turns-loop-between-init : goal.for_turns-loop-between-init
+for_turns-loop-between-init g t c = record { comes = λ k. stay; parsed = tt; between = tt; later = later_begun refl c.in_ok-tree.ensures.begins }
 
-pub for_turns-loop-tree-preserved : goal.for_turns-loop-tree-preserved
-for_turns-loop-tree-preserved g t c = record {
+pub for_turns-loop-between-preserved : goal.for_turns-loop-between-preserved
+for_turns-loop-between-preserved g t c = record {
   comes = λ k.
       let again = λ (s3 : State). Runs (plans.For c.args.left c.args.condition.now c.args.next.now c.args.body.now s3) plans.ended in
       let between = λ (s2 : State). table.body (bounds c.args.limits.value_bytes c.args.left) c.args.next.now s2 (table.after_next again) in
-      let h = rw c.if-not-branch.false at (go_on (given_on _ _ c.loop-tree.self.variables (λ e. decided (bounds c.args.limits.value_bytes c.args.left) e c.loop-tree.self.variables (guarded (bounds c.args.limits.value_bytes c.args.left) c.args.body.now between)) c.in_ok-tree.ensures.tree) (rw c.deref.ensures at (c.in_ok-guarded_turn.ensures.comes between))) in
-      let n = go_on h (run_next again _ _ _ c.script.ensures.comes) in
-      let e = rw c.if-not-branch-2.false at (c.in_ok-after_next.ensures again c.script.new.self.variables) in
-      go_on (c.loop-tree.invariant.comes k) (run_tail (same_as e n));
-  later = later_on (later_on c.loop-tree.invariant.later c.in_ok-guarded_turn.ensures.later) c.script.ensures.later;
+      let h = rw c.if-not-branch.false at (go_on (given_on _ _ c.loop-between.self.variables (λ e. decided (bounds c.args.limits.value_bytes c.args.left) e c.loop-between.self.variables (guarded (bounds c.args.limits.value_bytes c.args.left) c.args.body.now between)) c.in_ok-tree.ensures.tree) (rw c.deref.ensures at (c.in_ok-guarded_turn.ensures.comes between))) in
+      let n = go_on h (run_next again _ _ _ c.script_again.ensures.comes) in
+      let e = rw c.if-not-branch-2.false at (c.in_ok-after_next.ensures again c.script_again.new.self.variables) in
+      go_on (c.loop-between.invariant.comes k) (run_tail (same_as e n));
+  parsed = c.in_ok-guarded_turn.ensures.parsed;
+  between = c.script_again.ensures.parsed;
+  later = later_on (later_on c.loop-between.invariant.later c.in_ok-guarded_turn.ensures.later) c.script_again.ensures.later;
 }
 
-pub for_turns-loop-tree-smaller : goal.for_turns-loop-tree-smaller
-for_turns-loop-tree-smaller g t c =
+pub for_turns-loop-between-smaller : goal.for_turns-loop-between-smaller
+for_turns-loop-between-smaller g t c =
     let h = c.in_ok-guarded_turn.ensures.counted c.if-not-branch.false in
-    omega (arith, h.0, h.1, c.script.ensures.later.rises)
+    omega (arith, h.0, h.1, c.script_again.ensures.later.rises)
 
 pub for_turns-returns-in_err-after_next-clause-comes : goal.for_turns-returns-in_err-after_next-clause-comes
 for_turns-returns-in_err-after_next-clause-comes g t c = λ k.
     let again = λ (s3 : State). Runs (plans.For c.args.left c.args.condition.now c.args.next.now c.args.body.now s3) plans.ended in
     let between = λ (s2 : State). table.body (bounds c.args.limits.value_bytes c.args.left) c.args.next.now s2 (table.after_next again) in
-    let h = rw c.if-not-branch.false at (go_on (given_on _ _ c.loop-tree.self.variables (λ e. decided (bounds c.args.limits.value_bytes c.args.left) e c.loop-tree.self.variables (guarded (bounds c.args.limits.value_bytes c.args.left) c.args.body.now between)) c.in_ok-tree.ensures.tree) (rw c.deref.ensures at (c.in_ok-guarded_turn.ensures.comes between))) in
-    let n = go_on h (run_next again _ _ _ c.script.ensures.comes) in
-    passed_on _ _ _ _ c.from_residual-in_err-after_next.ensures.1 (go_on (c.loop-tree.invariant.comes k) (run_stops _ _ (same_as (c.in_err-after_next.ensures again _) n)))
+    let h = rw c.if-not-branch.false at (go_on (given_on _ _ c.loop-between.self.variables (λ e. decided (bounds c.args.limits.value_bytes c.args.left) e c.loop-between.self.variables (guarded (bounds c.args.limits.value_bytes c.args.left) c.args.body.now between)) c.in_ok-tree.ensures.tree) (rw c.deref.ensures at (c.in_ok-guarded_turn.ensures.comes between))) in
+    let n = go_on h (run_next again _ _ _ c.script_again.ensures.comes) in
+    passed_on _ _ _ _ c.from_residual-in_err-after_next.ensures.1 (go_on (c.loop-between.invariant.comes k) (run_stops _ _ (same_as (c.in_err-after_next.ensures again _) n)))
 
 pub for_turns-returns-in_err-after_next-clause-later : goal.for_turns-returns-in_err-after_next-clause-later
-for_turns-returns-in_err-after_next-clause-later g t c = later_on (later_on c.loop-tree.invariant.later c.in_ok-guarded_turn.ensures.later) c.script.ensures.later
+for_turns-returns-in_err-after_next-clause-later g t c = later_on (later_on c.loop-between.invariant.later c.in_ok-guarded_turn.ensures.later) c.script_again.ensures.later
 
 pub for_turns-returns-in_err-guarded_turn-clause-comes : goal.for_turns-returns-in_err-guarded_turn-clause-comes
 for_turns-returns-in_err-guarded_turn-clause-comes g t c = λ k.
     let again = λ (s3 : State). Runs (plans.For c.args.left c.args.condition.now c.args.next.now c.args.body.now s3) plans.ended in
     let between = λ (s2 : State). table.body (bounds c.args.limits.value_bytes c.args.left) c.args.next.now s2 (table.after_next again) in
-    passed_on _ _ _ _ c.from_residual-in_err-guarded_turn.ensures.1 (go_on (c.loop-tree.invariant.comes k) (run_stops _ _ (go_on (given_on _ _ c.loop-tree.self.variables (λ e. decided (bounds c.args.limits.value_bytes c.args.left) e c.loop-tree.self.variables (guarded (bounds c.args.limits.value_bytes c.args.left) c.args.body.now between)) c.in_ok-tree.ensures.tree) (rw c.deref.ensures at (c.in_err-guarded_turn.ensures.comes between)))))
+    passed_on _ _ _ _ c.from_residual-in_err-guarded_turn.ensures.1 (go_on (c.loop-between.invariant.comes k) (run_stops _ _ (go_on (given_on _ _ c.loop-between.self.variables (λ e. decided (bounds c.args.limits.value_bytes c.args.left) e c.loop-between.self.variables (guarded (bounds c.args.limits.value_bytes c.args.left) c.args.body.now between)) c.in_ok-tree.ensures.tree) (rw c.deref.ensures at (c.in_err-guarded_turn.ensures.comes between)))))
 
 pub for_turns-returns-in_err-guarded_turn-clause-later : goal.for_turns-returns-in_err-guarded_turn-clause-later
-for_turns-returns-in_err-guarded_turn-clause-later g t c = later_on c.loop-tree.invariant.later c.in_err-guarded_turn.ensures.later
+for_turns-returns-in_err-guarded_turn-clause-later g t c = later_on c.loop-between.invariant.later c.in_err-guarded_turn.ensures.later
 
 pub for_turns-returns-then-not-branch-2-clause-comes : goal.for_turns-returns-then-not-branch-2-clause-comes
 for_turns-returns-then-not-branch-2-clause-comes g t c = λ k.
     let again = λ (s3 : State). Runs (plans.For c.args.left c.args.condition.now c.args.next.now c.args.body.now s3) plans.ended in
     let between = λ (s2 : State). table.body (bounds c.args.limits.value_bytes c.args.left) c.args.next.now s2 (table.after_next again) in
-    let h = rw c.if-not-branch.false at (go_on (given_on _ _ c.loop-tree.self.variables (λ e. decided (bounds c.args.limits.value_bytes c.args.left) e c.loop-tree.self.variables (guarded (bounds c.args.limits.value_bytes c.args.left) c.args.body.now between)) c.in_ok-tree.ensures.tree) (rw c.deref.ensures at (c.in_ok-guarded_turn.ensures.comes between))) in
-    let n = go_on h (run_next again _ _ _ c.script.ensures.comes) in
-    let e = rw c.if-not-branch-2.true at (c.in_ok-after_next.ensures again c.script.new.self.variables) in
-    rw c.new-then-not-branch-2.ensures.bytes (go_on (c.loop-tree.invariant.comes k) (run_on (same_as e n)))
+    let h = rw c.if-not-branch.false at (go_on (given_on _ _ c.loop-between.self.variables (λ e. decided (bounds c.args.limits.value_bytes c.args.left) e c.loop-between.self.variables (guarded (bounds c.args.limits.value_bytes c.args.left) c.args.body.now between)) c.in_ok-tree.ensures.tree) (rw c.deref.ensures at (c.in_ok-guarded_turn.ensures.comes between))) in
+    let n = go_on h (run_next again _ _ _ c.script_again.ensures.comes) in
+    let e = rw c.if-not-branch-2.true at (c.in_ok-after_next.ensures again c.script_again.new.self.variables) in
+    rw c.new-then-not-branch-2.ensures.bytes (go_on (c.loop-between.invariant.comes k) (run_on (same_as e n)))
 
 pub for_turns-returns-then-not-branch-2-clause-later : goal.for_turns-returns-then-not-branch-2-clause-later
-for_turns-returns-then-not-branch-2-clause-later g t c = later_on (later_on c.loop-tree.invariant.later c.in_ok-guarded_turn.ensures.later) c.script.ensures.later
+for_turns-returns-then-not-branch-2-clause-later g t c = later_on (later_on c.loop-between.invariant.later c.in_ok-guarded_turn.ensures.later) c.script_again.ensures.later
 
 pub for_turns-returns-then-not-branch-clause-comes : goal.for_turns-returns-then-not-branch-clause-comes
 for_turns-returns-then-not-branch-clause-comes g t c = λ k.
     let again = λ (s3 : State). Runs (plans.For c.args.left c.args.condition.now c.args.next.now c.args.body.now s3) plans.ended in
     let between = λ (s2 : State). table.body (bounds c.args.limits.value_bytes c.args.left) c.args.next.now s2 (table.after_next again) in
-    let h = rw c.if-not-branch.true at (go_on (given_on _ _ c.loop-tree.self.variables (λ e. decided (bounds c.args.limits.value_bytes c.args.left) e c.loop-tree.self.variables (guarded (bounds c.args.limits.value_bytes c.args.left) c.args.body.now between)) c.in_ok-tree.ensures.tree) (rw c.deref.ensures at (c.in_ok-guarded_turn.ensures.comes between))) in
-    rw c.new.ensures.bytes (go_on (c.loop-tree.invariant.comes k) (run_on h))
+    let h = rw c.if-not-branch.true at (go_on (given_on _ _ c.loop-between.self.variables (λ e. decided (bounds c.args.limits.value_bytes c.args.left) e c.loop-between.self.variables (guarded (bounds c.args.limits.value_bytes c.args.left) c.args.body.now between)) c.in_ok-tree.ensures.tree) (rw c.deref.ensures at (c.in_ok-guarded_turn.ensures.comes between))) in
+    rw c.new.ensures.bytes (go_on (c.loop-between.invariant.comes k) (run_on h))
 
 pub for_turns-returns-then-not-branch-clause-later : goal.for_turns-returns-then-not-branch-clause-later
-for_turns-returns-then-not-branch-clause-later g t c = later_on c.loop-tree.invariant.later c.in_ok-guarded_turn.ensures.later
+for_turns-returns-then-not-branch-clause-later g t c = later_on c.loop-between.invariant.later c.in_ok-guarded_turn.ensures.later
 
-pub for_turns-script-requires : goal.for_turns-script-requires
-for_turns-script-requires g t c κs within = search rules
+pub for_turns-script_again-requires : goal.for_turns-script_again-requires
+for_turns-script_again-requires g t c κs within = (search rules, (search rules, c.loop-between.invariant.between))
 
 pub foreach-foreach_turns-requires : goal.foreach-foreach_turns-requires
 foreach-foreach_turns-requires g t c κs within = search rules
@@ -425,7 +427,7 @@ pub foreach-returns-in_err-loops-clause-later : goal.foreach-returns-in_err-loop
 foreach-returns-in_err-loops-clause-later g t c = later_refl
 
 pub foreach_turns-loop-limits-init : goal.foreach_turns-loop-limits-init
-foreach_turns-loop-limits-init g t c = record { comes = λ k. stay; later = later_refl }
+foreach_turns-loop-limits-init g t c = record { comes = λ k. stay; parsed = tt; later = later_refl }
 
 pub foreach_turns-loop-limits-preserved : goal.foreach_turns-loop-limits-preserved
 foreach_turns-loop-limits-preserved g t c = record {
@@ -438,6 +440,7 @@ foreach_turns-loop-limits-preserved g t c = record {
       let a = go_on (foreach_more b c.loop-limits.loops c.args.body.now c.loop-limits.self.variables e) (c.in_ok-begin_turn.ensures.comes c.args.limits.commands c.args.left (rule c.args.limits.value_bytes) next here) in
       let h = rw c.if-not-branch.false at (c.in_ok-turn.ensures.comes again) in
       rw c.in_ok-begin_turn.ensures.rest (go_on (c.loop-limits.invariant.comes k) (run_tail (go_on a h)));
+  parsed = c.in_ok-turn.ensures.parsed;
   later = later_on c.loop-limits.invariant.later (later_beside refl refl refl refl c.in_ok-turn.ensures.later);
 }
 
@@ -496,7 +499,7 @@ pub foreach_turns-returns-then-not-branch-clause-later : goal.foreach_turns-retu
 foreach_turns-returns-then-not-branch-clause-later g t c = later_on c.loop-limits.invariant.later (later_beside refl refl refl refl c.in_ok-turn.ensures.later)
 
 pub foreach_turns-turn-requires : goal.foreach_turns-turn-requires
-foreach_turns-turn-requires g t c κs within = search rules
+foreach_turns-turn-requires g t c κs within = (search rules, (search rules, c.loop-limits.invariant.parsed))
 
 pub form-branches-requires : goal.form-branches-requires
 form-branches-requires g t c κs within = search rules
@@ -617,6 +620,15 @@ guarded_turn-returns-clause-counted g t c = λ e. absurd (false≢true e)
 pub guarded_turn-returns-clause-later : goal.guarded_turn-returns-clause-later
 guarded_turn-returns-clause-later g t c = c.in_ok-holds.ensures.later
 
+pub guarded_turn-returns-clause-parsed : goal.guarded_turn-returns-clause-parsed
+guarded_turn-returns-clause-parsed g t c = c.requires.1.1.1
+
+pub guarded_turn-returns-in_err-holds-clause-parsed : goal.guarded_turn-returns-in_err-holds-clause-parsed
+guarded_turn-returns-in_err-holds-clause-parsed g t c = c.requires.1.1.1
+
+pub guarded_turn-returns-then-branch-clause-parsed : goal.guarded_turn-returns-then-branch-clause-parsed
+guarded_turn-returns-then-branch-clause-parsed g t c = c.turn.ensures.parsed
+
 pub guarded_turn-returns-in_err-holds-clause-comes : goal.guarded_turn-returns-in_err-holds-clause-comes
 guarded_turn-returns-in_err-holds-clause-comes g t c = λ again. passed_on _ _ _ _ c.from_residual.ensures.1 (c.in_err-holds.ensures.comes _)
 
@@ -641,7 +653,7 @@ pub guarded_turn-returns-then-branch-clause-later : goal.guarded_turn-returns-th
 guarded_turn-returns-then-branch-clause-later g t c = later_on c.in_ok-holds.ensures.later c.turn.ensures.later
 
 pub guarded_turn-turn-requires : goal.guarded_turn-turn-requires
-guarded_turn-turn-requires g t c κs within = search rules
+guarded_turn-turn-requires g t c κs within = (search rules, (search rules, c.requires.1.1.1))
 
 pub other_command-call-requires : goal.other_command-call-requires
 other_command-call-requires g t c κs within = search rules
@@ -729,20 +741,70 @@ script-returns-then-left-eq0-clause-later g t c = later_refl
 pub script-script_tree-requires-text-text : goal.script-script_tree-requires-text-text
 script-script_tree-requires-text-text g t c κs = search rules
 
+pub script_again-commands-requires : goal.script_again-commands-requires
+script_again-commands-requires g t c κs within = search rules
+
+pub script_again-overflow_sub-left : goal.script_again-overflow_sub-left
+script_again-overflow_sub-left g t c = omega arith
+
+pub script_again-returns-in-Err-clause-comes : goal.script_again-returns-in-Err-clause-comes
+script_again-returns-in-Err-clause-comes g t c = ([], tt, rw c.of_text.ensures (go_on (begin_on _ _ c.if-left-eq0.false) (text_stops _ _ _ _ c.in-Err.ensures.tree)))
+
+pub script_again-returns-in-Err-clause-parsed : goal.script_again-returns-in-Err-clause-parsed
+script_again-returns-in-Err-clause-parsed g t c = c.tree_again.ensures.parsed
+
+pub script_again-returns-in-Ok-clause-parsed : goal.script_again-returns-in-Ok-clause-parsed
+script_again-returns-in-Ok-clause-parsed g t c = c.tree_again.ensures.parsed
+
+pub script_again-returns-then-left-eq0-clause-parsed : goal.script_again-returns-then-left-eq0-clause-parsed
+script_again-returns-then-left-eq0-clause-parsed g t c = c.requires.1.1.1
+
+pub script_again-returns-in-Err-clause-later : goal.script_again-returns-in-Err-clause-later
+script_again-returns-in-Err-clause-later g t c = later_begun refl c.tree_again.ensures.begins
+
+pub script_again-returns-in-Ok-clause-comes : goal.script_again-returns-in-Ok-clause-comes
+script_again-returns-in-Ok-clause-comes g t c =
+    let h = rw (c.as_str.ensures.value, c.deref.ensures, c.deref-in-Ok.ensures) at c.commands.ensures.comes in
+    (h.0, h.1, rw c.in-Ok.ensures.tree (go_on (begin_on _ _ c.if-left-eq0.false) h.2))
+
+pub script_again-returns-in-Ok-clause-later : goal.script_again-returns-in-Ok-clause-later
+script_again-returns-in-Ok-clause-later g t c = later_parsed refl c.tree_again.ensures.begins c.commands.ensures.later
+
+pub script_again-returns-then-left-eq0-clause-comes : goal.script_again-returns-then-left-eq0-clause-comes
+script_again-returns-then-left-eq0-clause-comes g t c = ([], tt, begin_stops _ _ c.if-left-eq0.true)
+
+pub script_again-returns-then-left-eq0-clause-later : goal.script_again-returns-then-left-eq0-clause-later
+script_again-returns-then-left-eq0-clause-later g t c = later_refl
+
+pub script_again-tree_again-requires : goal.script_again-tree_again-requires
+script_again-tree_again-requires g t c = c.requires.1.1.1
+
+pub script_again-commands-requires-text-source : goal.script_again-commands-requires-text-source
+script_again-commands-requires-text-source g t c κs within = search rules
+
+pub script_again-tree_again-requires-text-text : goal.script_again-tree_again-requires-text-text
+script_again-tree_again-requires-text-text g t c κs = search rules
+
 pub turn-returns-clause-comes : goal.turn-returns-clause-comes
 turn-returns-clause-comes g t c = λ again.
     let h = c.in_ok-count.ensures in
-    let r = rw (h.variables, h.counted.1) at c.script.ensures.comes in
+    let r = rw (h.variables, h.counted.1) at c.script_again.ensures.comes in
     same_as (c.after_turn.ensures again _) (go_on (count_on h.counted.0) (run_turn again _ _ _ r))
 
 pub turn-returns-clause-counted : goal.turn-returns-clause-counted
 turn-returns-clause-counted g t c =
     let h = c.in_ok-count.ensures.counted in
-    let p : (c.args.self.now.used < c.args.limits.commands) × (c.args.self.now.used < c.script.new.self.used) = (h.0, omega (arith, h.1, c.script.ensures.later.rises)) in
+    let p : (c.args.self.now.used < c.args.limits.commands) × (c.args.self.now.used < c.script_again.new.self.used) = (h.0, omega (arith, h.1, c.script_again.ensures.later.rises)) in
     ok_any c.after_turn.result _ p
 
 pub turn-returns-clause-later : goal.turn-returns-clause-later
-turn-returns-clause-later g t c = later_on (later_counted c.in_ok-count.ensures.counted.1 c.in_ok-count.ensures.kept) c.script.ensures.later
+turn-returns-clause-later g t c = later_on (later_counted c.in_ok-count.ensures.counted.1 c.in_ok-count.ensures.kept) c.script_again.ensures.later
+
+pub turn-returns-clause-parsed : goal.turn-returns-clause-parsed
+turn-returns-clause-parsed g t c = c.script_again.ensures.parsed
+
+pub turn-returns-in_err-count-clause-parsed : goal.turn-returns-in_err-count-clause-parsed
+turn-returns-in_err-count-clause-parsed g t c = c.requires.1.1.1
 
 pub turn-returns-in_err-count-clause-comes : goal.turn-returns-in_err-count-clause-comes
 turn-returns-in_err-count-clause-comes g t c = λ again.
@@ -757,8 +819,8 @@ turn-returns-in_err-count-clause-counted g t c =
 pub turn-returns-in_err-count-clause-later : goal.turn-returns-in_err-count-clause-later
 turn-returns-in_err-count-clause-later g t c = later_still c.in_err-count.ensures.counted.1 c.in_err-count.ensures.kept
 
-pub turn-script-requires : goal.turn-script-requires
-turn-script-requires g t c κs within = search rules
+pub turn-script_again-requires : goal.turn-script_again-requires
+turn-script_again-requires g t c κs within = (search rules, (search rules, c.requires.1.1.1))
 
 pub value-bracket-requires : goal.value-bracket-requires
 value-bracket-requires g t c κs within = search rules
@@ -815,41 +877,42 @@ pub value-returns-in_err-value-in-Bracket-clause-later : goal.value-returns-in_e
 value-returns-in_err-value-in-Bracket-clause-later g t c = later_on c.loop-stack.invariant.later c.in_err-value-in-Bracket.ensures.later
 
 pub while_turns-guarded_turn-requires : goal.while_turns-guarded_turn-requires
-while_turns-guarded_turn-requires g t c κs within = search rules
+while_turns-guarded_turn-requires g t c κs within = (search rules, (search rules, c.loop-parsed.invariant.parsed))
 
-pub while_turns-loop-tree-init : goal.while_turns-loop-tree-init
-while_turns-loop-tree-init g t c = record { comes = λ k. stay; later = later_begun refl c.in_ok-tree.ensures.begins }
+pub while_turns-loop-parsed-init : goal.while_turns-loop-parsed-init
+while_turns-loop-parsed-init g t c = record { comes = λ k. stay; parsed = tt; later = later_begun refl c.in_ok-tree.ensures.begins }
 
-pub while_turns-loop-tree-preserved : goal.while_turns-loop-tree-preserved
-while_turns-loop-tree-preserved g t c = record {
+pub while_turns-loop-parsed-preserved : goal.while_turns-loop-parsed-preserved
+while_turns-loop-parsed-preserved g t c = record {
   comes = λ k.
       let again = λ (s2 : State). Runs (plans.While c.args.left c.args.condition.now c.args.body.now s2) plans.ended in
-      let h = rw c.if-not-branch.false at (go_on (given_on _ _ c.loop-tree.self.variables (λ e. decided (bounds c.args.limits.value_bytes c.args.left) e c.loop-tree.self.variables (guarded (bounds c.args.limits.value_bytes c.args.left) c.args.body.now again)) c.in_ok-tree.ensures.tree) (rw c.deref.ensures at (c.in_ok-guarded_turn.ensures.comes again))) in
-      go_on (c.loop-tree.invariant.comes k) (run_tail h);
-  later = later_on c.loop-tree.invariant.later c.in_ok-guarded_turn.ensures.later;
+      let h = rw c.if-not-branch.false at (go_on (given_on _ _ c.loop-parsed.self.variables (λ e. decided (bounds c.args.limits.value_bytes c.args.left) e c.loop-parsed.self.variables (guarded (bounds c.args.limits.value_bytes c.args.left) c.args.body.now again)) c.in_ok-tree.ensures.tree) (rw c.deref.ensures at (c.in_ok-guarded_turn.ensures.comes again))) in
+      go_on (c.loop-parsed.invariant.comes k) (run_tail h);
+  parsed = c.in_ok-guarded_turn.ensures.parsed;
+  later = later_on c.loop-parsed.invariant.later c.in_ok-guarded_turn.ensures.later;
 }
 
-pub while_turns-loop-tree-smaller : goal.while_turns-loop-tree-smaller
-while_turns-loop-tree-smaller g t c =
+pub while_turns-loop-parsed-smaller : goal.while_turns-loop-parsed-smaller
+while_turns-loop-parsed-smaller g t c =
     let h = c.in_ok-guarded_turn.ensures.counted c.if-not-branch.false in
     omega (arith, h.0, h.1)
 
 pub while_turns-returns-in_err-guarded_turn-clause-comes : goal.while_turns-returns-in_err-guarded_turn-clause-comes
 while_turns-returns-in_err-guarded_turn-clause-comes g t c = λ k.
     let again = λ (s2 : State). Runs (plans.While c.args.left c.args.condition.now c.args.body.now s2) plans.ended in
-    passed_on _ _ _ _ c.from_residual-in_err-guarded_turn.ensures.1 (go_on (c.loop-tree.invariant.comes k) (run_stops _ _ (go_on (given_on _ _ c.loop-tree.self.variables (λ e. decided (bounds c.args.limits.value_bytes c.args.left) e c.loop-tree.self.variables (guarded (bounds c.args.limits.value_bytes c.args.left) c.args.body.now again)) c.in_ok-tree.ensures.tree) (rw c.deref.ensures at (c.in_err-guarded_turn.ensures.comes again)))))
+    passed_on _ _ _ _ c.from_residual-in_err-guarded_turn.ensures.1 (go_on (c.loop-parsed.invariant.comes k) (run_stops _ _ (go_on (given_on _ _ c.loop-parsed.self.variables (λ e. decided (bounds c.args.limits.value_bytes c.args.left) e c.loop-parsed.self.variables (guarded (bounds c.args.limits.value_bytes c.args.left) c.args.body.now again)) c.in_ok-tree.ensures.tree) (rw c.deref.ensures at (c.in_err-guarded_turn.ensures.comes again)))))
 
 pub while_turns-returns-in_err-guarded_turn-clause-later : goal.while_turns-returns-in_err-guarded_turn-clause-later
-while_turns-returns-in_err-guarded_turn-clause-later g t c = later_on c.loop-tree.invariant.later c.in_err-guarded_turn.ensures.later
+while_turns-returns-in_err-guarded_turn-clause-later g t c = later_on c.loop-parsed.invariant.later c.in_err-guarded_turn.ensures.later
 
 pub while_turns-returns-then-not-branch-clause-comes : goal.while_turns-returns-then-not-branch-clause-comes
 while_turns-returns-then-not-branch-clause-comes g t c = λ k.
     let again = λ (s2 : State). Runs (plans.While c.args.left c.args.condition.now c.args.body.now s2) plans.ended in
-    let h = rw c.if-not-branch.true at (go_on (given_on _ _ c.loop-tree.self.variables (λ e. decided (bounds c.args.limits.value_bytes c.args.left) e c.loop-tree.self.variables (guarded (bounds c.args.limits.value_bytes c.args.left) c.args.body.now again)) c.in_ok-tree.ensures.tree) (rw c.deref.ensures at (c.in_ok-guarded_turn.ensures.comes again))) in
-    rw c.new.ensures.bytes (go_on (c.loop-tree.invariant.comes k) (run_on h))
+    let h = rw c.if-not-branch.true at (go_on (given_on _ _ c.loop-parsed.self.variables (λ e. decided (bounds c.args.limits.value_bytes c.args.left) e c.loop-parsed.self.variables (guarded (bounds c.args.limits.value_bytes c.args.left) c.args.body.now again)) c.in_ok-tree.ensures.tree) (rw c.deref.ensures at (c.in_ok-guarded_turn.ensures.comes again))) in
+    rw c.new.ensures.bytes (go_on (c.loop-parsed.invariant.comes k) (run_on h))
 
 pub while_turns-returns-then-not-branch-clause-later : goal.while_turns-returns-then-not-branch-clause-later
-while_turns-returns-then-not-branch-clause-later g t c = later_on c.loop-tree.invariant.later c.in_ok-guarded_turn.ensures.later
+while_turns-returns-then-not-branch-clause-later g t c = later_on c.loop-parsed.invariant.later c.in_ok-guarded_turn.ensures.later
 
 pub words-loop-word-init : goal.words-loop-word-init
 words-loop-word-init g t c = record { comes = λ k. rw c.new-texts.ensures.items stay; later = later_refl }
@@ -959,8 +1022,8 @@ for_loop-for_turns-requires-text-body g t c κs within = search rules
 pub for_turns-guarded_turn-requires-text-body : goal.for_turns-guarded_turn-requires-text-body
 for_turns-guarded_turn-requires-text-body g t c κs within = search rules
 
-pub for_turns-script-requires-text-text : goal.for_turns-script-requires-text-text
-for_turns-script-requires-text-text g t c κs within = search rules
+pub for_turns-script_again-requires-text-text : goal.for_turns-script_again-requires-text-text
+for_turns-script_again-requires-text-text g t c κs within = search rules
 
 pub foreach-foreach_turns-requires-text-body : goal.foreach-foreach_turns-requires-text-body
 foreach-foreach_turns-requires-text-body g t c κs within = search rules
@@ -1007,8 +1070,8 @@ otherwise-script-requires-text-text g t c κs within = search rules
 pub script-commands-requires-text-source : goal.script-commands-requires-text-source
 script-commands-requires-text-source g t c κs within = search rules
 
-pub turn-script-requires-text-text : goal.turn-script-requires-text-text
-turn-script-requires-text-text g t c κs within = search rules
+pub turn-script_again-requires-text-text : goal.turn-script_again-requires-text-text
+turn-script_again-requires-text-text g t c κs within = search rules
 
 pub value-bracket-requires-text-source : goal.value-bracket-requires-text-source
 value-bracket-requires-text-source g t c κs within = search rules

@@ -14,7 +14,7 @@ use Rattle.tclrules.specs.Plans.{Next, on_normal}
 use Rattle.tclrules.specs.Rules.{rule}
 use Rattle.tclforms.specs.Views.{pair_texts}
 use Rattle.tclsteps.specs.Machine.{shown, bounds, control_plan, behind_all, control_weight, frames_weight}
-use Rattle.tcleval.specs.Runs.{Comes}
+use Rattle.tcleval.specs.Runs.{Comes, IsTreeOf}
 use Rattle.tcleval.specs.Later.{Later}
 use Rattle.tcleval.proofs.evaluator.Evaluator.+evaluate.Given as goal
 
@@ -23,6 +23,9 @@ decreases-bracket g l = 16 * l.left
 
 abbrev pub decreases-script : goal.decreases-script
 decreases-script g l = 16 * l.left
+
+abbrev pub decreases-script_again : goal.decreases-script_again
+decreases-script_again g l = 16 * l.left
 
 abbrev pub decreases-value : goal.decreases-value
 decreases-value g l = 16 * l.left + 1
@@ -118,29 +121,32 @@ invariant-commands-loop-command g l =
       later : Later l.fn.self l.self;
     }
 
-abbrev pub invariant-for_turns-loop-tree : goal.invariant-for_turns-loop-tree
-invariant-for_turns-loop-tree g l =
+abbrev pub invariant-for_turns-loop-between : goal.invariant-for_turns-loop-between
+invariant-for_turns-loop-between g l =
     let o = g.H.Host.oracle in
     let t = g.H.Host.told in
     record {
       comes : (k : Next) → Leads l.limits.commands (rule l.limits.value_bytes) (Runs (plans.For l.left l.condition l.next l.body l.fn.self.variables) (on_normal k)) (point (o l.fn.host) (t l.fn.host) l.fn.self.used) (Runs (plans.For l.left l.condition l.next l.body l.self.variables) (on_normal k)) (point (o l.host) (t l.host) l.self.used);
+      parsed : IsTreeOf l.body l.parsed;
+      between : IsTreeOf l.next l.between;
       later : Later l.fn.self l.self;
     }
 
-abbrev pub decreases-for_turns-loop-tree : goal.decreases-for_turns-loop-tree
-decreases-for_turns-loop-tree g l = l.limits.commands - l.self.used
+abbrev pub decreases-for_turns-loop-between : goal.decreases-for_turns-loop-between
+decreases-for_turns-loop-between g l = l.limits.commands - l.self.used
 
-abbrev pub invariant-while_turns-loop-tree : goal.invariant-while_turns-loop-tree
-invariant-while_turns-loop-tree g l =
+abbrev pub invariant-while_turns-loop-parsed : goal.invariant-while_turns-loop-parsed
+invariant-while_turns-loop-parsed g l =
     let o = g.H.Host.oracle in
     let t = g.H.Host.told in
     record {
       comes : (k : Next) → Leads l.limits.commands (rule l.limits.value_bytes) (Runs (plans.While l.left l.condition l.body l.fn.self.variables) (on_normal k)) (point (o l.fn.host) (t l.fn.host) l.fn.self.used) (Runs (plans.While l.left l.condition l.body l.self.variables) (on_normal k)) (point (o l.host) (t l.host) l.self.used);
+      parsed : IsTreeOf l.body l.parsed;
       later : Later l.fn.self l.self;
     }
 
-abbrev pub decreases-while_turns-loop-tree : goal.decreases-while_turns-loop-tree
-decreases-while_turns-loop-tree g l = l.limits.commands - l.self.used
+abbrev pub decreases-while_turns-loop-parsed : goal.decreases-while_turns-loop-parsed
+decreases-while_turns-loop-parsed g l = l.limits.commands - l.self.used
 
 abbrev pub invariant-value-loop-stack : goal.invariant-value-loop-stack
 invariant-value-loop-stack g l =
@@ -172,6 +178,7 @@ invariant-foreach_turns-loop-limits g l =
     let t = g.H.Host.told in
     record {
       comes : (k : Next) → Leads l.limits.commands (rule l.limits.value_bytes) (Runs (plans.Foreach l.left l.fn.loops l.body l.fn.self.variables) (on_normal k)) (point (o l.fn.host) (t l.fn.host) l.fn.self.used) (Runs (plans.Foreach l.left l.loops l.body l.self.variables) (on_normal k)) (point (o l.host) (t l.host) l.self.used);
+      parsed : IsTreeOf l.body l.parsed;
       later : Later l.fn.self l.self;
     }
 
