@@ -222,12 +222,12 @@ def a_directory_of_many_names(disk):
         with open(os.path.join(folder, str(number)), "w") as out:
             out.write(COOKIE)
     disk.file("one/1")
-    # A load reads what is asked for, and the listing and the greatest version of its folder.
-    same(disk.answer(f"disk locate {disk.m} one")[1], "5 read, 1 listed]", "one")
+    # A load reads what is asked for, and the listing, the default files and the greatest version of its folder, each once.
+    same(disk.answer(f"disk locate {disk.m} one")[1], "4 read, 1 listed]", "one")
     same(disk.answer(f"disk locate {disk.m} many/7")[1], "1 read, 0 listed]", "many/7")
     said = disk.answer(f"disk locate {disk.m} many")
     same(said[0], f"many/19999 {folder}/19999", "many")
-    same(said[1], "5 read, 1 listed]", "many")
+    same(said[1], "4 read, 1 listed]", "many")
     said = disk.answer(f"disk avail {disk.m}")
     rows = said[0].split()
     same(rows[0], f"{disk.m}:", "avail")

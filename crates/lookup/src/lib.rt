@@ -11,7 +11,6 @@ mod tree;
 pub use disk::DiskTree;
 pub use laws::{contents_agree, some_pair_agrees};
 pub use memory::MemoryTree;
-pub use modulefile::{Modulefile, read_modulefile};
-pub use modulename::{is_module_name, means};
+pub use modulefile::{Modulefile, holds_module, read_modulefile};
 pub use search::FindFault;
 pub use tree::{Tree, TreeFault};

@@ -2,7 +2,7 @@
 ghost use Rattle.std.specs.Prelude.{◌≡◌, IfOk, Some};
 ghost use Rattle.lookup.specs.Agreement.{Shows, HasCause, Narrows};
 ghost use Rattle.lookup.specs.Answers.{modulefile_view};
-ghost use Rattle.lookup.specs.Search.{modulefile};
+ghost use Rattle.lookup.specs.Search.{is_module, modulefile};
 
 use crate::tree::{Tree, TreeFault};
 
@@ -17,6 +17,20 @@ pub enum Modulefile {
     NotUtf8,
     /// The text of the whole file.
     Script(String),
+}
+
+impl Modulefile {
+    /// Whether a file is there that begins with `#%Module`.
+    pub fn is_module(&self) -> bool
+        ensures { result ≡ is_module (modulefile_view self.now) }
+    {
+        match self {
+            Modulefile::Absent => false,
+            Modulefile::NoCookie => false,
+            Modulefile::NotUtf8 => true,
+            Modulefile::Script(_) => true,
+        }
+    }
 }
 
 /// What every modulefile begins with.
@@ -46,5 +60,20 @@ pub fn read_modulefile<T: Tree>(tree: &mut T, path: &str) -> Result<Modulefile, 
     match tree.read(path)? {
         None => Ok(Modulefile::Absent),
         Some(bytes) => Ok(modulefile_of(bytes)),
+    }
+}
+
+/// Whether the path holds a file that begins with `#%Module`. Nothing else of the file matters.
+///
+/// It fails as the tree does.
+pub fn holds_module<T: Tree>(tree: &mut T, path: &str) -> Result<bool, TreeFault>
+    ensures before { Narrows (T.agrees tree.old) (T.agrees tree.new) }
+    ensures answer { IfOk result (λ r. Shows (T.agrees tree.new)
+        (λ files listings. is_module (modulefile (files path.now)) ≡ r)) }
+    ensures cause { HasCause (T.failures tree.old) (T.failures tree.new) result }
+{
+    match tree.read(path)? {
+        None => Ok(false),
+        Some(bytes) => Ok(bytes.as_slice().starts_with(COOKIE)),
     }
 }

@@ -1,4 +1,5 @@
 pub mod SayingLemmas
 pub mod NamedLemmas
+pub mod CandidateLemmas
 pub mod VersionLemmas
 pub mod StepLemmas

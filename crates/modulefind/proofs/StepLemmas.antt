@@ -2,9 +2,9 @@
 use Rattle.std.proofs.Common.{◌≡◌, ◌≤◌, ◌-◌, true, false, List, [], ◌∷◌, length, get_or, map, take, drop, Option, Some, None, Result, Ok, Err, inl, inr, refl, sym, ap, ◌∙◌, subst, arith}
 use Rattle.std.specs.Prelude.{◌==◌}
 use Rattle.std.proofs.lemmas.Bool.Decides.{nat_tests}
-use Rattle.std.proofs.lemmas.List.{take_all}
 use Rattle.modulename.specs.ModuleName.{Text}
-use Rattle.lookup.specs.Agreement.{Files, Listings}
+use Rattle.lookup.specs.Agreement.{Files, Listings, Shows}
+use Rattle.lookup.specs.Causes.{Cause, memory, device, because, Applies}
 use Rattle.lookup.specs.Search.{Held, absent, no_cookie, not_utf8, script, modulefile, is_module, is_empty, path_of}
 use Rattle.lookup.specs.declared.search.FindFault.{FindFault}
 use Rattle.lookup.specs.declared.search.FindFault.TheVariants as faults
@@ -12,10 +12,11 @@ use Rattle.relations.specs.Relations.{Then, Where}
 use Rattle.modulesearch.specs.Reasons.{Reason}
 use Rattle.modulesearch.specs.DefaultFiles.{Left}
 use Rattle.modulesearch.specs.Found.{Module, IsCandidate, HasCandidates, NamedDefault, Default, At, FoundAlong, read}
-use Rattle.modulefind.specs.Answers.{Tells}
-use Rattle.modulefind.specs.Steps.{module_in, module_at, DefaultIn, OfDefault, Below}
+use Rattle.modulefind.specs.Answers.{Tells, cause_of}
+use Rattle.modulefind.specs.Steps.{caused, because_of, module_in, module_at, DefaultIn, OfDefault, Below}
 use Rattle.modulefind.specs.Versions.{IsGreatestOf}
 use Rattle.modulefind.proofs.NamedLemmas.{named_is_candidate}
+use Rattle.modulefind.proofs.VersionLemmas.{split_first}
 
 -- a fault of one step is a fault of the whole
 pub tells_fault : {X Y V W : Type 0} (agrees : Files → Listings → Type 0) (failed before : Type 0) (view : X → Y) (view' : V → W)
@@ -72,16 +73,25 @@ module _ (leaves : Text → Text → Option Left → Type 0) (files : Files) (li
   below_fault not_utf8 e h r d = absurd (let q = h ∙ ap (module_in name (path_of dir name)) e in cc)
   below_fault (script text) e h r d = absurd (let q = h ∙ ap (module_in name (path_of dir name)) e in cc)
 
-pub tells_same : {X Y : Type 0} (agrees : Files → Listings → Type 0) (failed before : Type 0) (view : X → Y) (r : Result X FindFault)
-    (Comes Comes' : Files → Listings → Result Y Reason → Type 0)
-    → (failed → before) → ((files : Files) (listings : Listings) (o : Result Y Reason) → agrees files listings → Comes files listings o → Comes' files listings o)
-    → Tells agrees failed view r Comes → Tells agrees before view r Comes'
-tells_same agrees failed before view (Ok x) Comes Comes' later then h = λ files listings a. then files listings (Ok (view x)) a (h files listings a)
-tells_same agrees failed before view (Err e) Comes Comes' later then h =
-    tells_fault agrees failed before view view Comes Comes' e later (λ files listings r a k. then files listings (Err r) a k) h
-
 same_ok : {A R : Type 0} (x y : A) (o p : Result A R) → o ≡ Ok x → p ≡ Ok y → o ≡ p → x ≡ y
 same_ok x y o p h k e = cc
+
+same_reason : {Y : Type 0} (r s : Reason) (c d : Result Y (Cause Reason)) → c ≡ Err (because r) → d ≡ Err (because s) → c ≡ d → r ≡ s
+same_reason r s c d h k e = cc
+
+-- what a call without a tree tells
+pub tells_caused : {X Y : Type 0} (agrees : Files → Listings → Type 0) (failed : Type 0) (view : X → Y) (r : Result X FindFault) (o : Result Y Reason)
+    (Comes : Files → Listings → Result Y Reason → Type 0)
+    → caused view r ≡ because_of o → ((files : Files) (listings : Listings) → agrees files listings → Comes files listings o) → Tells agrees failed view r Comes
+tells_caused agrees failed view (Ok x) (Ok y) Comes e h = λ files listings a. subst (λ z. Comes files listings (Ok z)) (sym (same_ok (view x) y (Ok (view x)) (Ok y) refl refl e)) (h files listings a)
+tells_caused agrees failed view (Ok x) (Err s) Comes e h = absurd (cc)
+tells_caused agrees failed view (Err f) (Ok y) Comes e h = absurd (cc)
+tells_caused {Y = Y} agrees failed view (Err f) (Err s) Comes e h = fault (cause_of f) (caused view (Err f)) (because_of (Err s)) refl refl e
+  where
+    fault : (c : Cause Reason) (p q : Result Y (Cause Reason)) → p ≡ Err c → q ≡ Err (because s) → p ≡ q → Applies c failed (λ r. Shows agrees (λ files listings. Comes files listings (Err r)))
+    fault memory p q k l g = tt
+    fault device p q k l g = absurd (cc)
+    fault (because r) p q k l g = λ files listings a. subst (λ z. Comes files listings (Err z)) (sym (same_reason r s p q k l g)) (h files listings a)
 
 -- how the search goes on behind one directory
 abbrev pub Continues : (Text → Text → Option Left → Type 0) → Files → Listings → Text → List Text → Result (Option Module) Reason → Result Module Reason → Type 0
@@ -127,10 +137,6 @@ module _ (leaves : Text → Text → Option Left → Type 0) (files : Files) (li
   along given o (inl (at, e)) k = inl (at, given_read name (path_of dir name) (modulefile (files (path_of dir name))) at given o e k)
   along given o (inr (other, (Ok v, d, of))) k = inr (other, along_default v given o d of k)
   along given o (inr (other, (Err r, d, e))) k = inr (other, along_fault r o d (subst (λ x. Continues leaves files listings name dirs x o) e k))
-
-split_first : {X : Type 0} (view : X → Text) (d : X) (rest : List X) → 1 ≤ length rest → map view rest ≡ view (get_or rest 0 d) ∷ map view (take (length rest - 1) (drop 1 rest))
-split_first view d [] some = absurd (omega arith)
-split_first view d (x ∷ xs) some = ap (λ ys. view x ∷ map view ys) (sym (take_all (length (x ∷ xs) - 1) xs (omega arith)))
 
 -- the first of the directories that are left
 pub along_rest : (leaves : Text → Text → Option Left → Type 0) (files : Files) (listings : Listings) (name : Text) {X : Type 0} (view : X → Text) (d : X) (rest : List X) → 1 ≤ length rest

@@ -1,5 +1,5 @@
 -- The first of some versions, from the greatest down, that is a module is the greatest candidate.
-use Rattle.std.proofs.Common.{◌≡◌, ℕ, suc, ◌≤◌, ◌<◌, Bool, true, false, cond, List, [], ◌∷◌, length, get_or, map, filter, find, Option, Some, None, Ordering, Less, Equal, Greater, refl, sym, ap, ◌∙◌, subst, ⊎_elim, arith}
+use Rattle.std.proofs.Common.{◌≡◌, ℕ, suc, ◌≤◌, ◌<◌, ◌-◌, Bool, true, false, cond, List, [], ◌∷◌, length, get_or, map, take, drop, filter, find, Option, Some, None, Ordering, Less, Equal, Greater, refl, sym, ap, ◌∙◌, subst, ⊎_elim, arith}
 use Rattle.std.specs.Prelude.{bytes_eq, if◌then◌else◌}
 use Rattle.std.specs.Cmp.{IsStrictWeakOrder}
 use Rattle.std.specs.List.{list_any, Contains, AllByRecursion}
@@ -7,6 +7,7 @@ use Rattle.std.specs.List.Sorted.{IsPermutation, IsSortedBy}
 use Rattle.std.specs.Ordering.{is_lt, is_le, ordering_reverse}
 use Rattle.std.proofs.lemmas.Bool.{or_cases, or_left, or_right, and_parts, and_from}
 use Rattle.std.proofs.lemmas.Cmp.{tied_itself}
+use Rattle.std.proofs.lemmas.List.{take_all}
 use Rattle.std.proofs.lemmas.List.Elements.{recursion_from_All}
 use Rattle.std.proofs.lemmas.List.Folds.{Any-from_list_any, list_any-from_Any}
 use Rattle.std.proofs.lemmas.List.Sorted.{sorted_far, ranks_by, IsStrictWeakOrder-flip, IsPermutation-map, IsPermutation-sym, Contains-permutation}
@@ -124,12 +125,29 @@ first_down : {X : Type 0} (view : X → Text) (p : Text → Bool) (xs : List X) 
 first_down view p [] d = λ w h. absurd (cc)
 first_down view p (x ∷ xs) d = first_down_step view p x xs (p (view x)) refl d (first_down view p xs d.1)
 
+pub split_first : {X : Type 0} (view : X → Text) (d : X) (rest : List X) → 1 ≤ length rest → map view rest ≡ view (get_or rest 0 d) ∷ map view (take (length rest - 1) (drop 1 rest))
+split_first view d [] some = absurd (omega arith)
+split_first view d (x ∷ xs) some = ap (λ ys. view x ∷ map view ys) (sym (take_all (length (x ∷ xs) - 1) xs (omega arith)))
+
+module _ {X : Type 0} (view : X → Text) (p : Text → Bool) (d : X) (rest : List X) (some : 1 ≤ length rest) where
+  -- the first passes the test
+  pub find_first : p (view (get_or rest 0 d)) ≡ true → find p (map view rest) ≡ Some (view (get_or rest 0 d))
+  find_first e =
+      let more = map view (take (length rest - 1) (drop 1 rest)) in
+      ap (find p) (split_first view d rest some) ∙ ap (λ t. cond t (Some (view (get_or rest 0 d))) (find p more)) e
+
+  -- it doesn't
+  pub find_later : p (view (get_or rest 0 d)) ≡ false → find p (map view rest) ≡ find p (map view (take (length rest - 1) (drop 1 rest)))
+  find_later e =
+      let more = map view (take (length rest - 1) (drop 1 rest)) in
+      ap (find p) (split_first view d rest some) ∙ ap (λ t. cond t (Some (view (get_or rest 0 d))) (find p more)) e
+
 same_entries : (entries others : List Text) (o : Option (List Text)) → o ≡ Some entries → o ≡ Some others → others ≡ entries
 same_entries entries others o e f = cc
 
 -- what a candidate is, of the entries of the folder
 module _ (files : Files) (listings : Listings) (dir name : Text) (entries : List Text) (listed : listings (path_of dir name) ≡ Some entries) where
-  candidate_from : (v : Text) → has v entries ≡ true → is_version name v ≡ true → is_module_in files dir name v ≡ true → IsCandidate files listings dir name v
+  pub candidate_from : (v : Text) → has v entries ≡ true → is_version name v ≡ true → is_module_in files dir name v ≡ true → IsCandidate files listings dir name v
   candidate_from v h k m =
       let p = and_parts (is_single v) (is_module_name (path_of name v)) k in
       record { entry = (entries, listed, h); single = p.0; spelled = p.1; file = m }

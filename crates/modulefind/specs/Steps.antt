@@ -6,7 +6,19 @@ use Rattle.lookup.specs.Search.{Held, absent, no_cookie, not_utf8, script, modul
 use Rattle.relations.specs.Relations.{Is, Where, ◌>>◌}
 use Rattle.modulesearch.specs.Reasons.{Reason, not_utf8_at}
 use Rattle.modulesearch.specs.DefaultFiles.{Left}
+use Rattle.lookup.specs.Causes.{Cause, because}
+use Rattle.lookup.specs.declared.search.FindFault.{FindFault}
+use Rattle.modulefind.specs.Answers.{cause_of}
 use Rattle.modulesearch.specs.Found.{Module, IsModuleAt, HasCandidates, Default}
+
+-- a call's result, by what it gives and what is behind its fault
+abbrev pub caused : {X Y : Type 0} → (X → Y) → Result X FindFault → Result Y (Cause Reason)
+caused view (Ok x) = Ok (view x)
+caused view (Err e) = Err (cause_of e)
+
+abbrev pub because_of : {Y : Type 0} → Result Y Reason → Result Y (Cause Reason)
+because_of (Ok y) = Ok y
+because_of (Err r) = Err (because r)
 
 -- the module that a path holds, if it holds one
 abbrev pub module_in : Text → Text → Held → Result (Option Module) Reason

@@ -1,14 +1,16 @@
 //! The candidate that the default files of a folder name.
-ghost use Rattle.std.specs.Prelude.{◌≡◌, ◌↔◌, map, true, Some, IfOk, string_bytes};
+ghost use Rattle.std.specs.Prelude.{◌≡◌, map, Some, IfOk, string_bytes};
 ghost use Rattle.lookup.specs.Agreement.{Files, Listings, Shows, HasCause};
 ghost use Rattle.lookup.specs.Search.{path_of};
 ghost use Rattle.modulesearch.specs.DefaultFiles.{Names, said};
 ghost use Rattle.modulesearch.specs.Found.{IsCandidate, NamedDefault, default_file};
-ghost use Rattle.modulefind.specs.Sayings.{file_name, says, named_view, NamedBy};
+ghost use Rattle.modulefind.specs.Candidates.{IsReadIfAny};
+ghost use Rattle.modulefind.specs.Sayings.{file_name, says, said_view, named_view, candidate_named, IsCandidateIfAny, NamedBy};
 ghost use Rattle.std.specs.Option.{option_map};
 ghost use Rattle.modulesearch.specs.Ended.{ended_view};
 
-use crate::paths::{has, holds_module, path_of};
+use crate::candidates::{Candidate, module_in};
+use crate::paths::{has, path_of};
 use crate::sayings::DefaultFile;
 use crate::versions::is_version;
 use lookup::{Modulefile, Tree, TreeFault, read_modulefile};
@@ -18,31 +20,42 @@ use std::alloc::{AllocError, Global};
 /// What default files name.
 #[derive(Debug, Drop)]
 pub enum Named {
-    /// No version.
+    /// No candidate.
     Nothing,
-    /// This version.
-    Candidate(String),
+    /// This candidate.
+    Candidate(Candidate),
     /// The default file at this path has a fault.
     BadFile(String),
 }
 
-/// What a default file at a path names by what its evaluation left.
-fn named_by_ended(
+/// What a default file says.
+#[derive(Drop)]
+enum Said {
+    /// No version.
+    Nothing,
+    /// This version, which may be no candidate.
+    Version(String),
+    /// The default file at this path has a fault.
+    BadFile(String),
+}
+
+/// What a default file at a path says by what its evaluation left.
+fn said_by_ended(
     alloc: Global,
     file: DefaultFile,
     name: &str,
     path: String,
     ended: Option<Ended>,
-) -> Result<Named, AllocError>
-    ensures { IfOk result (λ n.
-        named_view n ≡ said (says file name.now) (string_bytes path) (option_map ended_view ended)) }
+) -> Result<Said, AllocError>
+    ensures { IfOk result (λ s.
+        said_view s ≡ said (says file name.now) (string_bytes path) (option_map ended_view ended)) }
 {
     let Some(ended) = ended else {
-        return Ok(Named::BadFile(path));
+        return Ok(Said::BadFile(path));
     };
     match file.said(name, &ended) {
-        None => Ok(Named::Nothing),
-        Some(version) => Ok(Named::Candidate(String::from_str(alloc, version)?)),
+        None => Ok(Said::Nothing),
+        Some(version) => Ok(Said::Version(String::from_str(alloc, version)?)),
     }
 }
 
@@ -54,48 +67,51 @@ fn said_by<T: Tree, D: DefaultFiles>(
     dir: &str,
     name: &str,
     file: DefaultFile,
-) -> Result<Named, TreeFault>
+) -> Result<Said, TreeFault>
     ensures before { Shows (T.agrees tree.new) (λ files listings. T.agrees tree.old files listings) }
-    ensures answer { IfOk result (λ n. Shows (T.agrees tree.new) (λ files listings.
+    ensures answer { IfOk result (λ s. Shows (T.agrees tree.new) (λ files listings.
         Names (D.leaves default_files.now) files (says file name.now)
-        (default_file dir.now name.now (file_name file)) (named_view n))) }
+        (default_file dir.now name.now (file_name file)) (said_view s))) }
     ensures cause { HasCause (T.failures tree.old) (T.failures tree.new) result }
 {
     let folder = path_of(alloc, dir, name)?;
     let path = path_of(alloc, &folder, file.file_name())?;
     match read_modulefile(tree, &path)? {
-        Modulefile::Absent => Ok(Named::Nothing),
-        Modulefile::NoCookie => Ok(Named::Nothing),
-        Modulefile::NotUtf8 => Ok(Named::BadFile(path)),
+        Modulefile::Absent => Ok(Said::Nothing),
+        Modulefile::NoCookie => Ok(Said::Nothing),
+        Modulefile::NotUtf8 => Ok(Said::BadFile(path)),
         Modulefile::Script(text) => {
             let ended = default_files.evaluate(alloc, &path, &text)?;
-            Ok(named_by_ended(alloc, file, name, path, ended)?)
+            Ok(said_by_ended(alloc, file, name, path, ended)?)
         }
     }
 }
 
-/// Whether a version is a candidate of a name, in whose folder are these entries.
-fn is_candidate<T: Tree>(
+/// The candidate of this version of a name, in whose folder are these entries, if it is one.
+fn candidate_of<T: Tree>(
     alloc: Global,
     tree: &mut T,
     dir: &str,
     name: &str,
     entries: &[String],
-    version: &str,
-) -> Result<bool, TreeFault>
+    version: String,
+) -> Result<Option<Candidate>, TreeFault>
     requires { Shows (T.agrees tree.old) (λ files listings.
         listings (path_of dir.now name.now) ≡ Some (map string_bytes entries.now)) }
     ensures before { Shows (T.agrees tree.new) (λ files listings. T.agrees tree.old files listings) }
     ensures answer { IfOk result (λ r. Shows (T.agrees tree.new) (λ files listings.
-        (r ≡ true) ↔ IsCandidate files listings dir.now name.now version.now)) }
+        IsCandidateIfAny (IsCandidate files listings dir.now name.now) (string_bytes version) r)) }
+    ensures read { IfOk result (λ r. Shows (T.agrees tree.new) (λ files listings.
+        IsReadIfAny files dir.now name.now r)) }
     ensures cause { HasCause (T.failures tree.old) (T.failures tree.new) result }
 {
-    if !has(entries, version) || !is_version(alloc, name, version)? {
-        return Ok(false);
+    if !has(entries, &version) || !is_version(alloc, name, &version)? {
+        return Ok(None);
     }
-    let full = path_of(alloc, name, version)?;
-    let path = path_of(alloc, dir, &full)?;
-    holds_module(tree, &path)
+    match module_in(alloc, tree, dir, name, &version)? {
+        None => Ok(None),
+        Some(file) => Ok(Some(Candidate { version, file })),
+    }
 }
 
 /// The candidate that one of the default files in the folder of a name says, if it says one.
@@ -113,24 +129,23 @@ fn named_by<T: Tree, D: DefaultFiles>(
     ensures before { Shows (T.agrees tree.new) (λ files listings. T.agrees tree.old files listings) }
     ensures answer { IfOk result (λ n. Shows (T.agrees tree.new) (λ files listings.
         NamedBy (D.leaves default_files.now) files listings dir.now name.now file (named_view n))) }
+    ensures read { IfOk result (λ n. Shows (T.agrees tree.new) (λ files listings.
+        IsReadIfAny files dir.now name.now (candidate_named n))) }
     ensures cause { HasCause (T.failures tree.old) (T.failures tree.new) result }
 {
     match said_by(alloc, tree, default_files, dir, name, file)? {
-        Named::Nothing => Ok(Named::Nothing),
-        Named::BadFile(path) => Ok(Named::BadFile(path)),
-        Named::Candidate(version) => {
-            if is_candidate(alloc, tree, dir, name, entries, &version)? {
-                Ok(Named::Candidate(version))
-            } else {
-                Ok(Named::Nothing)
-            }
-        }
+        Said::Nothing => Ok(Named::Nothing),
+        Said::BadFile(path) => Ok(Named::BadFile(path)),
+        Said::Version(version) => match candidate_of(alloc, tree, dir, name, entries, version)? {
+            None => Ok(Named::Nothing),
+            Some(candidate) => Ok(Named::Candidate(candidate)),
+        },
     }
 }
 
 /// The candidate that the default files in the folder of a name say, in which are these entries: `.modulerc`, or else
 /// `.version`, which isn't read where `.modulerc` names a candidate. A default file without the cookie says nothing,
-/// and so does one that names no candidate.
+/// and so does one that names no candidate. The file of the candidate is read once.
 ///
 /// It fails as the tree does, and for want of memory.
 pub fn named_default<T: Tree, D: DefaultFiles>(
@@ -146,6 +161,8 @@ pub fn named_default<T: Tree, D: DefaultFiles>(
     ensures before { Shows (T.agrees tree.new) (λ files listings. T.agrees tree.old files listings) }
     ensures answer { IfOk result (λ n. Shows (T.agrees tree.new) (λ files listings.
         NamedDefault (D.leaves default_files.now) files listings dir.now name.now (named_view n))) }
+    ensures read { IfOk result (λ n. Shows (T.agrees tree.new) (λ files listings.
+        IsReadIfAny files dir.now name.now (candidate_named n))) }
     ensures cause { HasCause (T.failures tree.old) (T.failures tree.new) result }
 {
     match named_by(

@@ -1,13 +1,14 @@
 //! Which modulefile a name means, over any tree of files.
 #![tactic(auto)]
 
+mod candidates;
 mod defaults;
 mod paths;
 mod sayings;
 mod search;
 mod versions;
 
+pub use candidates::Candidate;
 pub use defaults::{Named, named_default};
-pub use paths::{holds_module, is_single, path_of};
-pub use sayings::after_front;
+pub use paths::{is_single, path_of};
 pub use search::{Found, directories, locate};

@@ -1,15 +1,10 @@
 //! Paths and names.
 ghost use Rattle.std.specs.Prelude.{◌≡◌, map, bytes_eq, string_bytes, IfOk};
 ghost use Rattle.std.specs.List.{list_any};
-ghost use Rattle.lookup.specs.Agreement.{Files, Listings, Shows, HasCause};
 ghost use Rattle.modulesearch.specs.Single.{is_single};
-ghost use Rattle.lookup.specs.Search.{modulefile, is_module, path_of};
+ghost use Rattle.lookup.specs.Search.{path_of};
 
-use lookup::{Tree, TreeFault};
 use std::alloc::{AllocError, Global};
-
-/// What every modulefile begins with.
-const COOKIE: &[u8] = b"#%Module";
 
 /// The path of a name below a directory: the directory, `/`, the name.
 pub fn path_of(alloc: Global, dir: &str, name: &str) -> Result<String, AllocError>
@@ -19,21 +14,6 @@ pub fn path_of(alloc: Global, dir: &str, name: &str) -> Result<String, AllocErro
     path.push('/')?;
     path.push_str(name)?;
     Ok(path)
-}
-
-/// Whether a file with the cookie is at the path. Of the file only its first bytes matter.
-///
-/// It fails as the tree does.
-pub fn holds_module<T: Tree>(tree: &mut T, path: &str) -> Result<bool, TreeFault>
-    ensures before { Shows (T.agrees tree.new) (λ files listings. T.agrees tree.old files listings) }
-    ensures answer { IfOk result (λ r. Shows (T.agrees tree.new) (λ files listings.
-        is_module (modulefile (files path.now)) ≡ r)) }
-    ensures cause { HasCause (T.failures tree.old) (T.failures tree.new) result }
-{
-    match tree.read(path)? {
-        None => Ok(false),
-        Some(bytes) => Ok(bytes.as_slice().starts_with(COOKIE)),
-    }
 }
 
 /// Whether this is one of the names.

@@ -41,8 +41,8 @@ impl DefaultFile {
     }
 }
 
-/// What follows a front of a text; None where the text has another front. It takes no memory.
-pub fn after_front<'a>(front: &str, text: &'a str) -> Option<&'a str>
+/// What follows a front of a text; None where the text has another front.
+fn after_front<'a>(front: &str, text: &'a str) -> Option<&'a str>
     ensures { option_map (λ v. v.now) result ≡ after_front front.now text.entry.now }
 {
     text.strip_prefix(front)

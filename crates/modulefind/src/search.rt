@@ -6,13 +6,17 @@ ghost use Rattle.lookup.specs.Agreement.{Files, Listings, Shows};
 ghost use Rattle.lookup.specs.Search.{path_of, directories};
 ghost use Rattle.relations.specs.Relations.{Is};
 ghost use Rattle.modulesearch.specs.Found as meaning;
+ghost use Rattle.lookup.specs.Answers.{modulefile_view};
 ghost use Rattle.modulefind.specs.Answers.{Tells, found_view};
-ghost use Rattle.modulefind.specs.Steps.{module_at, DefaultIn, Below};
+ghost use Rattle.modulefind.specs.Candidates.{version_of, IsReadIfAny};
+ghost use Rattle.modulefind.specs.Steps.{caused, because_of, module_in, module_at, DefaultIn, Below};
 
+use crate::candidates::Candidate;
 use crate::defaults::{Named, named_default};
 use crate::paths::path_of;
 use crate::versions::greatest_candidate;
-use lookup::{FindFault, Modulefile, Tree, is_module_name, read_modulefile};
+use lookup::{FindFault, Modulefile, Tree, read_modulefile};
+use modulename::is_module_name;
 use modulesearch::DefaultFiles;
 use std::alloc::{AllocError, Global};
 
@@ -25,6 +29,19 @@ pub struct Found {
     pub path: String,
     /// The text of the whole file.
     pub text: String,
+}
+
+/// The module of this full name at a path that holds this, if it is one.
+fn found_in(name: String, path: String, file: Modulefile) -> Result<Option<Found>, FindFault>
+    ensures { caused (option_map found_view) result
+        ≡ because_of (module_in (string_bytes name) (string_bytes path) (modulefile_view file)) }
+{
+    match file {
+        Modulefile::Absent => Ok(None),
+        Modulefile::NoCookie => Ok(None),
+        Modulefile::NotUtf8 => Err(FindFault::NotUtf8(path)),
+        Modulefile::Script(text) => Ok(Some(Found { name, path, text })),
+    }
 }
 
 /// The module of this full name below a directory, if it is there.
@@ -40,16 +57,8 @@ fn module_at<T: Tree>(
         (λ files listings. Is (module_at files dir.now name.now)) }
 {
     let path = path_of(alloc, dir, name)?;
-    match read_modulefile(tree, &path)? {
-        Modulefile::Absent => Ok(None),
-        Modulefile::NoCookie => Ok(None),
-        Modulefile::NotUtf8 => Err(FindFault::NotUtf8(path)),
-        Modulefile::Script(text) => Ok(Some(Found {
-            name: String::from_str(alloc, name)?,
-            path,
-            text,
-        })),
-    }
+    let file = read_modulefile(tree, &path)?;
+    found_in(String::from_str(alloc, name)?, path, file)
 }
 
 /// The default candidate of a name, in whose folder are these entries, if one of them is a candidate.
@@ -60,17 +69,18 @@ fn default_of<T: Tree, D: DefaultFiles>(
     dir: &str,
     name: &str,
     entries: &[String],
-) -> Result<Option<String>, FindFault>
+) -> Result<Option<Candidate>, FindFault>
     requires { Shows (T.agrees tree.old) (λ files listings.
         listings (path_of dir.now name.now) ≡ Some (map string_bytes entries.now)) }
     ensures before { Shows (T.agrees tree.new) (λ files listings. T.agrees tree.old files listings) }
     ensures later { T.failures tree.old ≤ T.failures tree.new }
-    ensures told { Tells (T.agrees tree.new) (T.failures tree.old < T.failures tree.new) (option_map string_bytes)
-        result
+    ensures told { Tells (T.agrees tree.new) (T.failures tree.old < T.failures tree.new) (option_map version_of) result
         (λ files listings. DefaultIn (D.leaves default_files.now) files listings dir.now name.now) }
+    ensures read { IfOk result (λ r. Shows (T.agrees tree.new) (λ files listings.
+        IsReadIfAny files dir.now name.now r)) }
 {
     match named_default(alloc, tree, default_files, dir, name, entries)? {
-        Named::Candidate(version) => Ok(Some(version)),
+        Named::Candidate(candidate) => Ok(Some(candidate)),
         Named::Nothing => Ok(greatest_candidate(alloc, tree, dir, name, entries)?),
         Named::BadFile(path) => match greatest_candidate(alloc, tree, dir, name, entries)? {
             None => Ok(None),
@@ -86,12 +96,13 @@ fn default_in<T: Tree, D: DefaultFiles>(
     default_files: &D,
     dir: &str,
     name: &str,
-) -> Result<Option<String>, FindFault>
+) -> Result<Option<Candidate>, FindFault>
     ensures before { Shows (T.agrees tree.new) (λ files listings. T.agrees tree.old files listings) }
     ensures later { T.failures tree.old ≤ T.failures tree.new }
-    ensures told { Tells (T.agrees tree.new) (T.failures tree.old < T.failures tree.new) (option_map string_bytes)
-        result
+    ensures told { Tells (T.agrees tree.new) (T.failures tree.old < T.failures tree.new) (option_map version_of) result
         (λ files listings. DefaultIn (D.leaves default_files.now) files listings dir.now name.now) }
+    ensures read { IfOk result (λ r. Shows (T.agrees tree.new) (λ files listings.
+        IsReadIfAny files dir.now name.now r)) }
 {
     let folder = path_of(alloc, dir, name)?;
     match tree.entries(&folder)? {
@@ -118,9 +129,10 @@ fn module_below<T: Tree, D: DefaultFiles>(
     }
     match default_in(alloc, tree, default_files, dir, name)? {
         None => Ok(None),
-        Some(version) => {
-            let full = path_of(alloc, name, &version)?;
-            module_at(alloc, tree, dir, &full)
+        Some(candidate) => {
+            let full = path_of(alloc, name, &candidate.version)?;
+            let path = path_of(alloc, dir, &full)?;
+            found_in(full, path, candidate.file)
         }
     }
 }

@@ -5,10 +5,13 @@ ghost use Rattle.std.specs.List.Sorted.{IsPermutation, IsSortedBy};
 ghost use Rattle.std.specs.Option.{option_map};
 ghost use Rattle.lookup.specs.Agreement.{Files, Listings, Shows, HasCause};
 ghost use Rattle.lookup.specs.Search.{path_of};
+ghost use Rattle.modulefind.specs.Candidates.{version_of, IsReadIfAny};
 ghost use Rattle.modulefind.specs.Versions.{is_version, is_module_in, goes_before, IsGreatestOf};
 
-use crate::paths::{holds_module, is_single, path_of};
-use lookup::{Tree, TreeFault, is_module_name};
+use crate::candidates::{Candidate, module_in};
+use crate::paths::{is_single, path_of};
+use lookup::{Tree, TreeFault};
+use modulename::is_module_name;
 use moduleversion::version_order;
 use std::alloc::{AllocError, Global};
 
@@ -54,24 +57,25 @@ fn sort_down(versions: &mut Vec<&str>) -> Result<(), AllocError>
 }
 
 /// The first of some versions of a name that is a module below the directory.
-fn first_module<'a, T: Tree>(
+fn first_module<T: Tree>(
     alloc: Global,
     tree: &mut T,
     dir: &str,
     name: &str,
-    versions: &[&'a str],
-) -> Result<Option<&'a str>, TreeFault>
+    versions: &[&str],
+) -> Result<Option<Candidate>, TreeFault>
     ensures before { Shows (T.agrees tree.new) (λ files listings. T.agrees tree.old files listings) }
     ensures answer { IfOk result (λ r. Shows (T.agrees tree.new) (λ files listings.
-        option_map (λ v. v.now) r ≡ find (is_module_in files dir.now name.now) (map (λ v. v.now) versions.entry.now))) }
+        option_map version_of r ≡ find (is_module_in files dir.now name.now) (map (λ v. v.now) versions.now))) }
+    ensures read { IfOk result (λ r. Shows (T.agrees tree.new) (λ files listings.
+        IsReadIfAny files dir.now name.now r)) }
     ensures cause { HasCause (T.failures tree.old) (T.failures tree.new) result }
 {
     let mut rest = versions;
     while let [version, after @ ..] = rest {
-        let full = path_of(alloc, name, version)?;
-        let path = path_of(alloc, dir, &full)?;
-        if holds_module(tree, &path)? {
-            return Ok(Some(version));
+        if let Some(file) = module_in(alloc, tree, dir, name, version)? {
+            let version = String::from_str(alloc, version)?;
+            return Ok(Some(Candidate { version, file }));
         }
         rest = after;
     }
@@ -88,18 +92,17 @@ pub(crate) fn greatest_candidate<T: Tree>(
     dir: &str,
     name: &str,
     entries: &[String],
-) -> Result<Option<String>, TreeFault>
+) -> Result<Option<Candidate>, TreeFault>
     requires { Shows (T.agrees tree.old) (λ files listings.
         listings (path_of dir.now name.now) ≡ Some (map string_bytes entries.now)) }
     ensures before { Shows (T.agrees tree.new) (λ files listings. T.agrees tree.old files listings) }
     ensures answer { IfOk result (λ r. Shows (T.agrees tree.new) (λ files listings.
-        IsGreatestOf files listings dir.now name.now (option_map string_bytes r))) }
+        IsGreatestOf files listings dir.now name.now (option_map version_of r))) }
+    ensures read { IfOk result (λ r. Shows (T.agrees tree.new) (λ files listings.
+        IsReadIfAny files dir.now name.now r)) }
     ensures cause { HasCause (T.failures tree.old) (T.failures tree.new) result }
 {
     let mut versions = versions_in(alloc, name, entries)?;
     sort_down(&mut versions)?;
-    match first_module(alloc, tree, dir, name, &versions)? {
-        None => Ok(None),
-        Some(version) => Ok(Some(String::from_str(alloc, version)?)),
-    }
+    first_module(alloc, tree, dir, name, &versions)
 }

@@ -51,7 +51,9 @@ impl<D: DefaultFiles> Walk<'_, D> {
             front,
             entries,
         )? {
-            Named::Candidate(version) => Ok(Some(path_of(self.alloc, front, &version)?)),
+            Named::Candidate(candidate) => {
+                Ok(Some(path_of(self.alloc, front, &candidate.version)?))
+            }
             Named::Nothing => Ok(None),
             Named::BadFile(_) => Ok(None),
         }

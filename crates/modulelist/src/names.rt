@@ -5,8 +5,9 @@ ghost use Rattle.lookup.specs.Agreement.{Files, Listings, Shows, HasCause};
 ghost use Rattle.modulesearch.specs.Single.{is_single};
 ghost use Rattle.modulelist.specs.Below.{folder_path, name_below, names_in, is_module_below};
 
-use lookup::{Tree, TreeFault, is_module_name};
-use modulefind::{holds_module, is_single, path_of};
+use lookup::{Tree, TreeFault, holds_module};
+use modulefind::{is_single, path_of};
+use modulename::is_module_name;
 use std::alloc::{AllocError, Global};
 
 /// The path of a folder below a directory, or of the directory itself.

@@ -1,6 +1,6 @@
 -- Which modulefile a name means (module(1), modulefile(5)): the search along MODULEPATH, with the candidates of a
 -- folder and its default. `leaves` is what evaluations of default files leave.
-use Rattle.std.specs.Prelude.{◌≡◌, ◌↔◌, true, List, [], ◌∷◌, bytes_eq, codes, Option, Some, None, Result, Ok, Err}
+use Rattle.std.specs.Prelude.{◌≡◌, true, List, [], ◌∷◌, bytes_eq, codes, Option, Some, None, Result, Ok, Err}
 use Rattle.std.specs.List.{list_any}
 use Rattle.modulename.specs.ModuleName.{Text, is_module_name}
 use Rattle.lookup.specs.Agreement.{Files, Listings}
@@ -30,11 +30,6 @@ pub record IsCandidate (files : Files) (listings : Listings) (dir name v : Text)
 
 abbrev pub HasCandidates : Files → Listings → Text → Text → Type 0
 HasCandidates files listings dir name = (v : Text) × IsCandidate files listings dir name v
-
--- these are the candidates
-abbrev pub AreCandidates : Files → Listings → Text → Text → List Text → Type 0
-AreCandidates files listings dir name vs =
-    (v : Text) → (list_any (bytes_eq v) vs ≡ true) ↔ IsCandidate files listings dir name v
 
 -- a default file names this candidate, or names none
 abbrev pub IsOneOf : (Text → Type 0) → Option Text → Type 0

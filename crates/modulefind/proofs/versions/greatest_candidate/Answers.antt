@@ -1,19 +1,21 @@
-use Rattle.std.proofs.Common.{map, find, string_bytes, option_map, Some, None, sym, ap, ◌∙◌}
-use Rattle.modulefind.specs.Versions.{is_module_in}
+use Rattle.std.proofs.Common.{◌≡◌, map, find, string_bytes, option_map, ap, ◌∙◌}
+use Rattle.std.proofs.lemmas.Result.{IfOk-weaker}
+use Rattle.lookup.specs.Agreement.{Shows}
+use Rattle.modulefind.specs.Candidates.{version_of}
+use Rattle.modulefind.specs.Versions.{is_module_in, IsGreatestOf}
 use Rattle.modulefind.proofs.VersionLemmas.{greatest_is}
 use Rattle.modulefind.proofs.versions.greatest_candidate.Goals as goal
 
-pub returns-in-None-clause-answer : goal.returns-in-None-clause-answer
-returns-in-None-clause-answer g c = λ files listings agree.
-    greatest_is files listings c.args.dir.now c.args.name.now (map string_bytes c.args.entries.now) (c.requires files listings (c.first_module.ensures.before files listings agree))
-    (λ v. v.now) c.in_ok-versions.versions.items c.sort_down.new.versions.items c.in_ok-versions.ensures c.in_ok-sort_down.ensures.same c.in_ok-sort_down.ensures.sorted None
-    (sym (ap (option_map (λ v. v.now)) c.in-None.is) ∙ c.in_ok-first_module.ensures.answer files listings agree
-    ∙ ap (λ vs. find (is_module_in files c.args.dir.now c.args.name.now) (map (λ v. v.now) vs)) c.deref.ensures.value)
-
 pub returns-clause-answer : goal.returns-clause-answer
-returns-clause-answer g c = λ files listings agree.
-    greatest_is files listings c.args.dir.now c.args.name.now (map string_bytes c.args.entries.now) (c.requires files listings (c.first_module.ensures.before files listings agree))
-    (λ v. v.now) c.in_ok-versions.versions.items c.sort_down.new.versions.items c.in_ok-versions.ensures c.in_ok-sort_down.ensures.same c.in_ok-sort_down.ensures.sorted
-    (Some (string_bytes c.in_ok-from_str-in-Some.field-0))
-    (ap Some c.in_ok-from_str-in-Some.ensures.ok ∙ sym (ap (option_map (λ v. v.now)) c.in-Some.is) ∙ c.in_ok-first_module.ensures.answer files listings agree
-    ∙ ap (λ vs. find (is_module_in files c.args.dir.now c.args.name.now) (map (λ v. v.now) vs)) c.deref.ensures.value)
+returns-clause-answer g c =
+    let dir = c.args.dir.now in
+    let name = c.args.name.now in
+    let agrees = g.T.Tree.agrees c.first_module.new.tree in
+    IfOk-weaker c.first_module.result
+    (λ r. Shows agrees (λ files listings. option_map version_of r ≡ find (is_module_in files dir name) (map (λ v. v.now) c.deref.result.now)))
+    (λ r. Shows agrees (λ files listings. IsGreatestOf files listings dir name (option_map version_of r)))
+    (λ r h files listings agree.
+    greatest_is files listings dir name (map string_bytes c.args.entries.now) (c.requires files listings (c.first_module.ensures.before files listings agree))
+    (λ v. v.now) c.in_ok-versions.versions.items c.sort_down.new.versions.items c.in_ok-versions.ensures c.in_ok-sort_down.ensures.same c.in_ok-sort_down.ensures.sorted (option_map version_of r)
+    (h files listings agree ∙ ap (λ vs. find (is_module_in files dir name) (map (λ v. v.now) vs)) c.deref.ensures.value))
+    c.first_module.ensures.answer
