@@ -1,8 +1,8 @@
 -- What is left where an answer is written.
-use Rattle.std.proofs.Common.{◌≡◌, ◌⊎◌, ◌++◌, List, [], ◌∷◌, map, string_bytes, Option, Result, Ok, Err, subst, sym, ap, refl, inl, inr}
+use Rattle.std.proofs.Common.{◌≡◌, ◌⊎◌, ◌++◌, List, [], ◌∷◌, map, string_bytes, Option, subst, ap, refl, inl, inr}
 use Rattle.std.specs.List.{flat_map}
-use Rattle.std.specs.Io.KnownBytes.{Keeps, Appends}
-use Rattle.lookup.specs.Agreement.{Files, Listings, Shows}
+use Rattle.std.specs.Io.KnownBytes.{Keeps}
+use Rattle.lookup.specs.Agreement.{Files, Listings}
 use Rattle.environment.specs.Texts.{Text}
 use Rattle.environment.specs.Environment.{Environment}
 use Rattle.modulecmd.specs.declared.ends.Exit.{Exit}
@@ -10,7 +10,6 @@ use Rattle.modulecmd.specs.declared.ends.Exit.TheVariants.{Success, Told, CutSho
 use Rattle.modulecmd.specs.declared.refuse.CommandFault.{CommandFault}
 use Rattle.modulecmd.specs.declared.refuse.CommandFault.TheVariants.{WriteFailed}
 use Rattle.modulecmd.specs.declared.command.Answer.{Answer}
-use Rattle.modulecmd.specs.Command.{Effect}
 use Rattle.modulecmd.specs.Output.{BreaksOff, Ends, Finishes, IsAnswer, Outcomes, WritesFault, said}
 use Rattle.modulecmd.specs.Words.{effect_in, words_of}
 use Rattle.modulecmd.specs.Writing.{AppendsPart}

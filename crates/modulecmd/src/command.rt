@@ -1,13 +1,12 @@
 //! One command: the words in, the text and the messages out.
-ghost use Rattle.std.specs.Prelude.{◌≡◌, ◌<◌, ◌≤◌, ◌⊎◌, ◌++◌, [], map, Ok, Err, IfOk, IfErr, OnOk, OnErr, string_bytes};
+ghost use Rattle.std.specs.Prelude.{◌≡◌, ◌<◌, ◌≤◌, ◌⊎◌, [], map, Ok, Err, IfOk, IfErr, OnOk, OnErr, string_bytes};
 ghost use Rattle.std.specs.Io.KnownBytes.{Keeps, Appends};
 ghost use Rattle.lookup.specs.Agreement.{Narrows};
 ghost use Rattle.requests.specs.RequestViews.{request_view};
-ghost use Rattle.modulesteps.specs.Views.{done_view};
 ghost use Rattle.modulecmd.specs.declared.ends.Exit.{Exit};
 ghost use Rattle.modulecmd.specs.Command as spec;
 ghost use Rattle.modulecmd.specs.Command.{Does, HasReason};
-ghost use Rattle.modulecmd.specs.Output.{Ends, Finishes, IsAnswer, IsRefused, WritesFault, said, status_of};
+ghost use Rattle.modulecmd.specs.Output.{Ends, Finishes, IsAnswer, IsRefused, WritesFault, status_of};
 ghost use Rattle.modulecmd.specs.Words.{effect_in, words_of};
 ghost use Rattle.modulecmd.specs.Writing.{AppendsPart};
 

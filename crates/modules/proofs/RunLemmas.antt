@@ -2,7 +2,6 @@
 use Rattle.std.proofs.Common.{◌≡◌, List, [], ◌∷◌, ◌++◌, sym, subst, ap, refl, ◌∙◌}
 use Rattle.environment.specs.Environment.{Environment}
 use Rattle.environment.specs.Changes.{Edit, AreChanges, applied}
-use Rattle.environment.specs.Texts.{Text}
 use Rattle.modulerecords.specs.Moves.{Move, Loads, Unloads, loaded_names}
 
 -- what differs, written over the old environment, gives the new one

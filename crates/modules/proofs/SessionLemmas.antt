@@ -1,9 +1,7 @@
 -- Sessions grow by one request at their end.
-use Rattle.std.proofs.Common.{◌≡◌, ℕ, ◌+◌, ◌-◌, ◌≤◌, ◌<◌, List, [], ◌∷◌, ◌++◌, map, length, take, drop, get_or, refl, sym, subst, ap, ◌∙◌, Result, Ok, Err, append_assoc, append-nil, arith}
+use Rattle.std.proofs.Common.{◌≡◌, ℕ, ◌+◌, ◌-◌, ◌≤◌, ◌<◌, List, [], ◌∷◌, ◌++◌, map, length, take, drop, get_or, refl, sym, subst, ap, ◌∙◌, Ok, Err, append_assoc, append-nil, arith}
 use Rattle.std.proofs.lemmas.List.{take_all}
-use Rattle.environment.specs.Texts.{Text}
 use Rattle.environment.specs.Environment.{Environment}
-use Rattle.modulerecords.specs.Moves.{made}
 use Rattle.requests.specs.Laws.{SessionsReturn, StepsAreMade}
 use Rattle.requests.specs.Reasons.{RequestReason}
 use Rattle.requests.specs.RequestViews.{request_view}
@@ -13,13 +11,11 @@ use Rattle.requests.specs.Returning.{AreNew, AreFitting}
 use Rattle.requests.specs.Sessions as sessions
 use Rattle.requests.specs.Sessions.{Response, Session, IsResponse, env_after, in_shell, session_moves}
 use Rattle.requests.specs.Steps.{Site, Step}
-use Rattle.reversal.specs.Ways.{Way}
-use Rattle.reversal.specs.Standing.{IsStart}
 use Rattle.lookup.specs.Agreement.{Files, Listings, Shows}
 use Rattle.lookup.specs.Causes.{Cause, Applies, memory, device, because}
 use Rattle.modulesteps.specs.Answers.{cause_of}
 use Rattle.modulesteps.specs.declared.refusal.Refusal.{Refusal}
-use Rattle.modulesteps.specs.Views.{done_view, move_view}
+use Rattle.modulesteps.specs.Views.{done_view}
 use Rattle.modulesteps.specs.declared.done.Done.{Done}
 use Rattle.modules.specs.declared.sessions.Outcome.{Outcome}
 use Rattle.modules.specs.declared.sessions.Outcome.TheVariants.{Accepted, Refused}

@@ -2,7 +2,7 @@
 use Rattle.std.specs.Prelude.{◌≡◌, ℕ, ◌+◌, List, [], ◌∷◌, ◌++◌, map, Result, Ok, Err}
 use Rattle.environment.specs.Texts.{Text}
 use Rattle.environment.specs.Environment.{Environment}
-use Rattle.modulerecords.specs.Moves.{Move, made}
+use Rattle.modulerecords.specs.Moves.{made}
 use Rattle.reversal.specs.Ways.{Way}
 use Rattle.reversal.specs.Standing.{IsStart}
 use Rattle.reversal.specs.Runs.{live_after}

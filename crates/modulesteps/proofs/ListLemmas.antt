@@ -1,5 +1,5 @@
 -- Lists of values of the code, and what is found in them.
-use Rattle.std.proofs.Common.{◌≡◌, ℕ, ◌+◌, ◌<◌, length, get_or, take, append_assoc, Bor, Bool, true, false, cond, ◌||◌, List, [], ◌∷◌, ◌++◌, map, reverse, find, Option, Some, None, refl, sym, ap, ◌∙◌}
+use Rattle.std.proofs.Common.{◌≡◌, ℕ, ◌+◌, ◌<◌, length, get_or, take, Bor, Bool, true, false, cond, ◌||◌, List, [], ◌∷◌, ◌++◌, map, reverse, find, Option, Some, None, refl, sym, ap, ◌∙◌}
 use Rattle.std.specs.List.{list_any}
 use Rattle.std.proofs.lemmas.List.{reverse-append, take_more}
 use Rattle.std.specs.Option.{option_map}

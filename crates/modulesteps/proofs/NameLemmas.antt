@@ -1,10 +1,10 @@
 -- What is done for one name, by what its parts answered.
-use Rattle.std.proofs.Common.{◌≡◌, Bool, true, false, List, Option, Some, None, Result, Ok, Err, refl, sym, subst}
+use Rattle.std.proofs.Common.{◌≡◌, Bool, true, false, List, Option, Result, Ok, Err, refl, subst}
 use Rattle.modulename.specs.ModuleName.{is_module_name}
 use Rattle.environment.specs.Texts.{Text, has}
 use Rattle.loadedlist.specs.Loaded.{Entry, names_of}
 use Rattle.lookup.specs.Search.{modulefile}
-use Rattle.relations.specs.Relations.{Is, If, Then}
+use Rattle.relations.specs.Relations.{Is, Then}
 use Rattle.modulerecords.specs.Effects as modes
 use Rattle.modulefile.specs.Files.{Ran, Runs}
 use Rattle.modulesearch.specs.Found as search

@@ -1,29 +1,29 @@
 -- A request's step, by what its parts answered.
 use Rattle.std.proofs.Common.{◌≡◌, Bool, true, false, List, [], ◌∷◌, Option, Some, None, IfSome, Result, Ok, Err, refl, sym, ap, ◌∙◌, subst}
-use Rattle.environment.specs.Texts.{Text, has}
+use Rattle.environment.specs.Texts.{Text}
 use Rattle.environment.specs.Environment.{Environment}
 use Rattle.environment.specs.Reasons.{EnvReason}
-use Rattle.loadedlist.specs.Loaded.{Entry, names_of, dropped_loaded}
+use Rattle.loadedlist.specs.Loaded.{Entry, dropped_loaded}
 use Rattle.lookup.specs.Agreement.{Files, Listings, Shows}
 use Rattle.lookup.specs.Causes.{Cause, Applies, memory, device, because}
 use Rattle.tclrules.specs.declared.limits.Limits.{Limits}
 use Rattle.tclrules.specs.Derivation.{Outcome, Ended, Halted}
 use Rattle.tclrules.specs.Plans.{Ending, Normal, Raised, Returned, Broken, Continued}
 use Rattle.tclrules.specs.Oracle.{Told}
-use Rattle.relations.specs.Relations.{If, Is, Then}
+use Rattle.relations.specs.Relations.{If}
 use Rattle.modulerecords.specs.Records.{Record}
 use Rattle.modulerecords.specs.Judgments.{RecordReason, bad_edit, record_reason}
-use Rattle.modulerecords.specs.Effects.{Mode, load, unload, display, whatis, effects, and_then, permitted, by_edit}
+use Rattle.modulerecords.specs.Effects.{load, unload, display, whatis, effects, and_then, permitted, by_edit}
 use Rattle.modulerecords.specs.Moves.{Module, Loads, Unloads, listed}
 use Rattle.modulefile.specs.Results.{◌>>=◌}
 use Rattle.modulefile.specs.Calls.{CallReason}
 use Rattle.modulefile.specs.Answers.{Context, by_record, records_in}
-use Rattle.modulefile.specs.Files.{Ran, Stop, Runs, Finishes, ran_of}
+use Rattle.modulefile.specs.Files.{Ran, Stop, Runs, Finishes}
 use Rattle.modulesearch.specs.Reasons as search
 use Rattle.requests.specs.Reasons.{RequestReason, missed, stopped, refused_edit}
 use Rattle.requests.specs.Refusals.{refused_as, unless, RefusedAs}
 use Rattle.requests.specs.Conditions.{load_objection}
-use Rattle.requests.specs.Steps.{Site, Done, moved_on, went, joins}
+use Rattle.requests.specs.Steps.{Done, moved_on, went, joins}
 use Rattle.modulesteps.specs.declared.refusal.Refusal.{Refusal}
 use Rattle.modulesteps.specs.Answers.{Gives, Tells, by_reason, by_search, cause_of}
 use Rattle.modulesteps.specs.declared.files.Topic.{Topic}

@@ -1,23 +1,18 @@
 -- How the answers of a request show what the definitions say.
-use Rattle.std.specs.Prelude.{ℕ, codes, Option, Some, None, Result, Ok, Err, string_bytes}
-use Rattle.environment.specs.Texts.{Text, texts_in}
-use Rattle.environment.specs.Reasons.{EnvReason, reason_of}
-use Rattle.environment.specs.Reasons.{message_of as edit_message}
-use Rattle.environment.specs.Reasons.{number_of as edit_number}
+use Rattle.std.specs.Prelude.{Option, Some, None, Result, Ok, Err, string_bytes}
+use Rattle.environment.specs.Texts.{texts_in}
+use Rattle.environment.specs.Reasons.{reason_of}
 use Rattle.lookup.specs.Agreement.{Files, Listings}
-use Rattle.lookup.specs.Answers.{find_message, find_number}
 use Rattle.lookup.specs.Causes as causes
 use Rattle.lookup.specs.Causes.{Cause, Applies, memory, device, because}
 use Rattle.lookup.specs.declared.search.FindFault.TheVariants as finds
 use Rattle.lookup.specs.declared.tree.TreeFault.{TreeFault}
 use Rattle.lookup.specs.declared.tree.TreeFault.TheVariants as trees
-use Rattle.message.specs.Messages.{quoting}
 use Rattle.modulerecords.specs.Judgments.{bad_edit}
-use Rattle.modulefile.specs.Files.{Stop}
 use Rattle.modulefind.specs.Answers.{cause_of as find_cause}
 use Rattle.modulerun.specs.Running.{stop_of}
 use Rattle.modulesearch.specs.Reasons as search
-use Rattle.requests.specs.Reasons.{RequestReason, bad_arguments, unknown_subcommand, missed, file_gone, not_a_modulefile, stopped, conflict_with, prereq_missing, still_needed_by, refused_edit}
+use Rattle.requests.specs.Reasons.{RequestReason, missed, file_gone, not_a_modulefile, stopped, conflict_with, prereq_missing, still_needed_by, refused_edit}
 use Rattle.requests.specs.RequestViews.{reason_of as request_reason}
 use Rattle.modulesteps.specs.declared.refusal.Refusal.{Refusal}
 use Rattle.modulesteps.specs.declared.refusal.Refusal.TheVariants as refusals

@@ -1,5 +1,5 @@
 -- The parts of a step, for this crate's own contracts.
-use Rattle.std.specs.Prelude.{false, List, map, Option, Result, Ok, Err}
+use Rattle.std.specs.Prelude.{false, List, map, Option, Result, Ok}
 use Rattle.std.specs.Option.{option_map, option_or}
 use Rattle.std.specs.declared.vec.Vec.{Vec}
 use Rattle.std.specs.declared.alloc.Global.{Global}

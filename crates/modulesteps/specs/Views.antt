@@ -1,9 +1,8 @@
 -- What values of the program are, as the definitions see them.
-use Rattle.std.specs.Prelude.{List, map, string_bytes}
-use Rattle.environment.specs.Texts.{Text, texts_in}
+use Rattle.std.specs.Prelude.{map, string_bytes}
+use Rattle.environment.specs.Texts.{texts_in}
 use Rattle.environment.specs.Environment.{Environment}
 use Rattle.lookup.specs.Agreement.{Files, Listings}
-use Rattle.loadedlist.specs.Loaded.{Entry}
 use Rattle.modulerecords.specs.Moves as moves
 use Rattle.modulefile.specs.RecordViews.{record_view}
 use Rattle.requests.specs.Steps as steps

@@ -1,5 +1,5 @@
 //! What a request has done.
-ghost use Rattle.std.specs.Prelude.{◌≡◌, ◌++◌, [], ◌∷◌, IfOk, OnOk, map, string_bytes};
+ghost use Rattle.std.specs.Prelude.{◌≡◌, OnOk};
 ghost use Rattle.environment.specs.Environment.{Environment};
 ghost use Rattle.environment.specs.Texts.{texts_in};
 ghost use Rattle.requests.specs.Steps.{begun, moved_on, reported};

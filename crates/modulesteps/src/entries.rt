@@ -2,7 +2,7 @@
 ghost use Rattle.std.specs.Prelude.{◌≡◌, ◌++◌, [], ◌∷◌, map, IfOk, OnOk, Ok, string_bytes};
 ghost use Rattle.environment.specs.Texts.{shown, texts_in};
 ghost use Rattle.environment.specs.Fields.{firsts};
-ghost use Rattle.loadedlist.specs.Loaded.{names_of, added_loaded};
+ghost use Rattle.loadedlist.specs.Loaded.{names_of};
 ghost use Rattle.loadedlist.specs.LoadedEntries.{entry_of};
 ghost use Rattle.relations.specs.Relations.{Is};
 ghost use Rattle.modulerecords.specs.Records.{conflict_names, prereq_groups};

@@ -1,7 +1,5 @@
 //! Why a request is refused.
 ghost use Rattle.std.specs.Prelude.{◌≡◌, Some};
-ghost use Rattle.std.specs.List.{join_with_byte};
-ghost use Rattle.environment.specs.Texts.{texts_in};
 ghost use Rattle.message.specs.Messages.{text_of};
 ghost use Rattle.modulesteps.specs.declared.refusal.Refusal.TheVariants as refusals;
 ghost use Rattle.modulesteps.specs.Answers.{refused_read};

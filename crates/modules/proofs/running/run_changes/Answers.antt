@@ -1,4 +1,4 @@
-use Rattle.std.proofs.Common.{◌≡◌, Ok, subst, ◌∙◌}
+use Rattle.std.proofs.Common.{Ok, subst, ◌∙◌}
 use Rattle.environment.specs.Environment.{Environment}
 use Rattle.environment.specs.Changes.{edits_in}
 use Rattle.requests.specs.RequestViews.{asked_view}

@@ -1,4 +1,4 @@
-use Rattle.std.proofs.Common.{◌≡◌, [], List, map, string_bytes, Ok, Err, refl, ap, ◌∙◌, subst}
+use Rattle.std.proofs.Common.{[], List, map, string_bytes, Ok, ap, ◌∙◌, subst}
 use Rattle.environment.specs.Texts.{Text}
 use Rattle.modulesearch.specs.Listed.{Listed, Listing}
 use Rattle.modulelist.specs.Listings.{listing_view}

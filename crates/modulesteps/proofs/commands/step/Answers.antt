@@ -1,7 +1,7 @@
 use Rattle.std.proofs.Common.{◌<◌, map, string_bytes, String, sym, subst}
 use Rattle.std.specs.declared.alloc.Global.{Global}
 use Rattle.requests.specs.RequestViews.{asked_view}
-use Rattle.requests.specs.Steps.{Site, Each, Named, Changes, Step}
+use Rattle.requests.specs.Steps.{Each, Named, Changes, Step}
 use Rattle.modulesteps.specs.declared.done.Terms.{Terms}
 use Rattle.modulesteps.specs.declared.done.Done.{Done}
 use Rattle.modulesteps.specs.declared.commands.Doing.TheVariants.{Load, Unload}

@@ -1,22 +1,10 @@
-use Rattle.std.proofs.Common.{◌≡◌, ◌<◌, ◌≤◌, true, false, List, map, reverse, string_bytes, String, Some, Result, Ok, Err, refl, sym, ap, ◌∙◌, subst, arith}
+use Rattle.std.proofs.Common.{◌<◌, true, Some, Result, Ok, Err, refl, arith}
 use Rattle.std.proofs.lemmas.Result.{err_from_is_err_and}
-use Rattle.std.specs.declared.alloc.Global.{Global}
-use Rattle.std.specs.Option.{option_map}
-use Rattle.environment.specs.Texts.{Text, texts_in}
-use Rattle.loadedlist.specs.Loaded.{names_of}
-use Rattle.loadedlist.specs.LoadedEntries.{entry_of}
-use Rattle.loadedlist.specs.declared.entry.Loaded.{Loaded}
-use Rattle.relations.specs.Relations.{Is, Then}
-use Rattle.requests.specs.Reasons.{RequestReason}
 use Rattle.requests.specs.Requests as asked
 use Rattle.requests.specs.Steps as steps
-use Rattle.requests.specs.Steps.{begun, entries_of, Each, Ends, Named, Changes, Step, LoadsName, UnloadsName, Switches}
-use Rattle.modulesteps.specs.declared.done.Done.{Done}
-use Rattle.modulesteps.specs.declared.commands.Doing.TheVariants.{Unload}
+use Rattle.requests.specs.Steps.{LoadsName, UnloadsName, Switches}
 use Rattle.modulesteps.specs.Views.{site_of, done_view}
-use Rattle.modulesteps.specs.Parts.{Does, entries_view, topic_mode, topic_text}
-use Rattle.modulesteps.proofs.StepLemmas.{tells_same, tells_refused, gives_refused, gives_tells}
-use Rattle.modulesteps.proofs.EachLemmas.{named_some}
+use Rattle.modulesteps.proofs.StepLemmas.{tells_same, tells_refused}
 use Rattle.modulesteps.proofs.commands.switch_names.Goals as goal
 
 pub returns-in_err-unload_name-clause-told : goal.returns-in_err-unload_name-clause-told

@@ -1,18 +1,10 @@
-use Rattle.std.proofs.Common.{rules, tests, not, ◌&&◌, string_bytes, bytes_eq, ◌∙◌, ap}
-use Rattle.std.specs.List.{list_any}
-use Rattle.std.proofs.lemmas.Iterator.Search.{any_from_yields_List, find_from_yields_List}
+use Rattle.std.proofs.Common.{rules, tests, string_bytes, bytes_eq, ◌∙◌}
+use Rattle.std.proofs.lemmas.Iterator.Search.{any_from_yields_List}
 use Rattle.std.proofs.lemmas.Iterator.{YieldsList-from_slice}
-use Rattle.std.proofs.lemmas.Iterator.Adapters.{YieldsList-from_rev_slice}
-use Rattle.modulename.specs.ModuleName.{means}
-use Rattle.environment.specs.Texts.{Text, texts_in}
 use Rattle.loadedlist.specs.Loaded.{Entry}
 use Rattle.loadedlist.specs.LoadedEntries.{entry_of}
 use Rattle.loadedlist.specs.declared.entry.Loaded.{Loaded}
-use Rattle.std.specs.declared.vec.Vec.{Vec}
-use Rattle.std.specs.declared.string.String.{String}
-use Rattle.std.specs.declared.alloc.Global.{Global}
-use Rattle.requests.specs.Conditions.{is_met, has_lost}
-use Rattle.modulesteps.proofs.ListLemmas.{any_seen, find_seen, map-reverse}
+use Rattle.modulesteps.proofs.ListLemmas.{any_seen}
 use Rattle.modulesteps.proofs.conditions.is_loaded.Goals as goal
 
 pub returns : goal.returns

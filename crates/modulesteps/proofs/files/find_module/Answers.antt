@@ -1,6 +1,5 @@
 use Rattle.std.proofs.Common.{◌<◌, Ok, Err, refl, subst}
 use Rattle.std.proofs.lemmas.Result.{err_from_is_err_and}
-use Rattle.lookup.specs.Agreement.{Shows}
 use Rattle.defaultfiles.specs.Leaves.{Leaves}
 use Rattle.modulesearch.specs.Found.{Found}
 use Rattle.modulefind.specs.Answers.{cause_of, found_view}

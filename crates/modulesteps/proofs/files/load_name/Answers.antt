@@ -1,28 +1,16 @@
-use Rattle.std.proofs.Common.{◌≡◌, ◌<◌, false, List, map, string_bytes, Result, Ok, Err, IfSome, refl, sym, ap, ◌∙◌, subst}
+use Rattle.std.proofs.Common.{◌≡◌, ◌<◌, false, List, map, Result, sym, ap, ◌∙◌}
 use Rattle.std.proofs.lemmas.Result.{err_from_is_err_and}
-use Rattle.environment.specs.Texts.{Text, has, shown, texts_in}
-use Rattle.environment.specs.Environment.{Environment}
-use Rattle.environment.specs.Reasons.{EnvReason, reason_of}
-use Rattle.loadedlist.specs.Loaded.{names_of, dropped_loaded}
+use Rattle.environment.specs.Texts.{has}
+use Rattle.loadedlist.specs.Loaded.{names_of}
 use Rattle.loadedlist.specs.LoadedEntries.{entry_of}
 use Rattle.loadedlist.specs.declared.entry.Loaded.{Loaded}
-use Rattle.modulerecords.specs.Records.{conflict_names, prereq_groups}
 use Rattle.modulerecords.specs.Effects as modes
-use Rattle.modulerecords.specs.Moves.{Loads, Unloads}
-use Rattle.modulefile.specs.RecordViews.{mode_view, record_view}
-use Rattle.modulefile.specs.declared.records.Record.{Record}
-use Rattle.modulefile.specs.Files.{Stop, Runs}
 use Rattle.modulefind.specs.Answers.{found_view}
-use Rattle.modulerun.specs.Running.{ran_view, stop_of}
-use Rattle.requests.specs.Reasons.{RequestReason, stopped}
-use Rattle.requests.specs.Refusals.{RefusedAs, unless}
 use Rattle.requests.specs.Steps as steps
-use Rattle.requests.specs.Steps.{Finds, LoadsFound, LoadsName, UnloadsEntry, ShowsName, module_of, moved_on, reported}
-use Rattle.modulesteps.specs.Views.{site_of, done_view, module_view}
-use Rattle.modulesteps.specs.Answers.{cause_of}
-use Rattle.modulesteps.specs.Parts.{added, objection, context_among, file_context, UnloadsBy, ReportsFound, topic_mode, topic_text}
-use Rattle.modulesteps.proofs.StepLemmas.{stands_as, gives_tells, tells_refused, run_refused, run_made, judged, objection_same, edit_refused, unloaded_as, topic_same, joins_ok, joins_refused, unloads_so}
-use Rattle.modulesteps.proofs.NameLemmas.{loads_unfound, loads_found, found_stopped, found_joins}
+use Rattle.requests.specs.Steps.{Finds, LoadsFound, LoadsName}
+use Rattle.modulesteps.specs.Views.{site_of, done_view}
+use Rattle.modulesteps.proofs.StepLemmas.{gives_tells, tells_refused}
+use Rattle.modulesteps.proofs.NameLemmas.{loads_unfound, loads_found}
 use Rattle.modulesteps.proofs.files.load_name.Goals as goal
 
 pub returns-in_err-found-clause-told : goal.returns-in_err-found-clause-told
