@@ -10,6 +10,7 @@ use Rattle.reversal.specs.Laws.{Holds}
 use Rattle.requests.specs.Sessions as sessions
 use Rattle.requests.specs.Sessions.{Response, accepted, refused, given_up, env_after, session_moves}
 use Rattle.requests.specs.Returning.{AreNew, AreFitting}
+use Rattle.requests.specs.Reasons.{RequestReason}
 use Rattle.lookup.specs.Causes.{Cause, memory, device, because}
 use Rattle.modulesteps.specs.Answers.{cause_of}
 use Rattle.modulesteps.specs.Views.{done_view, move_view}
