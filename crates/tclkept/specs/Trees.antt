@@ -1,6 +1,6 @@
 -- Texts that are kept, each with its tree, in the order of their coming.
 use Rattle.std.specs.Prelude.{◌≡◌, ℕ, ◌+◌, ◌≤◌, List, [], ◌∷◌, ◌++◌, Bool, true, false, ◌||◌, nat_lt, length, map, bytes_eq, Option, Some, None, Result, Ok, Err}
-use Rattle.std.specs.List.{IsDistinct, position, sum_by}
+use Rattle.std.specs.List.{Contains, IsDistinct, position, sum_by}
 use Rattle.tclchars.specs.Runs.{Text}
 use Rattle.tclchars.specs.Whole.{FailsWith}
 use Rattle.tclchars.specs.declared.fault.TextFault.{TextFault}
@@ -45,6 +45,12 @@ pub record Answers {T : Type 0} (read : Text → Result T TextFault) (old : Tree
   -- one that would pass a limit isn't kept, and isn't read
   pub full : place_of old t ≡ None → is_full old t ≡ true → (result ≡ Ok None) × (new ≡ old)
   pub added : place_of old t ≡ None → is_full old t ≡ false → Adds read old t result new
+
+-- what is kept once a text's tree was asked for. Of a text that is there the tree is that which is kept
+pub record Keeps {T : Type 0} (old : Trees T) (t : Text) (tree : T) (new : Trees T) : Type 0 where
+  pub there : (place : ℕ) → place_of old t ≡ Some place → Contains old (t, tree) × (new ≡ old)
+  pub full : place_of old t ≡ None → is_full old t ≡ true → new ≡ old
+  pub added : place_of old t ≡ None → is_full old t ≡ false → new ≡ old ++ (t, tree) ∷ []
 
 -- distinct texts within the limits
 pub record AreLimited {T : Type 0} (es : Trees T) : Type 0 where

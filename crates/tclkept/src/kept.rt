@@ -5,7 +5,7 @@ ghost use Rattle.tclscript.specs.Text.{script_of};
 ghost use Rattle.tclscript.specs.Owned as script;
 ghost use Rattle.tclexpr.specs.Text.{expr_of};
 ghost use Rattle.tclexpr.specs.Owned as expression;
-ghost use Rattle.tclkept.specs.Trees.{Answers, place_of, is_full};
+ghost use Rattle.tclkept.specs.Trees.{Answers, Keeps, place_of, is_full};
 ghost use Rattle.tclkept.specs.Kept.{AreKept, BeginWith, scripts_of, expressions_of};
 
 use crate::parsed::{parsed_expr, parsed_script, shared};
@@ -105,6 +105,8 @@ impl Kept {
     pub fn script_tree(&mut self, text: &str) -> Result<Rc<OwnedScript>, TextFault>
         ensures text { IfOk result (λ tree. string_bytes tree.value.text ≡ text.now) }
         ensures tree { Reads (λ tree. script.owned_view tree.value) result (script_of text.now) }
+        ensures keeps { IfOk result (λ tree. Keeps self.old.scripts text.now tree.value self.new.scripts) }
+        ensures others { self.new.expressions ≡ self.old.expressions }
         ensures begins { BeginWith self.old self.new }
         ensures err { OnErr result (self.new ≡ self.old) }
         ensures kept { AreKept self.new }
@@ -167,6 +169,8 @@ impl Kept {
     pub fn expr_tree(&mut self, text: &str) -> Result<Rc<OwnedExpr>, TextFault>
         ensures text { IfOk result (λ tree. string_bytes tree.value.text ≡ text.now) }
         ensures tree { Reads (λ tree. expression.owned_view tree.value) result (expr_of text.now) }
+        ensures keeps { IfOk result (λ tree. Keeps self.old.expressions text.now tree.value self.new.expressions) }
+        ensures others { self.new.scripts ≡ self.old.scripts }
         ensures begins { BeginWith self.old self.new }
         ensures err { OnErr result (self.new ≡ self.old) }
         ensures kept { AreKept self.new }

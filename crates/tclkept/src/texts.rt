@@ -1,5 +1,5 @@
 //! Texts in the order of their coming, each with what was made of it.
-ghost use Rattle.std.specs.Prelude.{◌≡◌, [], ◌∷◌, ◌++◌, false, length, None, IfOk, IfSome, IsNone, OnOk, OnErr};
+ghost use Rattle.std.specs.Prelude.{◌≡◌, [], ◌∷◌, ◌++◌, false, length, ℕ, None, Some, IfOk, IfSome, IsNone, OnOk, OnErr};
 ghost use Rattle.std.specs.List.{Contains};
 ghost use Rattle.tclkept.specs.Trees.{AreLimited, is_full, place_of};
 
@@ -62,6 +62,7 @@ impl<T: Drop> Texts<T> {
     /// What was made of a text.
     pub(crate) fn made_of(&self, text: &str) -> Option<&Rc<T>>
         ensures found { IfSome result (λ made. Contains self.now (text.now, made.now.value)) }
+        ensures there { IfSome result (λ _. (place : ℕ) × (place_of self.now text.now ≡ Some place)) }
         ensures none { IsNone result → place_of self.now text.now ≡ None }
     {
         match self.made.get_full(text) {
