@@ -219,16 +219,15 @@ ok_fit (Ok t) b x y e h k = k ∙ (rw h at e)
 ok_fit (Err t) b x y e h k = k
 
 -- the list that the four texts say
-pub read_is : {S : Type 0} (e : Environment) (names files cs ps : List (Bor Text)) (conflicts prereqs : IndexMap (Bor Text) (Bor Text) S) (b : Bool) (entries : List Entry)
+pub read_is : (e : Environment) (names files cs ps : List (Bor Text)) (b : Bool) (entries : List Entry)
     → shown names ≡ elements_in (lookup e names_variable) → shown files ≡ elements_in (lookup e files_variable)
     → shown cs ≡ elements_in (lookup e conflicts_variable) → shown ps ≡ elements_in (lookup e prereqs_variable)
     → b ≡ are_consistent (shown names) (shown files) → b ≡ true
-    → ((x : Text) → element_in conflicts x ≡ first_element x (shown cs)) → ((x : Text) → element_in prereqs x ≡ first_element x (shown ps))
-    → entries ≡ entries_from (element_in conflicts) (element_in prereqs) (shown names) (shown files)
+    → entries ≡ entries_from (λ x. first_element x (shown cs)) (λ x. first_element x (shown ps)) (shown names) (shown files)
     → loaded_in e ≡ Some entries
-read_is e names files cs ps conflicts prereqs b entries n f c p t y h k l =
+read_is e names files cs ps b entries n f c p t y l =
     let fit : are_consistent (elements_in (lookup e names_variable)) (elements_in (lookup e files_variable)) ≡ true = rw (← n, ← f) (sym t ∙ y) in
     let same : entries_from (first_in (lookup e conflicts_variable)) (first_in (lookup e prereqs_variable)) (elements_in (lookup e names_variable)) (elements_in (lookup e files_variable)) ≡ entries =
-    rw (← n, ← f) (sym (l ∙ same_entries _ _ _ _ (shown names) (shown files) (λ x. h x ∙ ap (first_element x) c) (λ x. k x ∙ ap (first_element x) p))) in
+    rw (← n, ← f) (sym (l ∙ same_entries _ _ _ _ (shown names) (shown files) (λ x. ap (first_element x) c) (λ x. ap (first_element x) p))) in
     ap (λ (t : Bool). if t then Some (entries_from (first_in (lookup e conflicts_variable)) (first_in (lookup e prereqs_variable)) (elements_in (lookup e names_variable)) (elements_in (lookup e files_variable))) else None) fit
     ∙ ap Some same

@@ -210,6 +210,22 @@ fn entries(
     Ok(entries)
 }
 
+/// An entry for each name with its file, and with what the first elements of its module say.
+fn entries_said(
+    alloc: Global,
+    names: &[&str],
+    files: &[&str],
+    conflicts: &[&str],
+    prereqs: &[&str],
+) -> Result<Vec<Loaded>, AllocError>
+    ensures { IfOk result (λ v. map entry_of v.items ≡ entries_from (λ name. first_element name (shown conflicts.now))
+        (λ name. first_element name (shown prereqs.now)) (shown names.now) (shown files.now)) }
+{
+    let conflicts = first_elements(alloc, conflicts)?;
+    let prereqs = first_elements(alloc, prereqs)?;
+    entries(alloc, names, files, &conflicts, &prereqs)
+}
+
 /// The loaded modules in load order, as `LOADEDMODULES`, `_LMFILES_`, `__MODULES_LMCONFLICT` and `__MODULES_LMPREREQ`
 /// say them (modulefile(5)).
 ///
@@ -226,14 +242,12 @@ pub fn loaded<V: Vars>(alloc: Global, env: &V) -> Result<Vec<Loaded>, EnvFault>
     }
     let conflicts = elements(alloc, env.get(CONFLICTS))?;
     let prereqs = elements(alloc, env.get(PREREQS))?;
-    let conflicts = first_elements(alloc, conflicts.as_slice())?;
-    let prereqs = first_elements(alloc, prereqs.as_slice())?;
-    let entries = entries(
+    let entries = entries_said(
         alloc,
         names.as_slice(),
         files.as_slice(),
-        &conflicts,
-        &prereqs,
+        conflicts.as_slice(),
+        prereqs.as_slice(),
     )?;
     Ok(entries)
 }
