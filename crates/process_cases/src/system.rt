@@ -35,6 +35,17 @@ pub struct Opened<'a> {
 }
 
 impl<'a> Told<'a> {
+    /// What a word says of these bytes.
+    pub fn by(word: &str, bytes: &'a [u8]) -> Told<'a> {
+        match word {
+            "whole" => Told::Whole(bytes),
+            "broken" => Told::Broken(bytes),
+            "forbidden" => Told::Refused(ErrorKind::PermissionDenied),
+            "missing" => Told::Refused(ErrorKind::NotFound),
+            _ => Told::Refused(ErrorKind::OutOfMemory),
+        }
+    }
+
     fn open(self) -> io::Result<Opened<'a>> {
         match self {
             Told::Whole(left) => Ok(Opened {

@@ -1,0 +1,101 @@
+//! The files and folders of a disk.
+
+use crate::system::{System, Told};
+use crate::texts::bytes_of;
+use crate::trees::{file_text, folder_text};
+use lookup::{DiskTree, Tree, TreeFault};
+use std::alloc::{AllocError, Global};
+use std::os::unix::fs::PermissionsExt;
+use std::{fs, io};
+
+/// Whether a file is answered as before when it is read again.
+fn again_text(disk: &mut DiskTree<HostRuntime>, path: &str) -> Result<&'static str, TreeFault> {
+    let first = disk.read(path)?;
+    let again = disk.read(path)?;
+    Ok(if first.is_some() && first == again {
+        "the same again"
+    } else {
+        "another"
+    })
+}
+
+/// Makes a folder without permission.
+fn make_closed(rt: &HostRuntime, path: &str) -> io::Result<()> {
+    fs::create_dir(rt, path)?;
+    fs::set_permissions(rt, path, fs::Permissions::from_mode(0))
+}
+
+/// Whether the answer is a folder where the system lists it, and else the fault of a device.
+fn is_as_listed(is_listed: bool, answer: Result<Option<Vec<String>>, TreeFault>) -> bool {
+    match answer {
+        Ok(found) => is_listed && found.is_some(),
+        Err(fault) => !is_listed && fault == TreeFault::Device,
+    }
+}
+
+/// Whether the disk lists a folder without permission as the system does: whoever may read everything, as root, lists it.
+fn closed_text(
+    rt: &HostRuntime,
+    disk: &mut DiskTree<HostRuntime>,
+    path: &str,
+) -> io::Result<&'static str> {
+    make_closed(rt, path)?;
+    let is_same = is_as_listed(fs::read_dir(rt, path).is_ok(), disk.entries(path));
+    fs::remove_dir(rt, path)?;
+    Ok(if is_same {
+        "as the system lists it"
+    } else {
+        "another answer"
+    })
+}
+
+/// The answer to `file`, `folder`, `again` or `closed`.
+pub(crate) fn answer(
+    rt: &HostRuntime,
+    disk: &mut DiskTree<HostRuntime>,
+    line: &str,
+) -> io::Result<String> {
+    let alloc = rt.alloc();
+    let (kind, path) = line.split_once(' ').unwrap_or((line, ""));
+    let bytes = bytes_of(alloc, path)?;
+    let path = str::from_utf8(&bytes).unwrap_or("");
+    Ok(match kind {
+        "file" => file_text(alloc, disk.read(path))?,
+        "folder" => folder_text(alloc, disk.entries(path))?,
+        "again" => String::from_str(alloc, again_text(disk, path).unwrap_or("a fault"))?,
+        _ => String::from_str(alloc, closed_text(rt, disk, path)?)?,
+    })
+}
+
+/// What was read, and what was listed.
+fn both_text(
+    alloc: Global,
+    file: Result<Option<Vec<u8>>, TreeFault>,
+    folder: Result<Option<Vec<String>>, TreeFault>,
+) -> Result<String, AllocError> {
+    let mut text = file_text(alloc, file)?;
+    text.push_str(", ")?;
+    text.push_str(&folder_text(alloc, folder)?)?;
+    Ok(text)
+}
+
+/// What a disk answers for the file and the folder of a system that tells them so.
+fn told_text(rt: &HostRuntime, told: Told<'_>) -> Result<String, AllocError> {
+    let system = System {
+        rt,
+        file: told,
+        names: told,
+        environment: b"",
+    };
+    let mut tree = DiskTree::new((system, rt.alloc()));
+    let file = tree.read("/proc/version");
+    let folder = tree.entries("/");
+    both_text(rt.alloc(), file, folder)
+}
+
+/// The answer to a line that tells a system what its file and folder are.
+pub(crate) fn told_answer(rt: &HostRuntime, line: &str) -> Result<String, AllocError> {
+    let (kind, text) = line.split_once(' ').unwrap_or((line, ""));
+    let bytes = bytes_of(rt.alloc(), text)?;
+    told_text(rt, Told::by(kind, &bytes))
+}
