@@ -122,19 +122,35 @@ fn push_answer(text: &mut String, answer: &str) -> Result<(), AllocError> {
     text.push('\n')
 }
 
+/// A call with its answer.
+fn push_call(text: &mut String, call: &str, answer: &str) -> Result<(), AllocError> {
+    text.push_str(call)?;
+    push_answer(text, answer)
+}
+
+/// The calls with their answers.
+fn push_calls(
+    alloc: Global,
+    text: &mut String,
+    env: &mut Env,
+    working: &mut Working<'_>,
+    calls: &[String],
+) -> Result<(), EnvFault> {
+    for call in calls {
+        let answer = answer(alloc, env, working, call.as_str())?;
+        push_call(text, call.as_str(), answer.as_str())?;
+    }
+    Ok(())
+}
+
 /// The calls of a paragraph with their answers, and what they have changed.
 pub(crate) fn answers(alloc: Global, calls: &[String]) -> Result<String, EnvFault> {
     let old = start(alloc, calls)?;
     let mut env = old.copy()?;
     let mut working = Working::over(&old);
     let mut text = String::new(alloc);
-    for call in calls {
-        let answer = answer(alloc, &mut env, &mut working, call.as_str())?;
-        text.push_str(call.as_str())?;
-        push_answer(&mut text, answer.as_str())?;
-    }
+    push_calls(alloc, &mut text, &mut env, &mut working, calls)?;
     let changed = differences(alloc, &old, &env, working)?;
-    text.push_str("changes")?;
-    push_answer(&mut text, changed.as_str())?;
+    push_call(&mut text, "changes", changed.as_str())?;
     Ok(text)
 }

@@ -10,9 +10,11 @@ use anyhow::Result;
 use environment::{Vars, changes};
 use lookup::{MemoryTree, Tree};
 use modulecmd::{
-    CommandFault, environment_of, modulecmd, print_changes, run_command, write_refusal,
+    CommandFault, Exit, environment_of, modulecmd, print_changes, run_command, write_refusal,
 };
-use modules::{Changed, Env, Limits, Refusal, Request, Shell, request, run, run_changes, session};
+use modules::{
+    Change, Changed, Env, Limits, Refusal, Request, Shell, request, run, run_changes, session,
+};
 use std::alloc::Global;
 
 const STANDARD: Limits = Limits {
@@ -88,6 +90,44 @@ fn shown_session<T: Tree>(alloc: Global, line: &str, env: &Env, tree: &mut T) ->
         text.push_str(differences(alloc, difference.as_slice())?.as_str())?;
     }
     Ok(text)
+}
+
+/// Whether these changes are printed so.
+fn says(alloc: Global, shell: Shell, changes: &[Change], out: &str) -> Result<bool> {
+    Ok(print_changes(alloc, shell, changes)?.as_str() == out)
+}
+
+/// Whether the difference of two environments is printed so.
+fn says_difference(alloc: Global, shell: Shell, old: &Env, new: &Env, out: &str) -> Result<bool> {
+    let difference = changes(alloc, old, new)?;
+    says(alloc, shell, difference.as_slice(), out)
+}
+
+/// How a command ended, and what its writers hold.
+fn shown_exit(alloc: Global, exit: Exit, out: &Limited, err: &Limited) -> Result<String> {
+    let out = held(alloc, out.held.as_slice())?;
+    let err = held(alloc, err.held.as_slice())?;
+    let how = exit_name(exit);
+    let status = exit.status();
+    Ok(format!(in alloc; "{how} {status} [{out}] [{err}]\n")?)
+}
+
+/// The refusal of this kind.
+fn fault_named(alloc: Global, kind: &str, word: &str) -> Result<CommandFault> {
+    Ok(match kind {
+        "shell" => CommandFault::UnknownShell(meant(alloc, word)?),
+        "write" => CommandFault::WriteFailed,
+        _ => CommandFault::Refused(Refusal::OutOfMemory),
+    })
+}
+
+/// The line that is written of a refusal, behind its number and whether all was written.
+fn shown_line(alloc: Global, fault: &CommandFault) -> Result<String> {
+    let mut err = Vec::new(alloc);
+    let is_whole = write_refusal(fault, &mut err).is_ok();
+    let number = fault.number();
+    let line = held(alloc, err.as_slice())?;
+    Ok(format!(in alloc; "{number} {is_whole} {line}")?)
 }
 
 impl Session {
@@ -196,20 +236,29 @@ impl Session {
             return Ok("no shell\n");
         };
         let request = request(self.alloc, shell, words)?;
-        let changed = run_changes(self.alloc, &request, &self.env, &mut self.tree, STANDARD)?;
-        let reply = run(self.alloc, &request, &self.env, &mut self.tree, STANDARD)?;
-        let said = print_changes(self.alloc, shell, changed.changes.as_slice())?;
-        let difference = changes(self.alloc, &self.env, &reply.env)?;
-        let by_difference = print_changes(self.alloc, shell, difference.as_slice())?;
-        self.env.apply(changed.changes)?;
-        let left = changes(self.alloc, &self.env, &reply.env)?;
-        if said.as_str() != out {
+        self.follow_request(shell, &request, out)
+    }
+
+    fn follow_request(
+        &mut self,
+        shell: Shell,
+        request: &Request,
+        out: &str,
+    ) -> Result<&'static str> {
+        let reply = run(self.alloc, request, &self.env, &mut self.tree, STANDARD)?;
+        let changed = run_changes(self.alloc, request, &self.env, &mut self.tree, STANDARD)?;
+        if !says(self.alloc, shell, changed.changes.as_slice(), out)? {
             return Ok("run_changes says another text\n");
         }
-        if by_difference.as_str() != out || !left.is_empty() {
+        if !says_difference(self.alloc, shell, &self.env, &reply.env, out)? {
             return Ok("run leaves another environment\n");
         }
-        Ok("")
+        self.env.apply(changed.changes)?;
+        Ok(if changes(self.alloc, &self.env, &reply.env)?.is_empty() {
+            ""
+        } else {
+            "run leaves another environment\n"
+        })
     }
 
     /// What a request for sh changes.
@@ -258,11 +307,7 @@ impl Session {
             &mut out,
             &mut err,
         );
-        let out = held(self.alloc, out.held.as_slice())?;
-        let err = held(self.alloc, err.held.as_slice())?;
-        let how = exit_name(exit);
-        let status = exit.status();
-        Ok(format!(in self.alloc; "{how} {status} [{out}] [{err}]\n")?)
+        shown_exit(self.alloc, exit, &out, &err)
     }
 
     /// Runs a command while each call of its tree in turn fails, up to the first that no call is left for.
@@ -293,16 +338,7 @@ impl Session {
 
     fn refused(&mut self, rest: &str) -> Result<String> {
         let (kind, word) = parted(rest);
-        let word = meant(self.alloc, word)?;
-        let fault = match kind {
-            "shell" => CommandFault::UnknownShell(word),
-            "write" => CommandFault::WriteFailed,
-            _ => CommandFault::Refused(Refusal::OutOfMemory),
-        };
-        let mut err = Vec::new(self.alloc);
-        let is_whole = write_refusal(&fault, &mut err).is_ok();
-        let number = fault.number();
-        let line = held(self.alloc, err.as_slice())?;
-        Ok(format!(in self.alloc; "{number} {is_whole} {line}")?)
+        let fault = fault_named(self.alloc, kind, word)?;
+        shown_line(self.alloc, &fault)
     }
 }

@@ -33,7 +33,7 @@ use std::alloc::{AllocError, Global};
 use tclrules::Limits;
 
 /// What is done for each name.
-#[derive(Clone, Copy, Debug, PartialEq, Eq)]
+#[derive(Clone, Copy)]
 pub(crate) enum Doing {
     Load,
     Unload,

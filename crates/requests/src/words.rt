@@ -59,14 +59,14 @@ fn action_of(alloc: Global, words: &[String]) -> Result<Action, RequestFault>
         return Err(RequestFault::BadArguments);
     };
     match word.as_str() {
-        "load" | "add" => Ok(Action::Load(some_names(alloc, names)?)),
-        "unload" | "rm" => Ok(Action::Unload(some_names(alloc, names)?)),
+        "load" | "add" => some_names(alloc, names).map(Action::Load),
+        "unload" | "rm" => some_names(alloc, names).map(Action::Unload),
         "switch" | "swap" => switch_of(names),
         "purge" => no_names(Action::Purge, names),
         "list" => no_names(Action::List, names),
         "avail" => Ok(Action::Avail(copied(alloc, names)?)),
-        "show" | "display" => Ok(Action::Show(some_names(alloc, names)?)),
-        "whatis" => Ok(Action::Whatis(some_names(alloc, names)?)),
+        "show" | "display" => some_names(alloc, names).map(Action::Show),
+        "whatis" => some_names(alloc, names).map(Action::Whatis),
         other => Err(RequestFault::UnknownSubcommand(String::from_str(alloc, other)?)),
     }
 }

@@ -110,33 +110,44 @@ fn texts(alloc: Global, words: &[&str]) -> Option<Vec<String>> {
     Some(texts)
 }
 
-/// The answer to a case; None where the line is none.
-fn case(alloc: Global, line: &str) -> Option<String> {
-    let mut words = Vec::new(alloc);
-    for word in line.split(' ') {
-        words.push(word).ok()?;
-    }
-    if let ["kept", script, texts @ ..] = words.as_slice() {
-        return places(alloc, script, texts);
-    }
-    let [commands, depth, value_bytes, script, variables @ ..] = words.as_slice() else {
-        return None;
-    };
-    let limits = Limits {
+fn limits(commands: &str, depth: &str, value_bytes: &str) -> Option<Limits> {
+    Some(Limits {
         commands: commands.parse::<u64>().ok()?,
         depth: depth.parse::<u32>().ok()?,
         value_bytes: value_bytes.parse::<usize>().ok()?,
-    };
+    })
+}
+
+/// What came of an evaluation, and what the host was told.
+fn answer(alloc: Global, came: &Result<Ending, EvalFault>, host: &Recorder) -> Option<String> {
+    let mut line = String::new(alloc);
+    match came {
+        Ok(ending) => push_ending(alloc, &mut line, ending)?,
+        Err(fault) => push_fault(alloc, &mut line, fault)?,
+    }
+    push_told(alloc, &mut line, host)?;
+    Some(line)
+}
+
+fn evaluated(alloc: Global, limits: Limits, script: &str, variables: &[&str]) -> Option<String> {
     let script = text_of(alloc, script)?;
     let variables = texts(alloc, variables)?;
     let mut host = recorder(alloc, environment(alloc, &variables)?)?;
-    let mut line = String::new(alloc);
-    match evaluate(alloc, &script, Vec::new(alloc), &mut host, limits) {
-        Ok(ending) => push_ending(alloc, &mut line, &ending)?,
-        Err(fault) => push_fault(alloc, &mut line, &fault)?,
+    let came = evaluate(alloc, &script, Vec::new(alloc), &mut host, limits);
+    answer(alloc, &came, &host)
+}
+
+/// The answer to a case; None where the line is none.
+fn case(alloc: Global, line: &str) -> Option<String> {
+    let words: Vec<&str> = line.split(' ').collect(alloc).ok()?;
+    match words.as_slice() {
+        ["kept", script, texts @ ..] => places(alloc, script, texts),
+        [commands, depth, value_bytes, script, variables @ ..] => {
+            let limits = limits(commands, depth, value_bytes)?;
+            evaluated(alloc, limits, script, variables)
+        }
+        _ => None,
     }
-    push_told(alloc, &mut line, &host)?;
-    Some(line)
 }
 
 /// How far the evaluation goes over which trees are kept.
@@ -158,27 +169,43 @@ fn place(alloc: Global, kept: &mut Kept, kind: &str, text: &str) -> Option<Strin
     }
 }
 
-/// The places of texts among what an evaluation keeps; None where the line is none.
-fn places(alloc: Global, script: &str, texts: &[&str]) -> Option<String> {
+/// What an evaluation keeps.
+fn kept_after(alloc: Global, script: &str) -> Option<Kept> {
     let mut kept = Kept::new(alloc);
     let mut host = recorder(alloc, Vec::new(alloc))?;
-    let script = text_of(alloc, script)?;
-    let _ = evaluate_with(
-        alloc,
-        &mut kept,
-        &script,
-        Vec::new(alloc),
-        &mut host,
-        LIMITS,
-    )
-    .ok()?;
-    let mut line = String::from_str(alloc, "kept").ok()?;
+    let variables = Vec::new(alloc);
+    match evaluate_with(alloc, &mut kept, script, variables, &mut host, LIMITS) {
+        Ok(_) => Some(kept),
+        Err(_) => None,
+    }
+}
+
+fn push_place(
+    alloc: Global,
+    line: &mut String,
+    kept: &mut Kept,
+    kind: &str,
+    text: &str,
+) -> Option<()> {
+    let text = text_of(alloc, text)?;
+    line.push_str(&place(alloc, kept, kind, &text)?).ok()
+}
+
+/// The places of texts among what is kept.
+fn push_places(alloc: Global, line: &mut String, kept: &mut Kept, texts: &[&str]) -> Option<()> {
     let mut rest = texts;
     while let [kind, text, after @ ..] = rest {
-        let text = text_of(alloc, text)?;
-        line.push_str(&place(alloc, &mut kept, kind, &text)?).ok()?;
+        push_place(alloc, line, kept, kind, text)?;
         rest = after;
     }
+    Some(())
+}
+
+/// The places of texts among what an evaluation keeps; None where the line is none.
+fn places(alloc: Global, script: &str, texts: &[&str]) -> Option<String> {
+    let mut kept = kept_after(alloc, &text_of(alloc, script)?)?;
+    let mut line = String::from_str(alloc, "kept").ok()?;
+    push_places(alloc, &mut line, &mut kept, texts)?;
     Some(line)
 }
 

@@ -234,42 +234,62 @@ fn tree_answer(alloc: Global, verb: &str, rest: &str) -> Option<String> {
     }
 }
 
+fn list_answer(alloc: Global, text: &str) -> Option<String> {
+    match parse_list(alloc, text) {
+        Ok(elements) => shown_list(alloc, &elements),
+        Err(fault) => shown_fault(alloc, fault),
+    }
+}
+
+fn script_answer(alloc: Global, text: &str) -> Option<String> {
+    match parse_script(alloc, text) {
+        Ok(script) => shown_script(alloc, &script),
+        Err(fault) => shown_fault(alloc, fault),
+    }
+}
+
+fn expression_answer(alloc: Global, text: &str) -> Option<String> {
+    match parse_expr(alloc, text) {
+        Ok(expression) => shown_expression(alloc, &expression),
+        Err(fault) => shown_fault(alloc, fault),
+    }
+}
+
+/// How many elements a list has.
+fn count_answer(alloc: Global, text: &str) -> Option<String> {
+    let count = parse_list(alloc, text).ok()?.len();
+    format!(in alloc; "{count}").ok()
+}
+
+/// The answer to a call `glob PATTERN TEXT`.
+fn glob_answer(alloc: Global, words: &str) -> Option<String> {
+    let (pattern, text) = words.split_once(' ')?;
+    let matches = glob_match(&text_of(alloc, pattern)?, &text_of(alloc, text)?);
+    String::from_str(alloc, if matches { "1" } else { "0" }).ok()
+}
+
+/// The answer to a call about one text.
+fn text_answer(alloc: Global, verb: &str, text: &str) -> Option<String> {
+    match verb {
+        "list" => list_answer(alloc, text),
+        "script" => script_answer(alloc, text),
+        "expr" => expression_answer(alloc, text),
+        "number" => shown_number(alloc, read_number(text)),
+        "count" => count_answer(alloc, text),
+        _ => None,
+    }
+}
+
 /// The answer to a call; None where the line is none, or memory ran out.
 fn answer(alloc: Global, line: &str) -> Option<String> {
     let (verb, rest) = line.split_once(' ').unwrap_or((line, ""));
     match verb {
-        "list" => match parse_list(alloc, &text_of(alloc, rest)?) {
-            Ok(elements) => shown_list(alloc, &elements),
-            Err(fault) => shown_fault(alloc, fault),
-        },
-        "script" => {
-            let text = text_of(alloc, rest)?;
-            match parse_script(alloc, &text) {
-                Ok(script) => shown_script(alloc, &script),
-                Err(fault) => shown_fault(alloc, fault),
-            }
-        }
         "write" => written(alloc, rest),
-        "expr" => {
-            let text = text_of(alloc, rest)?;
-            match parse_expr(alloc, &text) {
-                Ok(expression) => shown_expression(alloc, &expression),
-                Err(fault) => shown_fault(alloc, fault),
-            }
-        }
-        "glob" => {
-            let (pattern, text) = rest.split_once(' ')?;
-            let matches = glob_match(&text_of(alloc, pattern)?, &text_of(alloc, text)?);
-            String::from_str(alloc, if matches { "1" } else { "0" }).ok()
-        }
-        "number" => shown_number(alloc, read_number(&text_of(alloc, rest)?)),
-        "count" => {
-            let elements = parse_list(alloc, &text_of(alloc, rest)?).ok()?;
-            format!(in alloc; "{}", elements.len()).ok()
-        }
+        "glob" => glob_answer(alloc, rest),
         "range" => shown_range(alloc, rest),
         "memory" => format!(in alloc; "{}", TextFault::OutOfMemory).ok(),
-        _ => tree_answer(alloc, verb, rest),
+        "tree" | "owned" | "fault" => tree_answer(alloc, verb, rest),
+        _ => text_answer(alloc, verb, &text_of(alloc, rest)?),
     }
 }
 

@@ -1,20 +1,31 @@
 //! Trees as Rust prints them, and where their pieces stand.
 use std::alloc::Global;
 use std::fmt::Debug;
-use tcltext::{Script, TextFault, own_expr, own_script, parse_expr, parse_list, parse_script};
+use tcltext::{
+    Command, Script, TextFault, Word, own_expr, own_script, parse_expr, parse_list, parse_script,
+};
+
+fn push_word<P: Debug>(alloc: Global, line: &mut String, word: &Word<P>) -> Option<()> {
+    let mark = if word.expands { "*" } else { "" };
+    let parts = &word.parts;
+    line.push_str(&format!(in alloc; " {mark}{parts:?}").ok()?)
+        .ok()
+}
+
+fn push_words<P: Debug>(alloc: Global, line: &mut String, command: &Command<P>) -> Option<()> {
+    let place = command.place;
+    line.push_str(&format!(in alloc; " {place}:").ok()?).ok()?;
+    for word in &command.words {
+        push_word(alloc, line, word)?;
+    }
+    Some(())
+}
 
 /// The words of each command, with `*` before one whose list is expanded, behind the command's place.
 fn shown_words<P: Debug>(alloc: Global, script: &Script<P>) -> Option<String> {
     let mut line = String::from_str(alloc, "ok").ok()?;
     for command in &script.commands {
-        let place = command.place;
-        line.push_str(&format!(in alloc; " {place}:").ok()?).ok()?;
-        for word in &command.words {
-            let mark = if word.expands { "*" } else { "" };
-            let parts = &word.parts;
-            line.push_str(&format!(in alloc; " {mark}{parts:?}").ok()?)
-                .ok()?;
-        }
+        push_words(alloc, &mut line, command)?;
     }
     Some(line)
 }
