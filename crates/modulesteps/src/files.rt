@@ -46,7 +46,7 @@ struct File<'a> {
 }
 
 /// What is reported of a module.
-#[derive(Clone, Copy, Debug, PartialEq, Eq)]
+#[derive(Clone, Copy)]
 pub(crate) enum Topic {
     /// What it would do.
     Commands,

@@ -38,7 +38,7 @@ pub enum Expr<P> {
 }
 
 /// An expression, with how deep operators, parentheses and brackets nest in it.
-#[derive(Debug, Drop)]
+#[derive(Drop)]
 pub(crate) struct WithHeight<P> {
     pub tree: Expr<P>,
     pub height: usize,

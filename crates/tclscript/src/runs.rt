@@ -5,7 +5,7 @@ ghost use Rattle.tclchars.specs.Classes.{is_name};
 ghost use Rattle.tclscript.specs.Passing.{step_blanks, step_joined, step_gap, step_comment, step_name, step, pass, skip_blanks, skip_gap};
 
 /// What is passed over, byte by byte, and what is known of the byte before.
-#[derive(Clone, Copy, Debug, PartialEq, Eq)]
+#[derive(Clone, Copy)]
 pub(crate) enum Passing {
     /// What parts words: blanks, and newlines behind a backslash.
     Blanks,
