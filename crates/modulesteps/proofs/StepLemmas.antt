@@ -25,7 +25,7 @@ use Rattle.requests.specs.Refusals.{refused_as, unless, RefusedAs}
 use Rattle.requests.specs.Conditions.{load_objection}
 use Rattle.requests.specs.Steps.{Done, moved_on, went, joins}
 use Rattle.modulesteps.specs.declared.refusal.Refusal.{Refusal}
-use Rattle.modulesteps.specs.Answers.{Gives, Tells, by_reason, by_search, cause_of}
+use Rattle.modulesteps.specs.Answers.{GivesOrRefuses, Tells, by_reason, by_search, cause_of}
 use Rattle.modulesteps.specs.declared.files.Topic.{Topic}
 use Rattle.modulesteps.specs.declared.files.Topic.TheVariants.{Commands, Whatis}
 use Rattle.modulesteps.specs.Parts.{added, objection, topic_mode}
@@ -47,7 +47,7 @@ stands_each (because r) agrees before P Q then h = λ files listings a. then fil
 pub gives_tells : {X Y : Type 0} (agrees : Files → Listings → Type 0) (before : Type 0) (view : X → Y) (r : Result X Refusal)
     (Gave Comes : Files → Listings → Result Y RequestReason → Type 0)
     → ((files : Files) (listings : Listings) (o : Result Y RequestReason) → agrees files listings → Gave files listings o → Comes files listings o)
-    → ((files : Files) (listings : Listings) → Gives view r (Gave files listings)) → Tells agrees before view r Comes
+    → ((files : Files) (listings : Listings) → GivesOrRefuses view r (Gave files listings)) → Tells agrees before view r Comes
 gives_tells agrees before view (Ok x) Gave Comes then h = λ files listings a. then files listings (Ok (view x)) a (h files listings)
 gives_tells agrees before view (Err e) Gave Comes then h =
     stands_each (cause_of e) agrees before (λ files listings r. Gave files listings (Err r)) (λ files listings r. Comes files listings (Err r))
@@ -74,7 +74,7 @@ tells_refused agrees failed before view view' e Told Comes later then h =
 pub gives_refused : {X Y V W : Type 0} (agrees : Files → Listings → Type 0) (before : Type 0) (view : X → Y) (view' : V → W) (e : Refusal)
     (Gave : Result Y RequestReason → Type 0) (Comes : Files → Listings → Result W RequestReason → Type 0)
     → ((files : Files) (listings : Listings) (r : RequestReason) → agrees files listings → Gave (Err r) → Comes files listings (Err r))
-    → Gives view (Err e) Gave → Tells agrees before view' (Err e) Comes
+    → GivesOrRefuses view (Err e) Gave → Tells agrees before view' (Err e) Comes
 gives_refused agrees before view view' e Gave Comes then h =
     stands_as (cause_of e) ⊥ before _ _ (λ q. absurd q) (λ r k files listings a. then files listings r a k) h
 

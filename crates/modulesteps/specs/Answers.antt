@@ -40,9 +40,10 @@ cause_of (refusals.FileGone path) = because (file_gone (string_bytes path))
 cause_of (refusals.NotAModulefile path) = because (not_a_modulefile (string_bytes path))
 
 -- A call without a tree: what it gives, seen by view, is what it comes to; or its refusal has a cause.
-abbrev pub Gives : {X Y : Type 0} → (X → Y) → Result X Refusal → (Result Y RequestReason → Type 0) → Type 0
-Gives view (Ok x) Comes = Comes (Ok (view x))
-Gives view (Err e) Comes = Applies (cause_of e) ⊥ (λ r. Comes (Err r))
+abbrev pub GivesOrRefuses : {X Y : Type 0} → (X → Y) → Result X Refusal → (Result Y RequestReason → Type 0)
+    → Type 0
+GivesOrRefuses view (Ok x) Comes = Comes (Ok (view x))
+GivesOrRefuses view (Err e) Comes = Applies (cause_of e) ⊥ (λ r. Comes (Err r))
 
 -- what a call over a tree tells, whose faults are refusals
 abbrev pub Tells : {X Y : Type 0} → (Files → Listings → Type 0) → Type 0 → (X → Y) → Result X Refusal

@@ -13,7 +13,7 @@ ghost use Rattle.requests.specs.RequestViews.{asked_view};
 ghost use Rattle.requests.specs.Steps as steps;
 ghost use Rattle.requests.specs.Steps.{begun, Each, Ends, Named, Changes, Shows, Lists, ListsAll, Step};
 ghost use Rattle.modulesteps.specs.Views.{site_of, done_view};
-ghost use Rattle.modulesteps.specs.Answers.{Gives, Tells};
+ghost use Rattle.modulesteps.specs.Answers.{GivesOrRefuses, Tells};
 ghost use Rattle.modulesteps.specs.Parts.{Does, topic_mode, topic_text};
 
 use crate::conditions::first_lost;
@@ -97,7 +97,7 @@ fn do_each<T: Tree, V: Vars>(
 
 /// Refuses where a module that was loaded before has lost what it needs.
 fn end<V: Vars>(alloc: Global, before: &[Loaded], env: &V, done: &Done) -> Result<(), Refusal>
-    ensures { Gives (λ u. done_view done.now (V.vars env.now)) result
+    ensures { GivesOrRefuses (λ u. done_view done.now (V.vars env.now)) result
         (Ends (map entry_of before.now) (done_view done.now (V.vars env.now))) }
 {
     let after = entries_of(alloc, env)?;
@@ -312,7 +312,7 @@ fn reporting(alloc: Global, text: &str) -> Result<Done, AllocError>
 
 /// Reports the loaded modules.
 fn list<V: Vars>(alloc: Global, env: &V) -> Result<Done, Refusal>
-    ensures { Gives (λ done. done_view done (V.vars env.now)) result (Lists (V.vars env.now)) }
+    ensures { GivesOrRefuses (λ done. done_view done (V.vars env.now)) result (Lists (V.vars env.now)) }
 {
     let entries = entries_of(alloc, env)?;
     let names = names_of(alloc, entries.as_slice())?;

@@ -11,7 +11,7 @@ ghost use Rattle.modulefile.specs.RecordViews.{record_view};
 ghost use Rattle.requests.specs.Refusals.{unless};
 ghost use Rattle.requests.specs.Steps.{entries_of, modulepath};
 ghost use Rattle.modulesteps.specs.Views.{module_view};
-ghost use Rattle.modulesteps.specs.Answers.{Gives};
+ghost use Rattle.modulesteps.specs.Answers.{GivesOrRefuses};
 ghost use Rattle.modulesteps.specs.Parts.{entries_view, objection, added};
 
 use crate::conditions::{missing_group, own_conflict, recorded_conflict};
@@ -25,7 +25,7 @@ use std::alloc::{AllocError, Global};
 
 /// The loaded modules.
 pub(crate) fn entries_of<V: Vars>(alloc: Global, env: &V) -> Result<Vec<Loaded>, Refusal>
-    ensures { Gives entries_view result (Is (entries_of (V.vars env.now))) }
+    ensures { GivesOrRefuses entries_view result (Is (entries_of (V.vars env.now))) }
 {
     Ok(loaded(alloc, env)?)
 }
@@ -129,7 +129,7 @@ fn judge(
     conflicts: &[&str],
     prereqs: &[Vec<String>],
 ) -> Result<(), Refusal>
-    ensures { Gives (λ u. u) result (Is (unless
+    ensures { GivesOrRefuses (λ u. u) result (Is (unless
         (objection name.now (shown conflicts.now) (map texts_in prereqs.now) (map entry_of entries.now)) (Ok tt))) }
 {
     if let Some(entry) = recorded_conflict(name, entries) {
@@ -174,7 +174,7 @@ pub(crate) fn join_loaded<V: Vars>(
     loading: &Module,
     env: &mut V,
 ) -> Result<(), Refusal>
-    ensures given { Gives (λ u. V.vars env.new) result
+    ensures given { GivesOrRefuses (λ u. V.vars env.new) result
         (Is (added (map entry_of entries.now) (module_view loading.now) (V.vars env.old))) }
     ensures under { V.under env.new ≡ V.under env.old }
 {

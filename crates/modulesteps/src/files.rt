@@ -12,7 +12,7 @@ ghost use Rattle.requests.specs.Reasons.{stopped};
 ghost use Rattle.requests.specs.Refusals.{RefusedAs};
 ghost use Rattle.requests.specs.Steps.{Finds, LoadsFound, LoadsName, UnloadsEntry, UnloadsName, ShowsName, script_at};
 ghost use Rattle.modulesteps.specs.Views.{site_of, done_view};
-ghost use Rattle.modulesteps.specs.Answers.{Gives, Tells};
+ghost use Rattle.modulesteps.specs.Answers.{GivesOrRefuses, Tells};
 ghost use Rattle.modulesteps.specs.Parts.{file_context, UnloadsBy, ReportsFound, topic_mode, topic_text};
 
 use crate::conditions::{is_loaded, last_meant};
@@ -81,7 +81,7 @@ fn evaluate<V: Vars>(
     file: File<'_>,
     env: &mut V,
 ) -> Result<Ran, Refusal>
-    ensures given { Gives (λ ran. ran_view ran (V.vars env.new)) result (RefusedAs stopped
+    ensures given { GivesOrRefuses (λ ran. ran_view ran (V.vars env.new)) result (RefusedAs stopped
         (Runs asking.entry.terms.limits (file_context asking.entry (mode_view mode) file.entry.name.now file.entry.path.now
         (map entry_of entries.now) (V.vars env.old)) file.entry.text.now)) }
     ensures under { V.under env.new ≡ V.under env.old }
@@ -108,7 +108,7 @@ fn load_found<V: Vars>(
     env: &mut V,
     done: &mut Done,
 ) -> Result<(), Refusal>
-    ensures given { (files : Files) (listings : Listings) → Gives (λ u. done_view done.new (V.vars env.new)) result
+    ensures given { (files : Files) (listings : Listings) → GivesOrRefuses (λ u. done_view done.new (V.vars env.new)) result
         (LoadsFound (site_of asking.entry.terms files listings) asking.entry.in_switch asking.entry.typed.now
         (done_view done.old (V.vars env.old)) (map entry_of entries.now) (found_view found)) }
     ensures under { V.under env.new ≡ V.under env.old }
@@ -182,7 +182,7 @@ fn unload_by<V: Vars>(
     env: &mut V,
     done: &mut Done,
 ) -> Result<(), Refusal>
-    ensures given { Gives (λ u. done_view done.new (V.vars env.new)) result
+    ensures given { GivesOrRefuses (λ u. done_view done.new (V.vars env.new)) result
         (UnloadsBy asking.entry file.entry.name.now file.entry.path.now file.entry.text.now
         (map entry_of entries.now) (done_view done.old (V.vars env.old))) }
     ensures under { V.under env.new ≡ V.under env.old }
@@ -283,7 +283,7 @@ fn report_found<V: Vars>(
     env: &mut V,
     done: &mut Done,
 ) -> Result<(), Refusal>
-    ensures given { Gives (λ u. done_view done.new (V.vars env.new)) result
+    ensures given { GivesOrRefuses (λ u. done_view done.new (V.vars env.new)) result
         (ReportsFound asking.entry topic (found_view found.now) (map entry_of entries.now)
         (done_view done.old (V.vars env.old))) }
     ensures under { V.under env.new ≡ V.under env.old }
