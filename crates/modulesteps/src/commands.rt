@@ -344,8 +344,8 @@ fn avail<T: Tree, V: Vars>(
 
 /// Makes of the variables what the request makes of them, over a tree of modulefiles, and answers what it did besides.
 ///
-/// It is refused as the request's step over the tree is, for want of memory, or by 43 where the device failed in this call.
-/// Then the variables may be anything: hand in a copy to keep them.
+/// It is refused as the request's step over the tree is, for want of memory, or by 43 where the device failed in this
+/// call. Then the variables may be anything: hand in a copy to keep them.
 pub fn step<T: Tree, V: Vars>(
     alloc: Global,
     request: &Request,

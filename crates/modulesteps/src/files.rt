@@ -82,8 +82,8 @@ fn evaluate<V: Vars>(
     env: &mut V,
 ) -> Result<Ran, Refusal>
     ensures given { GivesOrRefuses (λ ran. ran_view ran (V.vars env.new)) result (RefusedAs stopped
-        (Runs asking.entry.terms.limits (file_context asking.entry (mode_view mode) file.entry.name.now file.entry.path.now
-        (map entry_of entries.now) (V.vars env.old)) file.entry.text.now)) }
+        (Runs asking.entry.terms.limits (file_context asking.entry (mode_view mode) file.entry.name.now
+        file.entry.path.now (map entry_of entries.now) (V.vars env.old)) file.entry.text.now)) }
     ensures under { V.under env.new ≡ V.under env.old }
 {
     let loaded = names_of(alloc, entries)?;
@@ -108,8 +108,8 @@ fn load_found<V: Vars>(
     env: &mut V,
     done: &mut Done,
 ) -> Result<(), Refusal>
-    ensures given { (files : Files) (listings : Listings) → GivesOrRefuses (λ u. done_view done.new (V.vars env.new)) result
-        (LoadsFound (site_of asking.entry.terms files listings) asking.entry.in_switch asking.entry.typed.now
+    ensures given { (files : Files) (listings : Listings) → GivesOrRefuses (λ u. done_view done.new (V.vars env.new))
+        result (LoadsFound (site_of asking.entry.terms files listings) asking.entry.in_switch asking.entry.typed.now
         (done_view done.old (V.vars env.old)) (map entry_of entries.now) (found_view found)) }
     ensures under { V.under env.new ≡ V.under env.old }
 {
@@ -156,7 +156,8 @@ pub(crate) fn load_name<T: Tree, V: Vars>(
     load_found(alloc, asking, entries.as_slice(), found, env, done)
 }
 
-/// The script in the file of a loaded module: 54 where no file is there, 55 where it has no cookie, 46 where it isn't UTF-8.
+/// The script in the file of a loaded module: 54 where no file is there, 55 where it has no cookie, 46 where it isn't
+/// UTF-8.
 fn script_at<T: Tree>(alloc: Global, tree: &mut T, path: &str) -> Result<String, Refusal>
     ensures before { Narrows (T.agrees tree.old) (T.agrees tree.new) }
     ensures later { T.failures tree.old ≤ T.failures tree.new }
