@@ -22,7 +22,8 @@ fn differs<B: Vars, V: Vars>(old: &B, new: &V, name: &str) -> bool
 /// Leaves the names whose values differ.
 fn keep_differing<B: Vars, V: Vars>(names: &mut Vec<&str>, old: &B, new: &V)
     ensures { shown names.new.items
-        ≡ filter (λ n. not (same_value (lookup (B.vars old.now) n) (lookup (V.vars new.now) n))) (shown names.old.items) }
+        ≡ filter (λ n. not (same_value (lookup (B.vars old.now) n) (lookup (V.vars new.now) n)))
+        (shown names.old.items) }
 {
     names.retain(|name| differs(old, new, *name));
 }

@@ -61,7 +61,8 @@ fn respond<T: Tree>(
     ensures answer { Shows (T.agrees tree.new) (λ files listings.
         IsResponse (site_in limits request.now.shell files listings) env.old (asked_view request.now.action)
         (response_of env.old result)) }
-    ensures left { Shows (T.agrees tree.new) (λ files listings. env.new ≡ env_after env.old (response_of env.old result)) }
+    ensures left { Shows (T.agrees tree.new) (λ files listings.
+        env.new ≡ env_after env.old (response_of env.old result)) }
 {
     requests::outcomes();
     match change(alloc, request, env, tree, limits) {
@@ -88,7 +89,8 @@ pub fn session<T: Tree>(
     ensures before { Narrows (T.agrees tree.old) (T.agrees tree.new) }
     ensures failures { IfOk result (λ p. T.failures tree.old + count_failed p.1.items ≤ T.failures tree.new) }
     ensures ran { IfOk result (λ p. Shows (T.agrees tree.new) (λ files listings. (shell : Shell)
-        → Session (site_in limits shell files listings) env (map request_view requests.now) (responses env p.1.items))) }
+        → Session (site_in limits shell files listings) env (map request_view requests.now)
+        (responses env p.1.items))) }
     ensures left { IfOk result (λ p. Shows (T.agrees tree.new) (λ files listings.
         p.0 ≡ left_by env (responses env p.1.items))) }
     ensures returns { IfOk result (λ p. Shows (T.agrees tree.new) (λ files listings.
