@@ -2,7 +2,7 @@
 -- Tcl.
 use Rattle.std.specs.Prelude.{◌≡◌, false, List, [], ◌∷◌, codes, bytes_eq, if◌then◌else◌, Option, Some, None}
 use Rattle.modulename.specs.ModuleName.{Text}
-use Rattle.tclrules.specs.Oracle.{Oracle, Told, Answer, Nothing, Kept, Done, Unknown, LeftOut, Refused}
+use Rattle.tclrules.specs.Oracle.{Oracle, Told, OracleAnswer, Nothing, Kept, Done, Unknown, LeftOut, Refused}
 use Rattle.tclrules.specs.Derivation.{Outcome, Ended, Halted, World}
 use Rattle.tclrules.specs.Variables.{lookup}
 use Rattle.tclrules.specs.Plans.{Ending, Normal, Raised, Returned, Broken, Continued}
@@ -12,7 +12,7 @@ use Rattle.tclrules.specs.declared.limits.Limits.{Limits}
 use Rattle.modulesearch.specs.DefaultFiles.{Left}
 
 -- `module-version NAME WORD...` has a name and at least one word, and is kept
-abbrev pub version_answer : List Text → Answer
+abbrev pub version_answer : List Text → OracleAnswer
 version_answer (command ∷ name ∷ word ∷ words) = Done [] (Kept (command ∷ name ∷ word ∷ words)) false
 version_answer words = Refused 56 false
 
@@ -23,7 +23,7 @@ renaming_commands =
     []
 
 -- Besides `module-version` a default file has no command of modulefiles. What it writes is dropped.
-abbrev pub named_answer : Text → List Text → Answer
+abbrev pub named_answer : Text → List Text → OracleAnswer
 named_answer name words =
     if bytes_eq name (codes "module-version") then version_answer words
     else if bytes_eq name (codes "puts") then Done [] Nothing false
@@ -31,7 +31,7 @@ named_answer name words =
     else if is_among left_out_module_commands name then LeftOut name false
     else Unknown false
 
-abbrev pub answer_to : List Text → Answer
+abbrev pub answer_to : List Text → OracleAnswer
 answer_to [] = Unknown false
 answer_to (name ∷ words) = named_answer name (name ∷ words)
 

@@ -3,12 +3,12 @@ use Rattle.std.specs.Prelude.{false, List, [], map, string_bytes, vec_items, Str
 use Rattle.std.specs.declared.vec.Vec.{Vec}
 use Rattle.std.specs.declared.alloc.Global.{Global}
 use Rattle.modulename.specs.ModuleName.{Text}
-use Rattle.tclrules.specs.Oracle.{Answer, Nothing, Kept, Done, Unknown, LeftOut, Refused}
+use Rattle.tclrules.specs.Oracle.{OracleAnswer, Nothing, Kept, Done, Unknown, LeftOut, Refused}
 use Rattle.defaultfiles.specs.declared.replies.Reply.{Reply}
 use Rattle.defaultfiles.specs.declared.replies.Reply.TheVariants as replies
 
 -- the answer to a command of these words
-abbrev pub reply_view : Reply → List Text → Answer
+abbrev pub reply_view : Reply → List Text → OracleAnswer
 reply_view replies.Kept words = Done [] (Kept words) false
 reply_view replies.Dropped words = Done [] Nothing false
 reply_view (replies.Refused n) words = Refused n false

@@ -24,7 +24,7 @@ use Rattle.environment.specs.Texts.{shown, Text, has}
 use Rattle.environment.proofs.TextLemmas.{has-shown, or_left, or_right, same_text, has-push, bytes_eq-same, bytes_eq-symmetric}
 use Rattle.environment.specs.Environment.{Environment, lookup, with_value}
 use Rattle.environment.specs.declared.change.Change.{Change}
-use Rattle.environment.specs.Changes.{Edit, same_value, edit_at, edits_in, AreChanges, applied}
+use Rattle.environment.specs.Changes.{NewValue, same_value, new_value_at, new_values_in, AreChanges, applied}
 use Rattle.environment.specs.Fields.{are_distinct}
 use Rattle.environment.proofs.EnvLemmas.{lookup-with_value, same_environment, with_value-commutes}
 
@@ -34,22 +34,22 @@ chosen : (b : Bool) (v o : Option Text) (w : Option (Option Text)) → cond b v 
 chosen true v o w = refl
 chosen false v o w = refl
 
-pub later_names : (x q : Text) (cs : List Edit) → AllByRecursion (λ (y : Text). slice_cmp nat_cmp x y ≡ Less) (map (λ (c : Edit). c.0) cs) → bytes_eq q x ≡ true → edit_at cs q ≡ None
+pub later_names : (x q : Text) (cs : List NewValue) → AllByRecursion (λ (y : Text). slice_cmp nat_cmp x y ≡ Less) (map (λ (c : NewValue). c.0) cs) → bytes_eq q x ≡ true → new_value_at cs q ≡ None
 later_names x q [] h e = refl
 later_names x q (c ∷ cs) h e =
     let apart : bytes_eq q c.0 ≡ false = ap (λ (t : Text). bytes_eq t c.0) (same_text q x e) ∙ sym (is_eq-slice_cmp x c.0) ∙ ap is_eq h.0 in
-    ap (λ (b : Bool). cond b (Some c.1) (edit_at cs q)) apart ∙ later_names x q cs h.1 e
+    ap (λ (b : Bool). cond b (Some c.1) (new_value_at cs q)) apart ∙ later_names x q cs h.1 e
 
 chosen_once : (b : Bool) (v o : Option Text) (w : Option (Option Text)) → (b ≡ true → w ≡ None) → unwrap_or w (cond b v o) ≡ unwrap_or (cond b (Some v) w) o
 chosen_once true v o w h = ap (λ (x : Option (Option Text)). unwrap_or x v) (h refl)
 chosen_once false v o w h = refl
 
-lookup-applied : (cs : List Edit) (e : Environment) (q : Text) → IsStrictlySortedBy (slice_cmp nat_cmp) (map (λ (c : Edit). c.0) cs) → lookup (applied cs e) q ≡ unwrap_or (edit_at cs q) (lookup e q)
+lookup-applied : (cs : List NewValue) (e : Environment) (q : Text) → IsStrictlySortedBy (slice_cmp nat_cmp) (map (λ (c : NewValue). c.0) cs) → lookup (applied cs e) q ≡ unwrap_or (new_value_at cs q) (lookup e q)
 unfolding IsStrictlySortedBy
 lookup-applied [] e q o = refl
 lookup-applied (c ∷ cs) e q o =
-    lookup-applied cs (with_value e c.0 c.1) q o.1 ∙ ap (unwrap_or (edit_at cs q)) (lookup-with_value e c.0 c.1 q)
-    ∙ chosen_once (bytes_eq q c.0) c.1 (lookup e q) (edit_at cs q) (later_names c.0 q cs o.0)
+    lookup-applied cs (with_value e c.0 c.1) q o.1 ∙ ap (unwrap_or (new_value_at cs q)) (lookup-with_value e c.0 c.1 q)
+    ∙ chosen_once (bytes_eq q c.0) c.1 (lookup e q) (new_value_at cs q) (later_names c.0 q cs o.0)
 
 same_values : (x y : Option Text) → same_value x y ≡ true → x ≡ y
 same_values None None h = refl
@@ -61,13 +61,13 @@ settled : (b : Bool) (x y : Option Text) → same_value x y ≡ b → unwrap_or 
 settled true x y h = same_values x y h
 settled false x y h = refl
 
-pub applied-changes : (old new : Environment) (cs : List Edit) → AreChanges old new cs → applied cs old ≡ new
+pub applied-changes : (old new : Environment) (cs : List NewValue) → AreChanges old new cs → applied cs old ≡ new
 applied-changes old new cs h = same_environment _ _ (λ q.
     lookup-applied cs old q h.ordered ∙ ap (λ (w : Option (Option Text)). unwrap_or w (lookup old q)) (h.each q) ∙ settled (same_value (lookup old q) (lookup new q)) (lookup old q) (lookup new q) refl)
 
 -- changes made one after another
 
-pub applied-push : (cs : List Edit) (c : Edit) (e : Environment) → applied (cs ++ c ∷ []) e ≡ with_value (applied cs e) c.0 c.1
+pub applied-push : (cs : List NewValue) (c : NewValue) (e : Environment) → applied (cs ++ c ∷ []) e ≡ with_value (applied cs e) c.0 c.1
 applied-push [] c e = refl
 applied-push (d ∷ cs) c e = applied-push cs c (with_value e d.0 d.1)
 
@@ -94,10 +94,10 @@ are_distinct-push (y ∷ ys) x h =
     (rw (apart.1) rest.0, rw (bytes_eq-symmetric x y, apart.0) rest.1)
 
 -- a name that no change names can be written before them
-pub applied-with_value : (cs : List Edit) (e : Environment) (name : Text) (v : Option Text) → has name (map (λ (c : Edit). c.0) cs) ≡ false → applied cs (with_value e name v) ≡ with_value (applied cs e) name v
+pub applied-with_value : (cs : List NewValue) (e : Environment) (name : Text) (v : Option Text) → has name (map (λ (c : NewValue). c.0) cs) ≡ false → applied cs (with_value e name v) ≡ with_value (applied cs e) name v
 applied-with_value [] e name v h = refl
 applied-with_value (c ∷ cs) e name v h =
-    let apart = or_no (bytes_eq name c.0) (has name (map (λ (d : Edit). d.0) cs)) h in
+    let apart = or_no (bytes_eq name c.0) (has name (map (λ (d : NewValue). d.0) cs)) h in
     ap (applied cs) (with_value-commutes e name c.0 v c.1 apart.0) ∙ applied-with_value cs (with_value e c.0 c.1) name v apart.1
 
 -- names sorted, each kept once
@@ -152,10 +152,10 @@ once-same names xs ys q p f =
 abbrev differ : Environment → Environment → Text → Bool
 differ old new n = not (same_value (lookup old n) (lookup new n))
 
-abbrev change_to : Environment → Text → Edit
+abbrev change_to : Environment → Text → NewValue
 change_to new n = (n, lookup new n)
 
-names_listed : (new : Environment) (names : List Text) → map (λ (c : Edit). c.0) (map (change_to new) names) ≡ names
+names_listed : (new : Environment) (names : List Text) → map (λ (c : NewValue). c.0) (map (change_to new) names) ≡ names
 names_listed new [] = refl
 names_listed new (n ∷ ns) = ap (λ (l : List Text). n ∷ l) (names_listed new ns)
 
@@ -163,10 +163,10 @@ listed_at : (new : Environment) (n q : Text) (h b : Bool) → bytes_eq q n ≡ b
 listed_at new n q h true e = ap (λ (t : Text). Some (lookup new t)) (sym (same_text q n e))
 listed_at new n q h false e = refl
 
-edit_at-listed : (new : Environment) (names : List Text) (q : Text) → edit_at (map (change_to new) names) q ≡ cond (has q names) (Some (lookup new q)) None
-edit_at-listed new [] q = refl
-edit_at-listed new (n ∷ ns) q =
-    ap (cond (bytes_eq q n) (Some (lookup new n))) (edit_at-listed new ns q) ∙ listed_at new n q (has q ns) (bytes_eq q n) refl
+new_value_at-listed : (new : Environment) (names : List Text) (q : Text) → new_value_at (map (change_to new) names) q ≡ cond (has q names) (Some (lookup new q)) None
+new_value_at-listed new [] q = refl
+new_value_at-listed new (n ∷ ns) q =
+    ap (cond (bytes_eq q n) (Some (lookup new n))) (new_value_at-listed new ns q) ∙ listed_at new n q (has q ns) (bytes_eq q n) refl
 
 same_as_itself : (o : Option Text) → same_value o o ≡ true
 same_as_itself None = refl
@@ -184,7 +184,7 @@ pub AreChanges-among : (old new : Environment) (all names : List Text) → ((q :
     → IsStrictlySortedBy (slice_cmp nat_cmp) names → ((q : Text) → has q names ≡ has q (filter (differ old new) all)) → AreChanges old new (map (change_to new) names)
 AreChanges-among old new all names k o h = record {
   ordered = subst (IsStrictlySortedBy (slice_cmp nat_cmp)) (sym (names_listed new names)) o;
-  each = λ q. edit_at-listed new names q
+  each = λ q. new_value_at-listed new names q
       ∙ ap (λ (b : Bool). cond b (Some (lookup new q)) None) (h q ∙ has-filter (differ old new) q all)
       ∙ difference_is (has q all) (same_value (lookup old q) (lookup new q)) (lookup new q)
       (λ e. ap (λ (x : Option Text). same_value x (lookup new q)) (k q e) ∙ same_as_itself (lookup new q));
@@ -192,7 +192,7 @@ AreChanges-among old new all names k o h = record {
 
 pub all_changes : {E : Type 0} (r : Result (Vec Change Global) E) (old new : Environment) (all : List Text) (names slice : List (Bor Text)) → slice ≡ names → ((q : Text) → has q all ≡ false → lookup old q ≡ lookup new q)
     → IsStrictlySortedBy (slice_cmp nat_cmp) (shown names) → ((q : Text) → has q (shown names) ≡ has q (filter (differ old new) all))
-    → IfOk r (λ v. edits_in v ≡ map (change_to new) (shown slice)) → IfOk r (λ v. AreChanges old new (edits_in v))
+    → IfOk r (λ v. new_values_in v ≡ map (change_to new) (shown slice)) → IfOk r (λ v. AreChanges old new (new_values_in v))
 all_changes (Ok v) old new all names slice s k o h e =
     subst (AreChanges old new) (sym (e ∙ ap (λ (l : List (Bor Text)). map (change_to new) (shown l)) s)) (AreChanges-among old new all (shown names) k o h)
 all_changes (Err x) old new all names slice s k o h e = e

@@ -16,7 +16,7 @@ use Rattle.indexmap.specs.IndexMap.{IndexMap, get_by_text}
 use Rattle.environment.specs.Texts.{Text, has, shown}
 use Rattle.environment.specs.Environment.{Environment, lookup, with_value}
 use Rattle.environment.specs.Tables.{Slot, slot, names_of, written_over}
-use Rattle.environment.specs.Changes.{edit_of, applied}
+use Rattle.environment.specs.Changes.{new_value_of, applied}
 use Rattle.environment.specs.declared.change.Change.{Change}
 use Rattle.environment.proofs.TextLemmas.{bytes_eq-symmetric}
 use Rattle.environment.proofs.EnvLemmas.{same_environment, lookup-with_value}
@@ -119,11 +119,11 @@ ok_then (Err e) k h = absurd (false≢true k)
 
 -- one more change is written
 pub write_made : {S : Type 0} (under : Environment) (m n : IndexMap (String Global) (Option (String Global)) S) (old rest : List Change) (change : Change) (all : Environment) → old ≡ change ∷ rest
-    → ((q : Text) → slot n q ≡ (if bytes_eq q (string_bytes change.name) then Some (option_map string_bytes change.value) else slot m q)) → applied (map edit_of old) (written_over under m.entries) ≡ all
-    → applied (map edit_of rest) (written_over under n.entries) ≡ all
+    → ((q : Text) → slot n q ≡ (if bytes_eq q (string_bytes change.name) then Some (option_map string_bytes change.value) else slot m q)) → applied (map new_value_of old) (written_over under m.entries) ≡ all
+    → applied (map new_value_of rest) (written_over under n.entries) ≡ all
 write_made under m n old rest change all e h k =
-    ap (applied (map edit_of rest)) (entered_over under m n (string_bytes change.name) (option_map string_bytes change.value) h)
-    ∙ ap (λ (xs : List Change). applied (map edit_of xs) (written_over under m.entries)) (sym e) ∙ k
+    ap (applied (map new_value_of rest)) (entered_over under m n (string_bytes change.name) (option_map string_bytes change.value) h)
+    ∙ ap (λ (xs : List Change). applied (map new_value_of xs) (written_over under m.entries)) (sym e) ∙ k
 
 -- a copied table says what the table says
 pub copied_over : (e : Environment) (D : Option (String Global) → Option (String Global) → Type 0) → ((v w : Option (String Global)) → D v w → option_map string_bytes w ≡ option_map string_bytes v)

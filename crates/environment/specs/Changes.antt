@@ -11,8 +11,8 @@ use Rattle.environment.specs.Environment.{Environment, lookup, with_value}
 use Rattle.environment.specs.declared.change.Change.{Change}
 
 -- a name, and its new value or none
-abbrev pub Edit : Type 0
-Edit = Text × Option Text
+abbrev pub NewValue : Type 0
+NewValue = Text × Option Text
 
 -- whether a variable has the same value, or is unset in both
 abbrev pub same_value : Option Text → Option Text → Bool
@@ -22,28 +22,28 @@ same_value (Some x) None = false
 same_value (Some x) (Some y) = bytes_eq x y
 
 -- what the changes make of a name, if they name it
-abbrev pub edit_at : List Edit → Text → Option (Option Text)
-edit_at [] q = None
-edit_at (c ∷ cs) q = if bytes_eq q c.0 then Some c.1 else edit_at cs q
+abbrev pub new_value_at : List NewValue → Text → Option (Option Text)
+new_value_at [] q = None
+new_value_at (c ∷ cs) q = if bytes_eq q c.0 then Some c.1 else new_value_at cs q
 
 -- the new value, where it is another than the old one
 abbrev pub difference : Option Text → Option Text → Option (Option Text)
 difference old new = if same_value old new then None else Some new
 
 -- each name whose value differs, once, in the order of bytes, with its new value or none
-pub record AreChanges (old new : Environment) (cs : List Edit) : Type 0 where
+pub record AreChanges (old new : Environment) (cs : List NewValue) : Type 0 where
   pub ordered : IsStrictlySortedBy (slice_cmp nat_cmp) (map (λ c. c.0) cs)
-  pub each : (q : Text) → edit_at cs q ≡ difference (lookup old q) (lookup new q)
+  pub each : (q : Text) → new_value_at cs q ≡ difference (lookup old q) (lookup new q)
 
 -- the environment with each change made, from the first to the last
-abbrev pub applied : List Edit → Environment → Environment
+abbrev pub applied : List NewValue → Environment → Environment
 applied [] e = e
 applied (c ∷ cs) e = applied cs (with_value e c.0 c.1)
 
 -- what a change of the code says
-abbrev pub edit_of : Change → Edit
-edit_of c = (string_bytes c.name, option_map string_bytes c.value)
+abbrev pub new_value_of : Change → NewValue
+new_value_of c = (string_bytes c.name, option_map string_bytes c.value)
 
 -- what the changes of a vector say
-abbrev pub edits_in : Vec Change Global → List Edit
-edits_in v = map edit_of v.items
+abbrev pub new_values_in : Vec Change Global → List NewValue
+new_values_in v = map new_value_of v.items

@@ -3,7 +3,7 @@ ghost use Rattle.std.specs.Prelude.{◌≡◌, ◌++◌, not, false, map, filter
 ghost use Rattle.environment.specs.Texts.{Text, has, shown};
 ghost use Rattle.environment.specs.Environment.{lookup};
 ghost use Rattle.environment.specs.declared.fault.EnvFault.TheVariants.{OutOfMemory};
-ghost use Rattle.environment.specs.Changes.{AreChanges, edit_of, edits_in, same_value};
+ghost use Rattle.environment.specs.Changes.{AreChanges, new_value_of, new_values_in, same_value};
 
 use crate::change::Change;
 use crate::env::Env;
@@ -30,7 +30,7 @@ fn keep_differing<B: Vars, V: Vars>(names: &mut Vec<&str>, old: &B, new: &V)
 
 /// The change of a variable to its value now.
 fn change_to<V: Vars>(alloc: Global, new: &V, name: &str) -> Result<Change, AllocError>
-    ensures { IfOk result (λ c. edit_of c ≡ (name.now, lookup (V.vars new.now) name.now)) }
+    ensures { IfOk result (λ c. new_value_of c ≡ (name.now, lookup (V.vars new.now) name.now)) }
 {
     let value = copy(alloc, new.get(name))?;
     let name = String::from_str(alloc, name)?;
@@ -39,7 +39,7 @@ fn change_to<V: Vars>(alloc: Global, new: &V, name: &str) -> Result<Change, Allo
 
 /// The change of each variable to its value now.
 fn changes_to<V: Vars>(alloc: Global, new: &V, names: &[&str]) -> Result<Vec<Change>, AllocError>
-    ensures { IfOk result (λ v. edits_in v ≡ map (λ n. (n, lookup (V.vars new.now) n)) (shown names.now)) }
+    ensures { IfOk result (λ v. new_values_in v ≡ map (λ n. (n, lookup (V.vars new.now) n)) (shown names.now)) }
 {
     let mut changes = Vec::new(alloc);
     for name in names {
@@ -57,7 +57,7 @@ pub(crate) fn changes_among<B: Vars, V: Vars>(
 ) -> Result<Vec<Change>, AllocError>
     requires { (n : Text) → has n (shown names.items) ≡ false
         → lookup (B.vars old.now) n ≡ lookup (V.vars new.now) n }
-    ensures { IfOk result (λ v. AreChanges (B.vars old.now) (V.vars new.now) (edits_in v)) }
+    ensures { IfOk result (λ v. AreChanges (B.vars old.now) (V.vars new.now) (new_values_in v)) }
 {
     let mut names = names;
     keep_differing(&mut names, old, new);
@@ -80,7 +80,7 @@ fn names_of_both<'a>(alloc: Global, old: &'a Env, new: &'a Env) -> Result<Vec<&'
 ///
 /// It is refused for want of memory alone.
 pub fn changes(alloc: Global, old: &Env, new: &Env) -> Result<Vec<Change>, EnvFault>
-    ensures ok { IfOk result (λ v. AreChanges old.now new.now (edits_in v)) }
+    ensures ok { IfOk result (λ v. AreChanges old.now new.now (new_values_in v)) }
     ensures only { IfErr result (λ e. e ≡ OutOfMemory) }
 {
     let names = names_of_both(alloc, old, new)?;

@@ -4,7 +4,7 @@ ghost use Rattle.std.specs.Option.{option_map};
 ghost use Rattle.std.specs.FinMap as finite;
 ghost use Rattle.environment.specs.Texts.{Text, has, shown};
 ghost use Rattle.environment.specs.Environment.{lookup};
-ghost use Rattle.environment.specs.Changes.{applied, edits_in};
+ghost use Rattle.environment.specs.Changes.{applied, new_values_in};
 ghost use Rattle.environment.specs.declared.fault.EnvFault.TheVariants.{OutOfMemory};
 
 use crate::change::Change;

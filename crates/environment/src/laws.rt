@@ -2,7 +2,7 @@
 ghost use Rattle.std.specs.Prelude.{◌≡◌, List, Option, bytes_eq, if◌then◌else◌};
 ghost use Rattle.environment.specs.Texts.{Text};
 ghost use Rattle.environment.specs.Environment.{Environment, lookup, with_value};
-ghost use Rattle.environment.specs.Changes.{Edit, AreChanges, applied};
+ghost use Rattle.environment.specs.Changes.{NewValue, AreChanges, applied};
 
 /// A variable that is set or unset has that value, and every other is as it was. Environments whose variables are the
 /// same are one.
@@ -14,5 +14,5 @@ pub fn variables()
 
 /// What differs, written over the old environment, gives the new one.
 pub fn changes()
-    ensures { (old new : Environment) (cs : List Edit) → AreChanges old new cs → applied cs old ≡ new }
+    ensures { (old new : Environment) (cs : List NewValue) → AreChanges old new cs → applied cs old ≡ new }
 {}

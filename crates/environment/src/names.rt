@@ -36,7 +36,7 @@ pub fn is_variable_name(name: &str) -> bool
     }
 }
 
-fn is_kept(name: &str) -> bool
+fn has_state_prefix(name: &str) -> bool
     ensures { result ≡ starts_with nat_eq name.now (codes "__MODULES_") }
 {
     name.starts_with("__MODULES_")
@@ -46,7 +46,7 @@ fn is_kept(name: &str) -> bool
 pub fn is_protected(name: &str) -> bool
     ensures { result ≡ is_protected name.now }
 {
-    name == "LOADEDMODULES" || name == "_LMFILES_" || is_kept(name)
+    name == "LOADEDMODULES" || name == "_LMFILES_" || has_state_prefix(name)
 }
 
 /// Refuses the names of variables that can't be edited: by `BadVariable` one that isn't spelled as a variable's, then

@@ -4,7 +4,7 @@ ghost use Rattle.std.specs.Option.{option_map};
 ghost use Rattle.indexmap.specs.IndexMap.{spare};
 ghost use Rattle.environment.specs.Texts.{Text, shown};
 ghost use Rattle.environment.specs.Environment.{Environment};
-ghost use Rattle.environment.specs.Changes.{applied, edits_in};
+ghost use Rattle.environment.specs.Changes.{applied, new_values_in};
 ghost use Rattle.environment.specs.Tables.{slot, names_of, written_over};
 
 use crate::change::Change;
@@ -68,7 +68,7 @@ fn write(table: &mut Table, name: String, value: Option<String>)
 fn write_all(table: &mut Table, changes: Vec<Change>)
     requires { vec_len changes ≤ spare table.old }
     ensures { (under : Environment) → written_over under table.new.entries
-        ≡ applied (edits_in changes) (written_over under table.old.entries) }
+        ≡ applied (new_values_in changes) (written_over under table.old.entries) }
 {
     for change in changes {
         let Change { name, value } = change;
@@ -79,7 +79,7 @@ fn write_all(table: &mut Table, changes: Vec<Change>)
 /// Makes all the changes, from the first to the last, or none of them.
 pub(crate) fn make_changes(table: &mut Table, changes: Vec<Change>) -> Result<(), AllocError>
     ensures ok { OnOk result ((under : Environment) → written_over under table.new.entries
-        ≡ applied (edits_in changes) (written_over under table.old.entries)) }
+        ≡ applied (new_values_in changes) (written_over under table.old.entries)) }
     ensures err { OnErr result (table.new.entries ≡ table.old.entries) }
 {
     table.reserve(changes.len())?;

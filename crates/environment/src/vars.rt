@@ -3,7 +3,7 @@ ghost use Rattle.std.specs.Prelude.{◌≡◌, map, IfErr, OnOk, OnErr};
 ghost use Rattle.std.specs.Option.{option_map};
 ghost use Rattle.std.specs.FinMap as finite;
 ghost use Rattle.environment.specs.Environment.{Environment, lookup};
-ghost use Rattle.environment.specs.Changes.{applied, edits_in};
+ghost use Rattle.environment.specs.Changes.{applied, new_values_in};
 ghost use Rattle.environment.specs.declared.fault.EnvFault.TheVariants.{OutOfMemory};
 
 use crate::change::Change;
@@ -38,7 +38,7 @@ pub trait Vars {
 
     /// Makes all the changes, from the first to the last, or none.
     fn apply(&mut self, changes: Vec<Change>) -> Result<(), EnvFault>
-        ensures ok { OnOk result (vars self.new ≡ applied (edits_in changes) (vars self.old)) }
+        ensures ok { OnOk result (vars self.new ≡ applied (new_values_in changes) (vars self.old)) }
         ensures err { OnErr result (vars self.new ≡ vars self.old) }
         ensures only { IfErr result (λ e. e ≡ OutOfMemory) }
         ensures under { under self.new ≡ under self.old };

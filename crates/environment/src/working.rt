@@ -1,6 +1,6 @@
 //! A working environment: changes over an environment that stays as it is.
 ghost use Rattle.std.specs.Prelude.{◌≡◌, IfOk, IfErr};
-ghost use Rattle.environment.specs.Changes.{AreChanges, edits_in};
+ghost use Rattle.environment.specs.Changes.{AreChanges, new_values_in};
 ghost use Rattle.environment.specs.declared.fault.EnvFault.TheVariants.{OutOfMemory};
 
 use crate::change::Change;
@@ -13,8 +13,8 @@ use indexmap::IndexMap;
 use std::alloc::Global;
 use std::marker::Model;
 
-/// Changes over an environment that stays as it is, another working one perhaps. An edit costs what it touches, whatever else is
-/// set.
+/// Changes over an environment that stays as it is, another working one perhaps. An edit costs what it touches,
+/// whatever else is set.
 pub struct Working<'a, B: Vars = Env> {
     old: &'a B,
     /// The names that were touched, with their values now.
@@ -70,7 +70,7 @@ impl<'a, B: Vars> Working<'a, B> {
     /// Each name whose value differs from that in the old environment, once, in the order of bytes. It costs what was
     /// touched, and is refused for want of memory alone.
     pub fn into_changes(self) -> Result<Vec<Change>, EnvFault>
-        ensures ok { IfOk result (λ v. AreChanges self.entry.old self.entry.new (edits_in v)) }
+        ensures ok { IfOk result (λ v. AreChanges self.entry.old self.entry.new (new_values_in v)) }
         ensures only { IfErr result (λ e. e ≡ OutOfMemory) }
     {
         let alloc = self.alloc;

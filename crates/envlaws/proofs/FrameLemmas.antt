@@ -14,15 +14,15 @@ use Rattle.pathstate.specs.PathVariables.{path_in, value_reason, added_path, dro
 use Rattle.pathstate.specs.PathOrder.{IsPathInOrder}
 use Rattle.pathstate.specs.Paths.{add_all, drop_all}
 use Rattle.pathstate.specs.declared.paths.End.{End}
-use Rattle.pathstate.proofs.PathOrderLemmas.{Leaves-added, Leaves-dropped}
+use Rattle.pathstate.proofs.PathOrderLemmas.{LeavesPath-added, LeavesPath-dropped}
 use Rattle.stackstate.specs.StackTexts.{items_in}
 use Rattle.stackstate.specs.StackVariables.{stack_in, stack_from, pushed_on, popped_from, pushed_value, popped_value, IsStackInOrder}
 use Rattle.stackstate.proofs.StackAfter.{others_after_push, others_after_pop}
 use Rattle.loadedlist.specs.LoadedTexts.{names_variable, files_variable, conflicts_variable, prereqs_variable}
 use Rattle.loadedlist.specs.Loaded.{Entry, names_of, entries_in, names_text, files_text, conflicts_text, prereqs_text, loaded_in, with_loaded, AreLoadedInOrder, can_be_added, kept_once, without_entry, added_to, dropped_from, added_loaded, dropped_loaded}
 use Rattle.loadedlist.proofs.LoadedEdits.{others_stay}
-use Rattle.envlaws.specs.Places.{Place, place_of, is_editable}
-use Rattle.envlaws.specs.Places.Place.{Variable, Counters, Stack, LoadedNames, LoadedFiles, LoadedConflicts, LoadedPrereqs, Other}
+use Rattle.envlaws.specs.Places.{StatePlace, place_of, is_editable}
+use Rattle.envlaws.specs.Places.StatePlace.{Variable, Counters, Stack, LoadedNames, LoadedFiles, LoadedConflicts, LoadedPrereqs, Other}
 use Rattle.envlaws.specs.Frames.{OnlyAmong, path_names, stack_names, loaded_names, EditsPath, EditsStack, EditsVariable, KeepsVariable, KeepsLoaded}
 use Rattle.envlaws.proofs.PlaceLemmas.{apart, variable_place, counters_place, stack_place, no_reason_against}
 
@@ -59,13 +59,13 @@ stack_only old new name h = λ q e. h q (or_left (bytes_eq q name) _ e) (or_left
 pub add_edits : (old new : Environment) (name : Text) (delim : ℕ) (xs : List Text) (end : End) → added_path old name delim xs end ≡ Ok new → EditsPath old new name
 add_edits old new name delim xs end h = record {
   editable = editable_from name (value_reason name delim xs) (written_path old name delim (add_all (path_in old name delim) xs end)) new h;
-  only = path_only old new name (Leaves-added old new name delim xs end h).others;
+  only = path_only old new name (LeavesPath-added old new name delim xs end h).others;
 }
 
 pub drop_edits : (old new : Environment) (name : Text) (delim : ℕ) (xs : List Text) → dropped_path old name delim xs ≡ Ok new → EditsPath old new name
 drop_edits old new name delim xs h = record {
   editable = editable_from name (value_reason name delim xs) (Ok (with_path old name delim (drop_all (path_in old name delim) xs))) new h;
-  only = path_only old new name (Leaves-dropped old new name delim xs h).others;
+  only = path_only old new name (LeavesPath-dropped old new name delim xs h).others;
 }
 
 pub push_edits : (old new : Environment) (name owner value : Text) → pushed_value old name owner value ≡ Ok new → EditsStack old new name
@@ -197,7 +197,7 @@ keeps_other old new name other h o d =
     (apart (stack_name other) (stack_name name) _ _ (stack_place other o) (stack_place name h.editable) stacks)))
 
 -- a name of another kind than those of a variable
-foreign : (old new : Environment) (name q : Text) (p : Place) → EditsVariable old new name → place_of q ≡ p → (p ≡ Variable name → ⊥) → (p ≡ Counters name → ⊥) → (p ≡ Stack name → ⊥) → lookup new q ≡ lookup old q
+foreign : (old new : Environment) (name q : Text) (p : StatePlace) → EditsVariable old new name → place_of q ≡ p → (p ≡ Variable name → ⊥) → (p ≡ Counters name → ⊥) → (p ≡ Stack name → ⊥) → lookup new q ≡ lookup old q
 foreign old new name q p h e a b c =
     h.only q (none_three (bytes_eq q name) (bytes_eq q (share_name name)) (bytes_eq q (stack_name name))
     (apart q name p _ e (variable_place name h.editable) a)
@@ -282,7 +282,7 @@ keeps_loaded old new name h =
     (foreign old new name prereqs_variable LoadedPrereqs h refl (λ k. cc) (λ k. cc) (λ k. cc))
 
 -- a name that is none of the four
-unlisted : (old new : Environment) (q : Text) (p : Place) → OnlyAmong old new loaded_names → place_of q ≡ p → (p ≡ LoadedNames → ⊥) → (p ≡ LoadedFiles → ⊥) → (p ≡ LoadedConflicts → ⊥) → (p ≡ LoadedPrereqs → ⊥) → lookup new q ≡ lookup old q
+unlisted : (old new : Environment) (q : Text) (p : StatePlace) → OnlyAmong old new loaded_names → place_of q ≡ p → (p ≡ LoadedNames → ⊥) → (p ≡ LoadedFiles → ⊥) → (p ≡ LoadedConflicts → ⊥) → (p ≡ LoadedPrereqs → ⊥) → lookup new q ≡ lookup old q
 unlisted old new q p h e a b c d =
     h q (none_four (bytes_eq q names_variable) (bytes_eq q files_variable) (bytes_eq q conflicts_variable) (bytes_eq q prereqs_variable)
     (apart q names_variable p _ e refl a) (apart q files_variable p _ e refl b) (apart q conflicts_variable p _ e refl c) (apart q prereqs_variable p _ e refl d))

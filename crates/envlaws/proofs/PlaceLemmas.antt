@@ -8,8 +8,8 @@ use Rattle.environment.specs.Names.{is_variable_name, is_protected, share_name, 
 use Rattle.environment.specs.Reasons.{EnvReason, bad_variable, protected}
 use Rattle.environment.proofs.TextLemmas.{same_text}
 use Rattle.loadedlist.specs.LoadedTexts.{names_variable, files_variable, conflicts_variable, prereqs_variable}
-use Rattle.envlaws.specs.Places.{Place, is_editable, behind, kept_place, place_of, IsNameOf}
-use Rattle.envlaws.specs.Places.Place.{Variable, Counters, Stack, LoadedNames, LoadedFiles, LoadedConflicts, LoadedPrereqs, Other}
+use Rattle.envlaws.specs.Places.{StatePlace, is_editable, behind, kept_place, place_of, IsNameOf}
+use Rattle.envlaws.specs.Places.StatePlace.{Variable, Counters, Stack, LoadedNames, LoadedFiles, LoadedConflicts, LoadedPrereqs, Other}
 use Rattle.envlaws.specs.EnvLaws.{HasPlaces, LoadedHavePlaces}
 
 behind_at : (c k : ℕ) (front n v : Text) (b : Bool) → nat_eq c k ≡ b → (behind front n ≡ Some v → n ≡ front ++ v) → cond b (behind front n) None ≡ Some v → k ∷ n ≡ c ∷ (front ++ v)
@@ -21,11 +21,11 @@ behind_is [] n v h = same_Some _ _ h
 behind_is (c ∷ front) [] v h = elim (none-some v h) [ ]
 behind_is (c ∷ front) (k ∷ n) v h = behind_at c k front n v (nat_eq c k) refl (behind_is front n v) h
 
-of_editable_is : (n v : Text) (p : Place) (b : Bool) → is_editable v ≡ b → (is_editable v ≡ true → IsNameOf n p) → IsNameOf n (if b then p else Other)
+of_editable_is : (n v : Text) (p : StatePlace) (b : Bool) → is_editable v ≡ b → (is_editable v ≡ true → IsNameOf n p) → IsNameOf n (if b then p else Other)
 of_editable_is n v p true e h = h e
 of_editable_is n v p false e h = tt
 
-one_of : (n x : Text) (p q : Place) (b : Bool) → bytes_eq n x ≡ b → (n ≡ x → IsNameOf n p) → IsNameOf n q → IsNameOf n (if b then p else q)
+one_of : (n x : Text) (p q : StatePlace) (b : Bool) → bytes_eq n x ≡ b → (n ≡ x → IsNameOf n p) → IsNameOf n q → IsNameOf n (if b then p else q)
 one_of n x p q true e h k = h (same_text n x e)
 one_of n x p q false e h k = k
 
@@ -41,7 +41,7 @@ kept_is n (Some v) q h k = of_editable_is n v (Counters v) (is_editable v) refl 
 kept_is n None (Some v) h k = of_editable_is n v (Stack v) (is_editable v) refl (λ e. (e, behind_is (codes "__MODULES_PUSHENV_") n v k))
 kept_is n None None h k = loaded_is n
 
-variable_at : (n : Text) (b : Bool) (p : Place) → is_editable n ≡ b → IsNameOf n p → IsNameOf n (if b then Variable n else p)
+variable_at : (n : Text) (b : Bool) (p : StatePlace) → is_editable n ≡ b → IsNameOf n p → IsNameOf n (if b then Variable n else p)
 variable_at n true p e h = (e, refl)
 variable_at n false p e h = h
 
@@ -71,7 +71,7 @@ pub parted : (m n : Text) → place_of m ≢ place_of n → bytes_eq m n ≡ fal
 parted m n h = not_true (bytes_eq m n) (λ e. h (ap place_of (same_text m n e)))
 
 -- names whose places are known to be two
-pub apart : (m n : Text) (p q : Place) → place_of m ≡ p → place_of n ≡ q → (p ≡ q → ⊥) → bytes_eq m n ≡ false
+pub apart : (m n : Text) (p q : StatePlace) → place_of m ≡ p → place_of n ≡ q → (p ≡ q → ⊥) → bytes_eq m n ≡ false
 apart m n p q e f h = parted m n (λ s. h (sym e ∙ s ∙ f))
 
 reason_at : (name : Text) (p v : Bool) → (if not p && v then true else false) ≡ true → (if v then (if p then Some (protected name) else None) else Some (bad_variable name)) ≡ None

@@ -14,7 +14,7 @@ use Rattle.environment.proofs.EditLemmas.{both_true, passes_each}
 use Rattle.pathstate.specs.PathTexts.{elements_text, pairs_text}
 use Rattle.pathstate.specs.PathVariables.{path_in}
 use Rattle.pathstate.specs.PathOrder.{IsPathInOrder}
-use Rattle.stackstate.specs.Stacks.{Item, StackState, is_owner, holds, base}
+use Rattle.stackstate.specs.Stacks.{OwnedValue, StackState, is_owner, holds, base}
 use Rattle.stackstate.specs.StackTexts.{items_in, can_own, is_writable_stack, stack_text}
 use Rattle.stackstate.specs.StackRuns.{items_of, standing}
 use Rattle.stackstate.specs.StackVariables.{stack_in, stack_from, is_loaded_owner, IsWrittenStack, IsStackInOrder}
@@ -32,7 +32,7 @@ loaded_owns : (loaded : List Text) (o : Option Text) → list_all is_module_name
 loaded_owns loaded None n h = refl
 loaded_owns loaded (Some owner) n h = name_owns owner (passes_each is_module_name owner loaded n h)
 
-all_own : (loaded : List Text) (items : List Item) → list_all is_module_name loaded ≡ true → list_all (λ item. is_loaded_owner loaded item.0) items ≡ true → list_all (λ item. can_own item.0) items ≡ true
+all_own : (loaded : List Text) (items : List OwnedValue) → list_all is_module_name loaded ≡ true → list_all (λ item. is_loaded_owner loaded item.0) items ≡ true → list_all (λ item. can_own item.0) items ≡ true
 all_own loaded [] n h = refl
 all_own loaded (item ∷ items) n h =
     let g = both_true (is_loaded_owner loaded item.0) (list_all (λ i. is_loaded_owner loaded i.0) items) h in
@@ -57,7 +57,7 @@ start_of loaded e name n (inr w) = (
 or_both : (a b : Bool) → a ≡ false → b ≡ false → (a || b) ≡ false
 or_both a b h k = rw (h, k) refl
 
-base_absent : (m : Text) (items : List Item) (value : Option Text) → holds m items ≡ false → holds m (base items value) ≡ false
+base_absent : (m : Text) (items : List OwnedValue) (value : Option Text) → holds m items ≡ false → holds m (base items value) ≡ false
 base_absent m [] None h = refl
 base_absent m [] (Some v) h = refl
 base_absent m (item ∷ items) value h = h

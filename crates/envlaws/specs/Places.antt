@@ -9,15 +9,15 @@ abbrev pub is_editable : Text → Bool
 is_editable name = not (is_protected name) && is_variable_name name
 
 -- a variable that may be edited, the counters or the stack of one, a text of the loaded list, or something else
-pub data Place : Type 0 where
-  Variable : (name : Text) → Place
-  Counters : (name : Text) → Place
-  Stack : (name : Text) → Place
-  LoadedNames : Place
-  LoadedFiles : Place
-  LoadedConflicts : Place
-  LoadedPrereqs : Place
-  Other : Place
+pub data StatePlace : Type 0 where
+  Variable : (name : Text) → StatePlace
+  Counters : (name : Text) → StatePlace
+  Stack : (name : Text) → StatePlace
+  LoadedNames : StatePlace
+  LoadedFiles : StatePlace
+  LoadedConflicts : StatePlace
+  LoadedPrereqs : StatePlace
+  Other : StatePlace
 
 -- what stands behind the front, where a text begins so
 abbrev pub behind : Text → Text → Option Text
@@ -26,11 +26,11 @@ behind (c ∷ front) [] = None
 behind (c ∷ front) (k ∷ n) = if c == k then behind front n else None
 
 -- the place of a variable that may be edited
-abbrev pub of_editable : Text → Place → Place
+abbrev pub of_editable : Text → StatePlace → StatePlace
 of_editable name place = if is_editable name then place else Other
 
 -- the place of a name that is kept, by what stands behind either front
-abbrev pub kept_place : Text → Option Text → Option Text → Place
+abbrev pub kept_place : Text → Option Text → Option Text → StatePlace
 kept_place n (Some v) o = of_editable v (Counters v)
 kept_place n None (Some v) = of_editable v (Stack v)
 kept_place n None None =
@@ -41,13 +41,13 @@ kept_place n None None =
     else Other
 
 -- what a name stands for
-abbrev pub place_of : Text → Place
+abbrev pub place_of : Text → StatePlace
 place_of n =
     if is_editable n then Variable n else kept_place n (behind (codes "__MODULES_SHARE_") n) (behind
     (codes "__MODULES_PUSHENV_") n)
 
 -- the name is the one of the place
-abbrev pub IsNameOf : Text → Place → Type 0
+abbrev pub IsNameOf : Text → StatePlace → Type 0
 IsNameOf n (Variable v) = (is_editable v ≡ true) × (n ≡ v)
 IsNameOf n (Counters v) = (is_editable v ≡ true) × (n ≡ share_name v)
 IsNameOf n (Stack v) = (is_editable v ≡ true) × (n ≡ stack_name v)

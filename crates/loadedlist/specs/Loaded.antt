@@ -7,7 +7,7 @@ use Rattle.environment.specs.Texts.{Text, has}
 use Rattle.environment.specs.Fields.{colon, text_of, firsts, elements_in, are_distinct}
 use Rattle.loadedlist.specs.LoadedTexts.{names_variable, files_variable, conflicts_variable, prereqs_variable, is_empty, are_consistent, first_element, words_in, conflicts_among, prereqs_among, has_names, element_of, group_text}
 use Rattle.environment.specs.Environment.{Environment, lookup}
-use Rattle.environment.specs.Changes.{Edit, applied}
+use Rattle.environment.specs.Changes.{NewValue, applied}
 use Rattle.environment.specs.Reasons.{EnvReason, inconsistent}
 
 -- a loaded module, its full path, the names that it conflicts with, and the groups of names of which it needs one each
@@ -91,7 +91,7 @@ abbrev pub prereqs_text : List Entry → Option Text
 prereqs_text entries = text_of (prereq_elements entries)
 
 -- what is written of the list
-abbrev pub loaded_edits : List Entry → List Edit
+abbrev pub loaded_edits : List Entry → List NewValue
 loaded_edits entries =
     (names_variable, names_text entries) ∷ (files_variable, files_text entries)
     ∷ (conflicts_variable, conflicts_text entries) ∷ (prereqs_variable, prereqs_text entries) ∷ []

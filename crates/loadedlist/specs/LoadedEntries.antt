@@ -27,19 +27,19 @@ entry_of x =
     }
 
 -- The answer is this; inconsistent exactly where there is none.
-abbrev pub Answers : {A B : Type 0} → (A → B) → Result A EnvFault → Option B → Type 0
-Answers view (Ok a) outcome = outcome ≡ Some (view a)
-Answers view (Err OutOfMemory) outcome = Unit {0}
-Answers view (Err Inconsistent) outcome = outcome ≡ None
-Answers view (Err (BadVariable var)) outcome = ⊥
-Answers view (Err (Protected var)) outcome = ⊥
-Answers view (Err (CounterFull var)) outcome = ⊥
-Answers view (Err (BadStack var)) outcome = ⊥
-Answers view (Err (BadValue var)) outcome = ⊥
+abbrev pub GivesOrInconsistent : {A B : Type 0} → (A → B) → Result A EnvFault → Option B → Type 0
+GivesOrInconsistent view (Ok a) outcome = outcome ≡ Some (view a)
+GivesOrInconsistent view (Err OutOfMemory) outcome = Unit {0}
+GivesOrInconsistent view (Err Inconsistent) outcome = outcome ≡ None
+GivesOrInconsistent view (Err (BadVariable var)) outcome = ⊥
+GivesOrInconsistent view (Err (Protected var)) outcome = ⊥
+GivesOrInconsistent view (Err (CounterFull var)) outcome = ⊥
+GivesOrInconsistent view (Err (BadStack var)) outcome = ⊥
+GivesOrInconsistent view (Err (BadValue var)) outcome = ⊥
 
 -- the answer is this list
-abbrev pub Lists : Result (Vec Loaded Global) EnvFault → Option (List Entry) → Type 0
-Lists result outcome = Answers (λ v. map entry_of v.items) result outcome
+abbrev pub GivesList : Result (Vec Loaded Global) EnvFault → Option (List Entry) → Type 0
+GivesList result outcome = GivesOrInconsistent (λ v. map entry_of v.items) result outcome
 
 -- For proofs of this crate: what a table of elements has for a module.
 abbrev pub element_in : {S : Type 0} → IndexMap (Bor Text) (Bor Text) S → Text → Option Text

@@ -3,7 +3,7 @@ ghost use Rattle.std.specs.Prelude.{◌≡◌, ◌&&◌, ◌++◌, [], ◌∷◌
 ghost use Rattle.std.specs.List.{list_any, list_all};
 ghost use Rattle.std.specs.Option.{option_map};
 ghost use Rattle.modulename.specs.ModuleName.{is_module_name};
-ghost use Rattle.environment.specs.Changes.{edit_of};
+ghost use Rattle.environment.specs.Changes.{new_value_of};
 ghost use Rattle.loadedlist.specs.LoadedTexts.{element_of, group_text};
 ghost use Rattle.loadedlist.specs.Loaded.{names_text, files_text, conflict_elements, conflicts_text, prereq_elements, prereqs_text, loaded_edits, with_loaded, is_path, is_group, is_entry, can_be_added, kept_once, added_loaded, dropped_loaded};
 ghost use Rattle.loadedlist.specs.LoadedEntries.{entry_of};
@@ -117,7 +117,7 @@ fn prereqs_text(alloc: Global, list: &[Loaded]) -> Result<Option<String>, AllocE
 }
 
 fn change(alloc: Global, name: &str, value: Option<String>) -> Result<Change, AllocError>
-    ensures { IfOk result (λ c. edit_of c ≡ (name.now, option_map string_bytes value)) }
+    ensures { IfOk result (λ c. new_value_of c ≡ (name.now, option_map string_bytes value)) }
 {
     let name = String::from_str(alloc, name)?;
     Ok(Change { name, value })
@@ -125,7 +125,7 @@ fn change(alloc: Global, name: &str, value: Option<String>) -> Result<Change, Al
 
 /// The changes that write the list.
 fn loaded_changes(alloc: Global, list: &[Loaded]) -> Result<Vec<Change>, AllocError>
-    ensures { IfOk result (λ v. map edit_of v.items ≡ loaded_edits (map entry_of list.now)) }
+    ensures { IfOk result (λ v. map new_value_of v.items ≡ loaded_edits (map entry_of list.now)) }
 {
     let mut changes = Vec::new(alloc);
     changes.push(change(alloc, NAMES, names_text(alloc, list)?)?)?;

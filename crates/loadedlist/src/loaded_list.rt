@@ -5,7 +5,7 @@ ghost use Rattle.std.specs.Option.{option_map, option_or};
 ghost use Rattle.modulename.specs.ModuleName.{is_module_name};
 ghost use Rattle.environment.specs.Texts.{Text, shown, texts_in};
 ghost use Rattle.loadedlist.specs.LoadedTexts.{are_consistent, parts_of, is_of, first_element, words_in, conflicts_among, prereqs_among, names_of_group, has_names};
-ghost use Rattle.loadedlist.specs.LoadedEntries.{element_in, Lists, Answers, groups_in, entry_of};
+ghost use Rattle.loadedlist.specs.LoadedEntries.{element_in, GivesList, GivesOrInconsistent, groups_in, entry_of};
 ghost use Rattle.loadedlist.specs.Loaded.{entry_from, entries_from, loaded_in, entry_named, conflicts_in, prereqs_in};
 
 use crate::entry::Loaded;
@@ -233,7 +233,7 @@ fn entries_said(
 /// ill spelled or there twice. The other two texts are never a reason: what is ill spelled in them is passed
 /// over.
 pub fn loaded<V: Vars>(alloc: Global, env: &V) -> Result<Vec<Loaded>, EnvFault>
-    ensures { Lists result (loaded_in (V.vars env.now)) }
+    ensures { GivesList result (loaded_in (V.vars env.now)) }
 {
     let names = elements(alloc, env.get(NAMES))?;
     let files = elements(alloc, env.get(FILES))?;
@@ -285,7 +285,7 @@ pub(crate) fn copy_groups(
 ///
 /// The answer is `Inconsistent` where that of `loaded` is.
 pub fn conflicts_of<V: Vars>(alloc: Global, env: &V, name: &str) -> Result<Vec<String>, EnvFault>
-    ensures { Answers texts_in result (conflicts_in (V.vars env.now) name.now) }
+    ensures { GivesOrInconsistent texts_in result (conflicts_in (V.vars env.now) name.now) }
 {
     let list = loaded(alloc, env)?;
     let Some(entry) = find(list.as_slice(), name) else {
@@ -299,7 +299,7 @@ pub fn conflicts_of<V: Vars>(alloc: Global, env: &V, name: &str) -> Result<Vec<S
 ///
 /// The answer is `Inconsistent` where that of `loaded` is.
 pub fn prereqs_of<V: Vars>(alloc: Global, env: &V, name: &str) -> Result<Vec<Vec<String>>, EnvFault>
-    ensures { Answers groups_in result (prereqs_in (V.vars env.now) name.now) }
+    ensures { GivesOrInconsistent groups_in result (prereqs_in (V.vars env.now) name.now) }
 {
     let list = loaded(alloc, env)?;
     let Some(entry) = find(list.as_slice(), name) else {

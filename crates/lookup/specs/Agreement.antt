@@ -23,12 +23,12 @@ abbrev pub listing_answer : Option (Vec (String Global) Global) → Option (List
 listing_answer answer = option_map (λ names. map string_bytes (vec_items names)) answer
 
 -- each pair of maps that agrees has P
-abbrev pub Shows : (Files → Listings → Type 0) → (Files → Listings → Type 0) → Type 0
-Shows agrees P = (files : Files) (listings : Listings) → agrees files listings → P files listings
+abbrev pub InEachPair : (Files → Listings → Type 0) → (Files → Listings → Type 0) → Type 0
+InEachPair agrees P = (files : Files) (listings : Listings) → agrees files listings → P files listings
 
 -- what agrees now agreed before: the answers since then took some pairs away, or none
 abbrev pub Narrows : (Files → Listings → Type 0) → (Files → Listings → Type 0) → Type 0
-Narrows before now = Shows now (λ files listings. before files listings)
+Narrows before now = InEachPair now (λ files listings. before files listings)
 
 -- some pair of maps agrees
 abbrev pub IsAgreeable : (Files → Listings → Type 0) → Type 0

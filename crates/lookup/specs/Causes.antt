@@ -1,6 +1,6 @@
 -- Why a call over a tree gives no value, and how its answers show what the definitions say.
 use Rattle.std.specs.Prelude.{Result, Ok, Err}
-use Rattle.lookup.specs.Agreement.{Files, Listings, Shows}
+use Rattle.lookup.specs.Agreement.{Files, Listings, InEachPair}
 
 -- what is behind a fault: want of memory, a device that failed, or a reason of the call's own
 pub data Cause (R : Type 0) : Type 0 where
@@ -18,6 +18,6 @@ Applies (because r) failed Is = Is r
 -- maps that agrees with the tree now; or the cause of its fault applies.
 abbrev pub Tells : {X Y E R : Type 0} → (E → Cause R) → (Files → Listings → Type 0) → Type 0 → (X → Y) → Result X E
     → (Files → Listings → Result Y R → Type 0) → Type 0
-Tells cause agrees failed view (Ok x) Comes = Shows agrees (λ files listings. Comes files listings (Ok (view x)))
+Tells cause agrees failed view (Ok x) Comes = InEachPair agrees (λ files listings. Comes files listings (Ok (view x)))
 Tells cause agrees failed view (Err e) Comes =
-    Applies (cause e) failed (λ r. Shows agrees (λ files listings. Comes files listings (Err r)))
+    Applies (cause e) failed (λ r. InEachPair agrees (λ files listings. Comes files listings (Err r)))

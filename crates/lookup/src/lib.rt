@@ -1,4 +1,5 @@
-//! Files and directories by their paths, in memory or on a disk, what a path holds as a modulefile, and why none is found.
+//! Files and directories by their paths, in memory or on a disk, what a path holds as a modulefile, and why none is
+//! found.
 #![tactic(auto)]
 
 mod disk;

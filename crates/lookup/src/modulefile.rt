@@ -1,6 +1,6 @@
 //! What a path holds as a modulefile.
 ghost use Rattle.std.specs.Prelude.{◌≡◌, IfOk, Some};
-ghost use Rattle.lookup.specs.Agreement.{Shows, HasCause, Narrows};
+ghost use Rattle.lookup.specs.Agreement.{InEachPair, HasCause, Narrows};
 ghost use Rattle.lookup.specs.Answers.{modulefile_view};
 ghost use Rattle.lookup.specs.Search.{is_module, modulefile};
 
@@ -53,7 +53,7 @@ fn modulefile_of(bytes: Vec<u8>) -> Modulefile
 /// It fails as the tree does.
 pub fn read_modulefile<T: Tree>(tree: &mut T, path: &str) -> Result<Modulefile, TreeFault>
     ensures before { Narrows (T.agrees tree.old) (T.agrees tree.new) }
-    ensures answer { IfOk result (λ m. Shows (T.agrees tree.new)
+    ensures answer { IfOk result (λ m. InEachPair (T.agrees tree.new)
         (λ files listings. modulefile (files path.now) ≡ modulefile_view m)) }
     ensures cause { HasCause (T.failures tree.old) (T.failures tree.new) result }
 {
@@ -68,7 +68,7 @@ pub fn read_modulefile<T: Tree>(tree: &mut T, path: &str) -> Result<Modulefile, 
 /// It fails as the tree does.
 pub fn holds_module<T: Tree>(tree: &mut T, path: &str) -> Result<bool, TreeFault>
     ensures before { Narrows (T.agrees tree.old) (T.agrees tree.new) }
-    ensures answer { IfOk result (λ r. Shows (T.agrees tree.new)
+    ensures answer { IfOk result (λ r. InEachPair (T.agrees tree.new)
         (λ files listings. is_module (modulefile (files path.now)) ≡ r)) }
     ensures cause { HasCause (T.failures tree.old) (T.failures tree.new) result }
 {

@@ -2,7 +2,7 @@
 ghost use Rattle.std.specs.Prelude.{◌≡◌, ℕ, Some, IfOk};
 ghost use Rattle.lookup.specs.declared.tree.TreeFault.TheVariants.{OutOfMemory};
 ghost use Rattle.message.specs.Messages.{text_of};
-ghost use Rattle.lookup.specs.Agreement.{Files, Listings, Shows, HasCause, IsAgreeable, file_answer, listing_answer, tree_message, tree_number, Narrows};
+ghost use Rattle.lookup.specs.Agreement.{Files, Listings, InEachPair, HasCause, IsAgreeable, file_answer, listing_answer, tree_message, tree_number, Narrows};
 
 use message::Message;
 use std::alloc::{AllocError, AllocFailed};
@@ -84,7 +84,7 @@ pub trait Tree {
     fn read(&mut self, path: &str) -> Result<Option<Vec<u8>>, TreeFault>
         ensures before { Narrows (agrees self.old) (agrees self.new) }
         ensures answer { IfOk result (λ answer.
-            Shows (agrees self.new) (λ files listings. files path.now ≡ file_answer answer)) }
+            InEachPair (agrees self.new) (λ files listings. files path.now ≡ file_answer answer)) }
         ensures cause { HasCause (failures self.old) (failures self.new) result };
 
     /// The names in the directory at the path, or `None` where no directory is there.
@@ -93,7 +93,7 @@ pub trait Tree {
     fn entries(&mut self, dir: &str) -> Result<Option<Vec<String>>, TreeFault>
         ensures before { Narrows (agrees self.old) (agrees self.new) }
         ensures answer { IfOk result (λ answer.
-            Shows (agrees self.new) (λ files listings. listings dir.now ≡ listing_answer answer)) }
+            InEachPair (agrees self.new) (λ files listings. listings dir.now ≡ listing_answer answer)) }
         ensures cause { HasCause (failures self.old) (failures self.new) result };
 
     /// With each tree some pair of maps agrees.

@@ -2,8 +2,8 @@
 use Rattle.std.proofs.Common.{◌≡◌, List, Result, Ok, Err, string_bytes, subst, sym, refl}
 use Rattle.environment.specs.Texts.{Text}
 use Rattle.environment.specs.Environment.{Environment}
-use Rattle.environment.specs.Changes.{Edit, AreChanges, edits_in}
-use Rattle.lookup.specs.Agreement.{Files, Listings, Shows}
+use Rattle.environment.specs.Changes.{NewValue, AreChanges, new_values_in}
+use Rattle.lookup.specs.Agreement.{Files, Listings, InEachPair}
 use Rattle.shells.specs.declared.shell.Shell.{Shell}
 use Rattle.shelltext.specs.Printing.{IsPrintFault, IsUnsayable}
 use Rattle.shelltext.specs.Reading.{OneEffect, DifferenceMakes, IsText, SaysDifference}
@@ -14,24 +14,24 @@ use Rattle.reversal.specs.Runs.{live_after, AreFit}
 use Rattle.requests.specs.Laws.{CommandsReturn}
 use Rattle.requests.specs.Reasons.{RequestReason}
 use Rattle.requests.specs.Requests.{Asked, Request}
-use Rattle.requests.specs.Steps.{Site, Done, Step}
+use Rattle.requests.specs.Steps.{Site, Done, RequestStep}
 use Rattle.lookup.specs.Causes.{Cause, memory, device, because, Applies}
 use Rattle.modulesteps.specs.Answers.{cause_of}
 use Rattle.modules.specs.Replies.{site_in, left_by, changed_view}
 use Rattle.modulecmd.specs.declared.refuse.CommandFault.{CommandFault}
 use Rattle.modulecmd.specs.declared.refuse.CommandFault.TheVariants.{Refused, Unprinted, UnknownShell, WriteFailed}
 use Rattle.modulecmd.specs.Command as command
-use Rattle.modulecmd.specs.Command.{CommandReason, Effect, Does, HasReason, command_of, standard, with_shell}
+use Rattle.modulecmd.specs.Command.{CommandReason, Effect, CommandDoes, HasReason, command_of, standard, with_shell}
 use Rattle.modulecmd.specs.declared.command.Answer.{Answer}
 use Rattle.modulecmd.specs.Output.{IsAnswer, LeadsBack}
 use Rattle.modulecmd.specs.Words.{effect_in}
 
 pub does : (arguments : List Text) (e : Environment) (files : Files) (listings : Listings) (r : Request) (o : Result Done RequestReason)
-    → command_of arguments ≡ Ok r → Step (site_in standard r.0 files listings) e r.1 o → Does arguments e files listings (with_shell r.0 o)
+    → command_of arguments ≡ Ok r → RequestStep (site_in standard r.0 files listings) e r.1 o → CommandDoes arguments e files listings (with_shell r.0 o)
 does arguments e files listings r o made step = (Ok r, sym made, (o, step, refl))
 
 pub makes_none : (arguments : List Text) (e : Environment) (files : Files) (listings : Listings) (reason : CommandReason)
-    → command_of arguments ≡ Err reason → Does arguments e files listings (Err reason)
+    → command_of arguments ≡ Err reason → CommandDoes arguments e files listings (Err reason)
 makes_none arguments e files listings reason made = (Err reason, sym made, refl)
 
 pub stands_so : (c : Cause RequestReason) (Is Is' : RequestReason → Type 0) (failed failed' : Type 0) → ((r : RequestReason) → Is r → Is' r) → (failed → failed') → Applies c failed Is → Applies c failed' Is'
@@ -52,7 +52,7 @@ has_reason WriteFailed Is Is' Lacks Lacks' failed failed' more lacks fails h = a
 
 -- the text of a step leads back as the step does
 pub leads_back : CommandsReturn → OneEffect → DifferenceMakes → (s : Site) (e : Environment) (asked : Asked) (f : Effect) (text : Text)
-    → Step s e asked (Ok f.1) → SaysDifference f.0 text e f.1.env → LeadsBack e f text
+    → RequestStep s e asked (Ok f.1) → SaysDifference f.0 text e f.1.env → LeadsBack e f text
 leads_back returns one makes s e asked f text step says =
     λ ways start new live is_start in_order stands fit is_new fitting made.
     let P : Environment → Type 0 = λ x. Holds ways start (live_after live f.1.moves) x × AreFit ways (live_after live f.1.moves) in
@@ -60,7 +60,7 @@ leads_back returns one makes s e asked f text step says =
     (returns ways s start e live asked f.1 is_start in_order stands fit step is_new fitting)
 
 -- what is behind a text that isn't there
-pub unprinted : (shell : Shell) (ss : List Edit) (fault : PrintFault) (Is : CommandReason → Type 0) (Lacks : Text → Type 0) (failed : Type 0)
+pub unprinted : (shell : Shell) (ss : List NewValue) (fault : PrintFault) (Is : CommandReason → Type 0) (Lacks : Text → Type 0) (failed : Type 0)
     → ((name : Text) → IsUnsayable shell ss name → Lacks name) → IsPrintFault shell ss fault → HasReason (Unprinted fault) Is Lacks failed
 unprinted shell ss prints.OutOfMemory Is Lacks failed lacks h = tt
 unprinted shell ss (prints.NotSayable name) Is Lacks failed lacks h = lacks (string_bytes name) h
@@ -68,13 +68,13 @@ unprinted shell ss (prints.NotSayable name) Is Lacks failed lacks h = lacks (str
 -- A request's step and the text of its changes answer the command.
 pub answers : CommandsReturn → OneEffect → DifferenceMakes → (agrees : Files → Listings → Type 0) (arguments : List Text) (e : Environment) (r : Request) (a : Answer)
     → command_of arguments ≡ Ok r → a.shell ≡ r.0
-    → Shows agrees (λ files listings. Step (site_in standard r.0 files listings) e r.1 (Ok (changed_view e a.changed)))
-    → AreChanges e (left_by e a.changed) (edits_in a.changed.changes) → IsText r.0 (string_bytes a.text) (edits_in a.changed.changes)
-    → IsAnswer agrees e (Does arguments e) (effect_in e a) (string_bytes a.text)
+    → InEachPair agrees (λ files listings. RequestStep (site_in standard r.0 files listings) e r.1 (Ok (changed_view e a.changed)))
+    → AreChanges e (left_by e a.changed) (new_values_in a.changed.changes) → IsText r.0 (string_bytes a.text) (new_values_in a.changed.changes)
+    → IsAnswer agrees e (CommandDoes arguments e) (effect_in e a) (string_bytes a.text)
 answers returns one makes agrees arguments e r a made shell step exact says =
-    let Read : Shell → Type 0 = λ s. IsText s (string_bytes a.text) (edits_in a.changed.changes) in
-    let difference : SaysDifference a.shell (string_bytes a.text) e (left_by e a.changed) = record { settings = edits_in a.changed.changes; exact = exact; says = subst Read (sym shell) says } in
-    let Came : Shell → Files → Listings → Type 0 = λ s files listings. Does arguments e files listings (Ok (s, changed_view e a.changed)) in (
+    let Read : Shell → Type 0 = λ s. IsText s (string_bytes a.text) (new_values_in a.changed.changes) in
+    let difference : SaysDifference a.shell (string_bytes a.text) e (left_by e a.changed) = record { changes = new_values_in a.changed.changes; exact = exact; says = subst Read (sym shell) says } in
+    let Came : Shell → Files → Listings → Type 0 = λ s files listings. CommandDoes arguments e files listings (Ok (s, changed_view e a.changed)) in (
       λ files listings agreed. subst (λ s. Came s files listings) (sym shell) (does arguments e files listings r (Ok (changed_view e a.changed)) made (step files listings agreed)),
       difference,
       λ files listings agreed. leads_back returns one makes (site_in standard r.0 files listings) e r.1 (effect_in e a) (string_bytes a.text) (step files listings agreed) difference,

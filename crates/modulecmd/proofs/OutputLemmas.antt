@@ -10,7 +10,7 @@ use Rattle.modulecmd.specs.declared.ends.Exit.TheVariants.{Success, Told, CutSho
 use Rattle.modulecmd.specs.declared.refuse.CommandFault.{CommandFault}
 use Rattle.modulecmd.specs.declared.refuse.CommandFault.TheVariants.{WriteFailed}
 use Rattle.modulecmd.specs.declared.command.Answer.{Answer}
-use Rattle.modulecmd.specs.Output.{BreaksOff, Ends, Finishes, IsAnswer, Outcomes, WritesFault, said}
+use Rattle.modulecmd.specs.Output.{BreaksOff, EndsCommand, FinishesWriting, IsAnswer, Outcomes, WritesFault, said}
 use Rattle.modulecmd.specs.Words.{effect_in, words_of}
 use Rattle.modulecmd.specs.Writing.{AppendsPart}
 
@@ -24,7 +24,7 @@ no_success : (words text : Text) (out out' err err' : Option Text) → Half Succ
 no_success words text out out' err err' (inl h) = h.1.2
 no_success words text out out' err err' (inr h) = h.1
 
-pub finishes : (exit : Exit) (words text : Text) (out out' err err' : Option Text) → Half exit words text out out' err err' → Finishes exit words text out out' err err'
+pub finishes : (exit : Exit) (words text : Text) (out out' err err' : Option Text) → Half exit words text out out' err err' → FinishesWriting exit words text out out' err err'
 finishes Success words text out out' err err' h = absurd (no_success words text out out' err err' h)
 finishes Told words text out out' err err' h = h
 finishes CutShort words text out out' err err' h = h
@@ -39,7 +39,7 @@ words_said e a = ap (λ zs. zs ++ string_bytes a.changed.done.report) (flat_map_
 
 -- the end of a command whose answer was written
 pub answered : (exit : Exit) (agrees : Files → Listings → Type 0) (failed : Type 0) (e : Environment) (Does : Outcomes) (a : Answer) (out out' err err' : Option Text)
-    → IsAnswer agrees e Does (effect_in e a) (string_bytes a.text) → Finishes exit (words_of a) (string_bytes a.text) out out' err err' → Ends exit agrees failed e Does out out' err err'
+    → IsAnswer agrees e Does (effect_in e a) (string_bytes a.text) → FinishesWriting exit (words_of a) (string_bytes a.text) out out' err err' → EndsCommand exit agrees failed e Does out out' err err'
 answered exit agrees failed e Does a out out' err err' is h =
-    let P : Text → Type 0 = λ words. Finishes exit words (string_bytes a.text) out out' err err' in
+    let P : Text → Type 0 = λ words. FinishesWriting exit words (string_bytes a.text) out out' err err' in
     inl (effect_in e a, string_bytes a.text, is, subst P (words_said e a) h)

@@ -2,7 +2,7 @@
 use Rattle.std.specs.Prelude.{◌≡◌, ℕ, List, [], ◌∷◌, Option, Some, None, Result, Ok, Err, string_bytes}
 use Rattle.environment.specs.Texts.{Text}
 use Rattle.environment.specs.Environment.{Environment}
-use Rattle.environment.specs.Changes.{Edit, AreChanges}
+use Rattle.environment.specs.Changes.{NewValue, AreChanges}
 use Rattle.lookup.specs.Agreement.{Files, Listings}
 use Rattle.relations.specs.Relations.{Is, ◌>>◌}
 use Rattle.shells.specs.declared.shell.Shell.{Shell}
@@ -12,7 +12,7 @@ use Rattle.shelltext.specs.Printing.{IsUnsayable, print_fault_number}
 use Rattle.tclrules.specs.declared.limits.Limits.{Limits}
 use Rattle.requests.specs.Reasons.{RequestReason, bad_arguments}
 use Rattle.requests.specs.Requests.{Asked, Request, request_of}
-use Rattle.requests.specs.Steps.{Done, Step}
+use Rattle.requests.specs.Steps.{Done, RequestStep}
 use Rattle.requests.specs.declared.request_fault.RequestFault.TheVariants as requests
 use Rattle.lookup.specs.Causes.{Applies}
 use Rattle.modulesteps.specs.Answers.{cause_of}
@@ -37,7 +37,8 @@ abbrev pub by_shell : Text → List Text → Option Shell → Result Request Com
 by_shell word words None = Err (unknown_shell word)
 by_shell word words (Some shell) = for_shell shell (request_of words)
 
--- the request that the arguments make: the name of the shell that is to read the text, and then the words of the request
+-- the request that the arguments make: the name of the shell that is to read the text, and then the words of the
+-- request
 abbrev pub command_of : List Text → Result Request CommandReason
 command_of [] = Err (because bad_arguments)
 command_of (word ∷ words) = by_shell word words (shell_named word)
@@ -57,16 +58,17 @@ with_shell shell (Err reason) = Err (because reason)
 -- the step of a request
 abbrev pub Takes : Request → Environment → Files → Listings → Result Effect CommandReason → Type 0
 Takes r e files listings o =
-    (step : Result Done RequestReason) × Step (site_in standard r.0 files listings) e r.1 step × (o ≡ with_shell r.0 step)
+    (step : Result Done RequestReason) × RequestStep (site_in standard r.0 files listings) e r.1 step
+    × (o ≡ with_shell r.0 step)
 
 -- What a command with these arguments comes to, in this environment and over these files and folders.
-abbrev pub Does : List Text → Environment → Files → Listings → Result Effect CommandReason → Type 0
-Does arguments e files listings = Is (command_of arguments) >> (λ r. Takes r e files listings)
+abbrev pub CommandDoes : List Text → Environment → Files → Listings → Result Effect CommandReason → Type 0
+CommandDoes arguments e files listings = Is (command_of arguments) >> (λ r. Takes r e files listings)
 
 -- The changes from one environment to the other have no text in the shell, and the first that no line says is of this
 -- variable.
 abbrev pub LacksText : Shell → Environment → Environment → Text → Type 0
-LacksText shell old new name = (cs : List Edit) × AreChanges old new cs × IsUnsayable shell cs name
+LacksText shell old new name = (cs : List NewValue) × AreChanges old new cs × IsUnsayable shell cs name
 
 -- A refusal has a reason: memory can always be wanting, a device has failed, a variable can't be said, or the
 -- command has a reason.

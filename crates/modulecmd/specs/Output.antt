@@ -11,7 +11,7 @@ use Rattle.reversal.specs.Runs.{live_after, AreFit}
 use Rattle.reversal.specs.Laws.{Holds}
 use Rattle.requests.specs.Steps.{Done}
 use Rattle.requests.specs.Returning.{AreNew, AreFitting}
-use Rattle.lookup.specs.Agreement.{Files, Listings, Shows}
+use Rattle.lookup.specs.Agreement.{Files, Listings, InEachPair}
 use Rattle.shelltext.specs.Reading.{MakesOf, SaysDifference}
 use Rattle.modulecmd.specs.declared.refuse.CommandFault.{CommandFault}
 use Rattle.modulecmd.specs.declared.refuse.CommandFault.TheVariants.{WriteFailed}
@@ -26,16 +26,16 @@ abbrev pub Outcomes : Type 1
 Outcomes = Files → Listings → Result Effect CommandReason → Type 0
 
 -- it comes to this in each pair of maps that agrees with the tree
-abbrev pub ComesTo : (Files → Listings → Type 0) → Outcomes → Result Effect CommandReason → Type 0
-ComesTo agrees Does o = Shows agrees (λ files listings. Does files listings o)
+abbrev pub ComesToInEachPair : (Files → Listings → Type 0) → Outcomes → Result Effect CommandReason → Type 0
+ComesToInEachPair agrees Does o = InEachPair agrees (λ files listings. Does files listings o)
 
 -- what goes to standard error: the messages, and then the report
 abbrev pub said : Done → Text
 said done = flat_map (λ message. message) done.messages ++ done.report
 
--- Where the environment is in order and stands over a start in order with live modules that fit, and the command unloads no
--- module of that start and moves what fits: what a shell makes of the environment that runs the text is in order and
--- stands over the start with the modules that are live then, which fit. With none it is the start.
+-- Where the environment is in order and stands over a start in order with live modules that fit, and the command
+-- unloads no module of that start and moves what fits: what a shell makes of the environment that runs the text is in
+-- order and stands over the start with the modules that are live then, which fit. With none it is the start.
 abbrev pub LeadsBack : Environment → Effect → Text → Type 0
 LeadsBack e f text =
     (ways : Text → Way) (start new : Environment) (live : List Module)
@@ -43,11 +43,12 @@ LeadsBack e f text =
     → AreNew start f.1.moves → AreFitting ways live f.1.moves → MakesOf f.0 text e new
     → Holds ways start (live_after live f.1.moves) new × AreFit ways (live_after live f.1.moves)
 
--- What an accepted command answers: it comes to the effect, the text says exactly the difference that the effect makes of
--- the environment, and it leads back.
+-- What an accepted command answers: it comes to the effect, the text says exactly the difference that the effect makes
+-- of the environment, and it leads back.
 abbrev pub IsAnswer : (Files → Listings → Type 0) → Environment → Outcomes → Effect → Text → Type 0
 IsAnswer agrees e Does f text =
-    ComesTo agrees Does (Ok f) × SaysDifference f.0 text e f.1.env × Shows agrees (λ files listings. LeadsBack e f text)
+    ComesToInEachPair agrees Does (Ok f) × SaysDifference f.0 text e f.1.env
+    × InEachPair agrees (λ files listings. LeadsBack e f text)
 
 -- What is left where a fault is told behind a text: the whole line, or else a beginning that is not the whole of it.
 abbrev pub WritesFault : Exit → Option Text → Option Text → Text → CommandFault → Type 0
@@ -63,17 +64,19 @@ BreaksOff exit err err' words = (k : ℕ) × (k < length words) × WritesFault e
 -- What the writing of an answer leaves: the words on standard error, and the text on standard output; or where a write
 -- failed, on standard error before all the words were there, and then nothing is on standard output; or there, and then
 -- a beginning of the text is.
-abbrev pub Finishes : Exit → Text → Text → Option Text → Option Text → Option Text → Option Text → Type 0
-Finishes Success words text out out' err err' = Appends out out' text × Appends err err' words
-Finishes exit words text out out' err err' =
+abbrev pub FinishesWriting : Exit → Text → Text → Option Text → Option Text → Option Text → Option Text → Type 0
+FinishesWriting Success words text out out' err err' = Appends out out' text × Appends err err' words
+FinishesWriting exit words text out out' err err' =
     (Keeps out out' × BreaksOff exit err err' words)
     ⊎ (AppendsPart out out' text × WritesFault exit err err' words WriteFailed)
 
--- What an accepted command leaves: its messages and its report, and its text; or as much as a failed write left of them.
-abbrev pub Accepts : Exit → (Files → Listings → Type 0) → Environment → Outcomes → Option Text → Option Text → Option Text
-    → Option Text → Type 0
+-- What an accepted command leaves: its messages and its report, and its text; or as much as a failed write left of
+-- them.
+abbrev pub Accepts : Exit → (Files → Listings → Type 0) → Environment → Outcomes → Option Text → Option Text
+    → Option Text → Option Text → Type 0
 Accepts exit agrees e Does out out' err err' =
-    (f : Effect) × (text : Text) × IsAnswer agrees e Does f text × Finishes exit (said f.1) text out out' err err'
+    (f : Effect) × (text : Text) × IsAnswer agrees e Does f text
+    × FinishesWriting exit (said f.1) text out out' err err'
 
 -- What a refused command leaves: nothing on standard output, and the line that tells why on standard error.
 abbrev pub Refuses : Exit → CommandFault → Option Text → Option Text → Option Text → Option Text → Type 0
@@ -81,18 +84,18 @@ Refuses exit fault out out' err err' = Keeps out out' × WritesFault exit err er
 
 -- It comes to an effect whose changes have no text in the shell.
 abbrev pub IsUnsaid : (Files → Listings → Type 0) → Environment → Outcomes → Text → Type 0
-IsUnsaid agrees e Does name = (f : Effect) × ComesTo agrees Does (Ok f) × LacksText f.0 e f.1.env name
+IsUnsaid agrees e Does name = (f : Effect) × ComesToInEachPair agrees Does (Ok f) × LacksText f.0 e f.1.env name
 
 -- A fault refuses a command over a tree: memory is wanting, the device has failed, and any other is the command's own
 -- in each pair of maps that agrees with the tree.
 abbrev pub IsRefused : (Files → Listings → Type 0) → Type 0 → Environment → Outcomes → CommandFault → Type 0
 IsRefused agrees failed e Does fault =
-    HasReason fault (λ reason. ComesTo agrees Does (Err reason)) (IsUnsaid agrees e Does) failed
+    HasReason fault (λ reason. ComesToInEachPair agrees Does (Err reason)) (IsUnsaid agrees e Does) failed
 
 -- What a command leaves by how it ends: it is accepted, or refused by a fault.
-abbrev pub Ends : Exit → (Files → Listings → Type 0) → Type 0 → Environment → Outcomes → Option Text → Option Text
-    → Option Text → Option Text → Type 0
-Ends exit agrees failed e Does out out' err err' =
+abbrev pub EndsCommand : Exit → (Files → Listings → Type 0) → Type 0 → Environment → Outcomes → Option Text
+    → Option Text → Option Text → Option Text → Type 0
+EndsCommand exit agrees failed e Does out out' err err' =
     Accepts exit agrees e Does out out' err err'
     ⊎ ((fault : CommandFault) × IsRefused agrees failed e Does fault × Refuses exit fault out out' err err')
 

@@ -5,8 +5,8 @@ ghost use Rattle.lookup.specs.Agreement.{Narrows};
 ghost use Rattle.requests.specs.RequestViews.{request_view};
 ghost use Rattle.modulecmd.specs.declared.ends.Exit.{Exit};
 ghost use Rattle.modulecmd.specs.Command as spec;
-ghost use Rattle.modulecmd.specs.Command.{Does, HasReason};
-ghost use Rattle.modulecmd.specs.Output.{Ends, Finishes, IsAnswer, IsRefused, WritesFault, status_of};
+ghost use Rattle.modulecmd.specs.Command.{CommandDoes, HasReason};
+ghost use Rattle.modulecmd.specs.Output.{EndsCommand, FinishesWriting, IsAnswer, IsRefused, WritesFault, status_of};
 ghost use Rattle.modulecmd.specs.Words.{effect_in, words_of};
 ghost use Rattle.modulecmd.specs.Writing.{AppendsPart};
 
@@ -61,10 +61,10 @@ fn answer_of<T: Tree>(
     ensures before { Narrows (T.agrees tree.old) (T.agrees tree.new) }
     ensures later { T.failures tree.old ≤ T.failures tree.new }
     ensures answered { IfOk result (λ a.
-        IsAnswer (T.agrees tree.new) env.now (Does (map string_bytes args.now) env.now) (effect_in env.now a)
+        IsAnswer (T.agrees tree.new) env.now (CommandDoes (map string_bytes args.now) env.now) (effect_in env.now a)
         (string_bytes a.text)) }
     ensures refused { IfErr result (IsRefused (T.agrees tree.new) (T.failures tree.old < T.failures tree.new)
-        env.now (Does (map string_bytes args.now) env.now)) }
+        env.now (CommandDoes (map string_bytes args.now) env.now)) }
 {
     requests::command_returns();
     shelltext::laws::one_effect();
@@ -110,7 +110,7 @@ fn tell<E: Write>(fault: &CommandFault, err: &mut E) -> Exit
 
 /// Writes what an accepted command writes. After a failed write the line that tells of it is tried once.
 fn finish<W: Write, E: Write>(answer: &Answer, out: &mut W, err: &mut E) -> Exit
-    ensures { Finishes result (words_of answer.now) (string_bytes answer.now.text)
+    ensures { FinishesWriting result (words_of answer.now) (string_bytes answer.now.text)
         (W.contents out.old) (W.contents out.new) (E.contents err.old) (E.contents err.new) }
 {
     if write_answer(answer, out, err).is_ok() {
@@ -125,8 +125,9 @@ fn finish<W: Write, E: Write>(answer: &Answer, out: &mut W, err: &mut E) -> Exit
 /// modulefiles and its report to standard error, and then the text for the shell to standard output. That text says, as
 /// the shell reads it, each variable that the request's step changes, once, in the order of bytes, and nothing else: it
 /// makes of the environment what the step makes of it. Where the environment is in order and stands over a start in
-/// order, and the modules that are loaded beyond that start are reversible and apart, so it is afterwards: with none of
-/// them loaded it is the start.
+/// order, and the modules that are loaded beyond that start are reversible and apart, so it is afterwards, if the
+/// command unloads no module of the start and unloads each other with the records of its load: with none of them loaded
+/// it is the start.
 ///
 /// A refused command writes nothing but the line that tells why, to standard error. It is refused as the arguments or
 /// the step are, or for want of memory, by 43 where the device failed in this call, or by 62 where the changes have no
@@ -143,8 +144,8 @@ pub fn run_command<T: Tree, W: Write, E: Write>(
 ) -> Exit
     ensures before { Narrows (T.agrees tree.old) (T.agrees tree.new) }
     ensures later { T.failures tree.old ≤ T.failures tree.new }
-    ensures ended { Ends result (T.agrees tree.new) (T.failures tree.old < T.failures tree.new)
-        env (Does (map string_bytes args.now) env)
+    ensures ended { EndsCommand result (T.agrees tree.new) (T.failures tree.old < T.failures tree.new)
+        env (CommandDoes (map string_bytes args.now) env)
         (W.contents out.old) (W.contents out.new) (E.contents err.old) (E.contents err.new) }
 {
     match answer_of(alloc, args, &env, tree) {
@@ -165,8 +166,8 @@ pub fn modulecmd<T: Tree, W: Write, E: Write>(
     ensures before { Narrows (T.agrees tree.old) (T.agrees tree.new) }
     ensures later { T.failures tree.old ≤ T.failures tree.new }
     ensures ended { (exit : Exit) × (result ≡ status_of exit)
-        × Ends exit (T.agrees tree.new) (T.failures tree.old < T.failures tree.new)
-        env (Does (map string_bytes args.now) env)
+        × EndsCommand exit (T.agrees tree.new) (T.failures tree.old < T.failures tree.new)
+        env (CommandDoes (map string_bytes args.now) env)
         (W.contents out.old) (W.contents out.new) (E.contents err.old) (E.contents err.new) }
 {
     run_command(alloc, args, env, tree, out, err).status()

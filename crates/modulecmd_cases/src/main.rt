@@ -1,11 +1,11 @@
 //! Answers calls of `modulecmd`, `modules` and `rehearsal`, a line each on standard input, and shows each behind `> `.
 //!
-//! The calls share files and folders in memory and an environment. In a text `\n`, `\t`, `\s`, `\z` and `\\` stand for a
-//! newline, a tab, a space, NUL and a backslash; words are parted by blanks, and the word `''` is empty.
+//! The calls share files and folders in memory and an environment. In a text `\n`, `\t`, `\s`, `\z` and `\\` stand for
+//! a newline, a tab, a space, NUL and a backslash; words are parted by blanks, and the word `''` is empty.
 //!
-//! `new` begins a new tree. `module PATH TEXT` puts a modulefile there, whose first line is the cookie; `file PATH TEXT`
-//! and `bytes PATH TEXT` a file of this text, or of it and a byte that is no UTF-8 behind it; `dir PATH NAME...` a folder
-//! with these names. `from NAME=VALUE...` are the variables from there on.
+//! `new` begins a new tree. `module PATH TEXT` puts a modulefile there, whose first line is the cookie; `file PATH
+//! TEXT` and `bytes PATH TEXT` a file of this text, or of it and a byte that is no UTF-8 behind it; `dir PATH NAME...`
+//! a folder with these names. `from NAME=VALUE...` are the variables from there on.
 //!
 //! `run WORD...` runs a command with these arguments, and shows what it wrote to standard output, each line of standard
 //! error behind `! `, and its status. `go WORD...` does the same, and then the variables are what the command makes of

@@ -227,7 +227,8 @@ impl Session {
         Ok(text)
     }
 
-    /// Goes on from what an accepted command makes of the variables, and says what differs between the calls that run it.
+    /// Goes on from what an accepted command makes of the variables, and says what differs between the calls that run
+    /// it.
     fn follow(&mut self, args: &[String], out: &str) -> Result<&'static str> {
         let [word, words @ ..] = args else {
             return Ok("no shell\n");

@@ -24,7 +24,7 @@ use Rattle.environment.specs.Environment.{Environment, with_value}
 use Rattle.modulerecords.specs.Records.{Set, Unset, Push, Front, Back, Remove, Conflict, Prereq, Whatis}
 use Rattle.modulefile.specs.Calls.{call_of}
 use Rattle.modulefile.specs.Answers.{Context}
-use Rattle.modulefile.specs.Files.{Ran, Stop, halted, failed, Runs, play}
+use Rattle.modulefile.specs.Files.{Ran, Stop, halted, failed, RunsFile, play}
 use Rattle.modulefile.specs.Rows.{standard, file, loading, unloading, showing, describing, switching, loading_in_zsh, loading_in_tcsh}
 use Rattle.modulefile.proofs.PlayedFiles.{played_runs}
 
@@ -37,7 +37,7 @@ unfolding computed
 is_played c text steps = refl
 
 -- what a file comes to that was played in so many steps
-pub comes : (c : Context) (text : Text) (steps : ℕ) (o : Result Ran Stop) → computed c text steps ≡ Some o → Runs standard c text o
+pub comes : (c : Context) (text : Text) (steps : ℕ) (o : Result Ran Stop) → computed c text steps ≡ Some o → RunsFile standard c text o
 comes c text steps o e = played_runs standard c text steps o (is_played c text steps ∙ e)
 
 pub file_load : (e : Environment) → computed (loading e) (file (codes "setenv K 1\nconflict k\n")) 400 ≡ Some (Ok (record { records = (Set (codes "K") (codes "1") ∷ Conflict (codes "k" ∷ []) ∷ []); messages = []; asked = false; env = (with_value e (codes "K") (Some (codes "1"))) }))

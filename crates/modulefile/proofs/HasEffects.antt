@@ -11,7 +11,7 @@ use Rattle.modulerecords.specs.Effects.{Mode, effect, effects}
 use Rattle.modulerecords.proofs.Effected.{whole, effects_go_on}
 use Rattle.modulefile.specs.Results.{◌>>=◌}
 use Rattle.modulefile.specs.Calls as calls
-use Rattle.modulefile.specs.Calls.{keeps, says, getenv, is_loaded, own_name, typed_name, tells, tests, CallReason, unknown, left_out, bad_record, Form, call_of}
+use Rattle.modulefile.specs.Calls.{keeps, says, getenv, is_loaded, own_name, typed_name, tells, tests, CallReason, unknown, left_out, bad_record, CallForm, call_of}
 use Rattle.modulefile.specs.Answers.{Context, not_done, kept, read, answered, recorded, records_in, by_record, effects_so_far, or_start, found_after, value_shown}
 use Rattle.modulefile.proofs.Bound.{bound, bind_ok}
 
@@ -23,7 +23,7 @@ pub by_record_ok : (r : Result Environment RecordReason) (e : Environment) → b
 by_record_ok (Ok d) e h = cc
 by_record_ok (Err x) e h = absurd (cc)
 
-records_more : (rs : List oracle.Record) (words : List Text) (ys : List Record) (r : Record) → records_in rs ≡ Ok ys → (call_of words >>= recorded) ≡ Ok r → records_in (rs ++ words ∷ []) ≡ Ok (ys ++ r ∷ [])
+records_more : (rs : List oracle.CommandWords) (words : List Text) (ys : List Record) (r : Record) → records_in rs ≡ Ok ys → (call_of words >>= recorded) ≡ Ok r → records_in (rs ++ words ∷ []) ≡ Ok (ys ++ r ∷ [])
 records_more [] words ys r h k =
     let e : ys ≡ [] = cc in
     bind_ok (call_of words >>= recorded) (λ x. records_in [] >>= (λ xs. Ok (x ∷ xs))) r (ys ++ r ∷ []) k (ap (λ zs. Ok (zs ++ r ∷ [])) (sym e))
@@ -37,7 +37,7 @@ records_more (v ∷ rs) words ys r h k =
 effects_more : (mode : Mode) (owner : Text) (ys : List Record) (r : Record) (e d t : Environment) → effects mode owner ys e ≡ Ok d → effect mode owner r d ≡ Ok t → effects mode owner (ys ++ r ∷ []) e ≡ Ok t
 effects_more mode owner ys r e d t h k = effects_go_on mode owner ys (r ∷ []) e d t h (whole (effect mode owner r d) (effects mode owner []) t t k refl)
 
-abbrev HasEffects : Context → List oracle.Record → Type 0
+abbrev HasEffects : Context → List oracle.CommandWords → Type 0
 HasEffects c rs = is_ok (effects_so_far c rs) ≡ true
 
 adds_nothing : (o : CallReason) → addition (not_done o) ≡ Nothing
@@ -46,26 +46,26 @@ adds_nothing (left_out name) = refl
 adds_nothing calls.bad_arguments = refl
 adds_nothing (bad_record reason) = refl
 
-keep_nothing : (c : Context) (rs : List oracle.Record) (o : CallReason) → HasEffects c rs → HasEffects c (records_with rs (addition (not_done o)))
+keep_nothing : (c : Context) (rs : List oracle.CommandWords) (o : CallReason) → HasEffects c rs → HasEffects c (records_with rs (addition (not_done o)))
 keep_nothing c rs o h = subst (λ a. HasEffects c (records_with rs a)) (sym (adds_nothing o)) h
 
 -- what is kept where the records so far have their effects
-pub record IsSoFar (c : Context) (rs : List oracle.Record) : Type 0 where
+pub record IsSoFar (c : Context) (rs : List oracle.CommandWords) : Type 0 where
   pub records : List Record
   pub env : Environment
   pub read : records_in rs ≡ Ok records
   pub made : effects c.mode c.name records c.start ≡ Ok env
 
-pub so_far : (c : Context) (rs : List oracle.Record) → HasEffects c rs → IsSoFar c rs
+pub so_far : (c : Context) (rs : List oracle.CommandWords) → HasEffects c rs → IsSoFar c rs
 so_far c rs h =
     let v = ok_value (effects_so_far c rs) h in
     let b = bound (records_in rs) (λ ys. by_record (effects c.mode c.name ys c.start)) v.0 v.1 in
     record { records = b.0; env = v.0; read = b.1; made = by_record_ok (effects c.mode c.name b.0 c.start) v.0 b.2 }
 
-go_on : (c : Context) (rs : List oracle.Record) (ys : List Record) (e : Environment) → records_in rs ≡ Ok ys → effects c.mode c.name ys c.start ≡ Ok e → effects_so_far c rs ≡ Ok e
+go_on : (c : Context) (rs : List oracle.CommandWords) (ys : List Record) (e : Environment) → records_in rs ≡ Ok ys → effects c.mode c.name ys c.start ≡ Ok e → effects_so_far c rs ≡ Ok e
 go_on c rs ys e r m = bind_ok (records_in rs) (λ zs. by_record (effects c.mode c.name zs c.start)) ys e r (ap by_record m)
 
-keep_kept : (c : Context) (rs : List oracle.Record) (words : List Text) (r : Record) → call_of words ≡ Ok (keeps r) → HasEffects c rs → (result : Result Environment RecordReason) → effect c.mode c.name r (found_after c rs) ≡ result → HasEffects c (records_with rs (addition (kept words result)))
+keep_kept : (c : Context) (rs : List oracle.CommandWords) (words : List Text) (r : Record) → call_of words ≡ Ok (keeps r) → HasEffects c rs → (result : Result Environment RecordReason) → effect c.mode c.name r (found_after c rs) ≡ result → HasEffects c (records_with rs (addition (kept words result)))
 keep_kept c rs words r k h (Err o) e = keep_nothing c rs (bad_record o) h
 keep_kept c rs words r k h (Ok t) e =
     let s = so_far c rs h in
@@ -74,14 +74,14 @@ keep_kept c rs words r k h (Ok t) e =
     let m : records_in (rs ++ words ∷ []) ≡ Ok (s.records ++ r ∷ []) = records_more rs words s.records r s.read (bind_ok (call_of words) recorded (keeps r) r k refl) in
     ap (λ x. is_ok x) (go_on c (rs ++ words ∷ []) (s.records ++ r ∷ []) t m (effects_more c.mode c.name s.records r c.start s.env t s.made g))
 
-keep_read : (c : Context) (rs : List oracle.Record) (var value : Text) → HasEffects c rs → HasEffects c (records_with rs (addition (read var value)))
+keep_read : (c : Context) (rs : List oracle.CommandWords) (var value : Text) → HasEffects c rs → HasEffects c (records_with rs (addition (read var value)))
 keep_read c rs var value h = go (is_variable_name var) refl
   where
     go : (b : Bool) → is_variable_name var ≡ b → HasEffects c (records_with rs (addition (read var value)))
     go true q = rw q h
     go false q = rw q h
 
-keep_call : (c : Context) (rs : List oracle.Record) (words : List Text) → HasEffects c rs → (call : Form) → call_of words ≡ call → HasEffects c (records_with rs (addition (answered c (found_after c rs) words call)))
+keep_call : (c : Context) (rs : List oracle.CommandWords) (words : List Text) → HasEffects c rs → (call : CallForm) → call_of words ≡ call → HasEffects c (records_with rs (addition (answered c (found_after c rs) words call)))
 keep_call c rs words h (Err o) e = keep_nothing c rs o h
 keep_call c rs words h (Ok (keeps r)) e = keep_kept c rs words r e h (effect c.mode c.name r (found_after c rs)) refl
 keep_call c rs words h (Ok (says message)) e = h
@@ -92,5 +92,5 @@ keep_call c rs words h (Ok typed_name) e = h
 keep_call c rs words h (Ok (tells topic)) e = h
 keep_call c rs words h (Ok (tests topic word)) e = h
 
-pub keep_answer : (c : Context) (rs : List oracle.Record) (words : List Text) → HasEffects c rs → HasEffects c (records_with rs (addition (answered c (found_after c rs) words (call_of words))))
+pub keep_answer : (c : Context) (rs : List oracle.CommandWords) (words : List Text) → HasEffects c rs → HasEffects c (records_with rs (addition (answered c (found_after c rs) words (call_of words))))
 keep_answer c rs words h = keep_call c rs words h (call_of words) refl

@@ -4,7 +4,7 @@ use Rattle.environment.specs.Texts.{Text}
 use Rattle.environment.specs.Names.{is_variable_name}
 use Rattle.environment.specs.Environment.{Environment}
 use Rattle.tclrules.specs.Oracle as oracle
-use Rattle.tclrules.specs.Oracle.{Oracle, Answer, Nothing, Done, Told, is_question, is_refusal}
+use Rattle.tclrules.specs.Oracle.{Oracle, OracleAnswer, Nothing, Done, Told, is_question, is_refusal}
 use Rattle.tclrules.specs.Derivation.{ByHost, Outcome, Ended, Halted, World, AgreesUnasked}
 use Rattle.tclrules.specs.Variables.{State}
 use Rattle.tclrules.specs.Plans.{Ending, Normal, Raised, Returned, Broken, Continued}
@@ -13,16 +13,16 @@ use Rattle.tclrules.specs.Meaning.{Setting, ComesTo, with_oracle}
 use Rattle.tclrules.specs.declared.limits.Limits.{Limits}
 use Rattle.modulerecords.specs.Judgments.{RecordReason, record_reason}
 use Rattle.modulerecords.specs.Effects.{edited, by_edit, permitted, effect}
-use Rattle.modulefile.specs.Calls.{keeps, says, getenv, is_loaded, own_name, typed_name, tells, tests, Form, call_of}
+use Rattle.modulefile.specs.Calls.{keeps, says, getenv, is_loaded, own_name, typed_name, tells, tests, CallForm, call_of}
 use Rattle.modulefile.specs.Answers.{Context, record_number, kept, read, answered, records_in, found_after, oracle_of, value_shown}
-use Rattle.modulefile.specs.Files.{Ran, Stop, ran_of, setting_of, Finishes, Runs, IsSameOrRefused}
+use Rattle.modulefile.specs.Files.{Ran, Stop, ran_of, setting_of, FinishesFile, RunsFile, IsSameOrRefused}
 use Rattle.modulefile.specs.Laws.{PlainFilesAgree}
 use Rattle.modulefile.proofs.Bound.{same_value}
 use Rattle.modulefile.proofs.WholeFiles.{ran_parts}
 
 -- what was neither refused nor a question is answered alike, or refused
 
-abbrev Alike : Answer → Answer → Type 0
+abbrev Alike : OracleAnswer → OracleAnswer → Type 0
 Alike first second = (second ≡ first) ⊎ ((n : ℕ) × (asks : Bool) × (second ≡ oracle.Refused n asks))
 
 at_kept : (words : List Text) (o : Option RecordReason) (s t : Result Environment RecordReason) → is_refusal (kept words (permitted o s)) ≡ false → Alike (kept words (permitted o s)) (kept words (permitted o t))
@@ -38,7 +38,7 @@ at_read var u v h = go (is_variable_name var) refl
     go true q = let k : is_question (read var u) ≡ true = rw q refl in absurd (cc)
     go false q = rw q refl
 
-at_call : (c d : Context) → d.name ≡ c.name → (x y : Environment) (words : List Text) (call : Form) → is_question (answered c x words call) ≡ false → is_refusal (answered c x words call) ≡ false → Alike (answered c x words call) (answered d y words call)
+at_call : (c d : Context) → d.name ≡ c.name → (x y : Environment) (words : List Text) (call : CallForm) → is_question (answered c x words call) ≡ false → is_refusal (answered c x words call) ≡ false → Alike (answered c x words call) (answered d y words call)
 at_call c d e x y words (Err o) q h = inl refl
 at_call c d e x y words (Ok (keeps r)) q h =
     subst (λ n. Alike (kept words (effect c.mode c.name r x)) (kept words (effect d.mode n r y))) (sym e)
@@ -64,17 +64,17 @@ UnaskedLaw =
 moved_setting : (limits : Limits) (c d : Context) (text : Text) → d.path ≡ c.path → setting_of limits d text ≡ with_oracle (oracle_of d) (setting_of limits c text)
 moved_setting limits c d text p = ap (λ (path : Text). with_oracle (oracle_of d) (setting_of limits (record c { path = path }) text)) p
 
-same_finish : (c d : Context) (text result : Text) (s : State) (told : Told) (ran : Ran) (o : Result Ran Stop) → ran_of c told ≡ Ok ran → Finishes d text (Ended (Normal result s)) told o → IsSameOrRefused ran o
+same_finish : (c d : Context) (text result : Text) (s : State) (told : Told) (ran : Ran) (o : Result Ran Stop) → ran_of c told ≡ Ok ran → FinishesFile d text (Ended (Normal result s)) told o → IsSameOrRefused ran o
 same_finish c d text result s told ran o h f =
     inl (f.0, f.2, same_value (records_in told.records) f.0.records ran.records (ran_parts d told f.0 f.1).read (ran_parts c told ran h).read)
 
 plain_normal : UnaskedLaw → (limits : Limits) (c d : Context) (text : Text) (ran : Ran) (o : Result Ran Stop) (result : Text) (s : State) (w : World) → ComesTo (setting_of limits c text) (Ended (Normal result s)) w → ran_of c w.told ≡ Ok ran
-    → ran.asked ≡ false → d.name ≡ c.name → d.path ≡ c.path → Runs limits d text o → IsSameOrRefused ran o
+    → ran.asked ≡ false → d.name ≡ c.name → d.path ≡ c.path → RunsFile limits d text o → IsSameOrRefused ran o
 plain_normal law limits c d text ran o result s w e h a n p (out2, w2, e2, f) =
     let e3 : ComesTo (with_oracle (oracle_of d) (setting_of limits c text)) out2 w2 = subst (λ (z : Setting). ComesTo z out2 w2) (moved_setting limits c d text p) e2 in
     ⊎_elim
-    (λ i. same_finish c d text result s w.told ran o h (subst (λ (x : Outcome Ending). Finishes d text x w.told o) i.0 (subst (λ (v : World). Finishes d text out2 v.told o) i.1 f)))
-    (λ i. inr (i.0, subst (λ (x : Outcome Ending). Finishes d text x w2.told o) i.1 f))
+    (λ i. same_finish c d text result s w.told ran o h (subst (λ (x : Outcome Ending). FinishesFile d text x w.told o) i.0 (subst (λ (v : World). FinishesFile d text out2 v.told o) i.1 f)))
+    (λ i. inr (i.0, subst (λ (x : Outcome Ending). FinishesFile d text x w2.told o) i.1 f))
     (law (setting_of limits c text) (oracle_of d) (Ended (Normal result s)) out2 w w2 e ((ran_parts c w.told ran h).asked ∙ a) (λ m z. cc) (agree c d n) e3)
 
 pub plain_file : UnaskedLaw → PlainFilesAgree

@@ -6,20 +6,20 @@ use Rattle.modulerecords.specs.Records.{Record}
 use Rattle.modulerecords.specs.Judgments.{RecordReason, record_reason}
 use Rattle.modulerecords.specs.Effects.{Mode, load, unload, display, whatis, permitted, effect, effects}
 use Rattle.modulerecords.proofs.Effected.{parts}
-use Rattle.modulefile.specs.Laws.{Shows, ShowingLeaves}
+use Rattle.modulefile.specs.Laws.{ChangesNothing, ShowingLeaves}
 use Rattle.modulefile.proofs.WholeFiles.{records_make}
 
 stays : (o : Option RecordReason) (old new : Environment) → permitted o (Ok old) ≡ Ok new → new ≡ old
 stays None old new h = cc
 stays (Some r) old new h = absurd (cc)
 
-one_stays : (mode : Mode) (owner : Text) (r : Record) (old new : Environment) → Shows mode → effect mode owner r old ≡ Ok new → new ≡ old
+one_stays : (mode : Mode) (owner : Text) (r : Record) (old new : Environment) → ChangesNothing mode → effect mode owner r old ≡ Ok new → new ≡ old
 one_stays load owner r old new s h = absurd s
 one_stays unload owner r old new s h = absurd s
 one_stays display owner r old new s h = stays (record_reason r) old new h
 one_stays whatis owner r old new s h = stays (record_reason r) old new h
 
-all_stay : (mode : Mode) (owner : Text) (rs : List Record) (old new : Environment) → Shows mode → effects mode owner rs old ≡ Ok new → new ≡ old
+all_stay : (mode : Mode) (owner : Text) (rs : List Record) (old new : Environment) → ChangesNothing mode → effects mode owner rs old ≡ Ok new → new ≡ old
 all_stay mode owner [] old new s h = cc
 all_stay mode owner (r ∷ rs) old new s h =
     let p = parts (effect mode owner r old) (effects mode owner rs) new h in

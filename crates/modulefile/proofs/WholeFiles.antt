@@ -14,7 +14,7 @@ use Rattle.modulerecords.specs.Effects.{effects}
 use Rattle.modulerecords.proofs.Effected.{all_proper}
 use Rattle.modulefile.specs.Results.{◌>>=◌}
 use Rattle.modulefile.specs.Answers.{Context, records_in, by_record, effects_so_far}
-use Rattle.modulefile.specs.Files.{Ran, Stop, halted, failed, setting_of, ran_of, Finishes}
+use Rattle.modulefile.specs.Files.{Ran, Stop, halted, failed, setting_of, ran_of, FinishesFile}
 use Rattle.modulefile.specs.Laws.{SomeOutcome, RecordsMake, RecordsAreProper}
 use Rattle.modulefile.proofs.Bound.{bound, bind_ok, same_value}
 use Rattle.modulefile.proofs.FileEnds.{IsFileEnd, file_end}
@@ -50,7 +50,7 @@ ended_ran limits c text result s w d =
           (bind_ok (by_record (effects c.mode c.name f.records c.start)) (λ e. Ok (made_of w.told f.records e)) f.env (made_of w.told f.records f.env) (ap by_record f.made) refl),
     )
 
-some_end : (limits : Limits) (c : Context) (text : Text) (out : Outcome Ending) (w : World) → ComesTo (setting_of limits c text) out w → IsFileEnd out → (o : Result Ran Stop) × Finishes c text out w.told o
+some_end : (limits : Limits) (c : Context) (text : Text) (out : Outcome Ending) (w : World) → ComesTo (setting_of limits c text) out w → IsFileEnd out → (o : Result Ran Stop) × FinishesFile c text out w.told o
 some_end limits c text (Ended (Normal t s)) w d i = let r = ended_ran limits c text t s w d in (Ok r.0, (r.0, r.1, refl))
 some_end limits c text (Ended (Raised m s)) w d i = (Err (failed m (line_at text s.place)), refl)
 some_end limits c text (Ended (Returned t s)) w d i = absurd i
@@ -69,7 +69,7 @@ some_run law limits c text =
 
 -- the records of a file that ended
 
-finish_parts : (c : Context) (text : Text) (out : Outcome Ending) (told : Told) (ran : Ran) → Finishes c text out told (Ok ran) → effects c.mode c.name ran.records c.start ≡ Ok ran.env
+finish_parts : (c : Context) (text : Text) (out : Outcome Ending) (told : Told) (ran : Ran) → FinishesFile c text out told (Ok ran) → effects c.mode c.name ran.records c.start ≡ Ok ran.env
 finish_parts c text (Ended (Normal t s)) told ran f =
     let e : f.0 ≡ ran = same_value (Ok f.0) f.0 ran refl (sym f.2) in
     subst (λ (r : Ran). effects c.mode c.name r.records c.start ≡ Ok r.env) e (ran_parts c told f.0 f.1).made

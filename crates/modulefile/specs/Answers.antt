@@ -7,14 +7,14 @@ use Rattle.environment.specs.Names.{is_variable_name}
 use Rattle.environment.specs.Environment.{Environment, lookup}
 use Rattle.environment.specs.Reasons.{EnvReason, bad_variable, protected, counter_full, inconsistent, bad_stack, bad_value}
 use Rattle.tclrules.specs.Oracle as oracle
-use Rattle.tclrules.specs.Oracle.{Oracle, Answer, Addition, Nothing, Kept, Message, Done, Unknown, LeftOut, Refused}
+use Rattle.tclrules.specs.Oracle.{Oracle, OracleAnswer, Addition, Nothing, Kept, Message, Done, Unknown, LeftOut, Refused}
 use Rattle.modulerecords.specs.Records.{Record}
 use Rattle.modulerecords.specs.Judgments.{RecordReason, bad_edit, bad_module_name}
 use Rattle.modulerecords.specs.Effects.{Mode, load, unload, display, whatis, effect, effects}
 use Rattle.shells.specs.declared.shell.Shell.{Shell}
 use Rattle.modulefile.specs.Results.{◌>>=◌}
 use Rattle.shells.specs.Shells.{shell_name, shell_family}
-use Rattle.modulefile.specs.Calls.{Topic, mode, shell, shell_type, Call, keeps, says, getenv, is_loaded, own_name, typed_name, tells, tests, CallReason, unknown, left_out, bad_arguments, bad_record, Form, call_of}
+use Rattle.modulefile.specs.Calls.{Topic, mode, shell, shell_type, Call, keeps, says, getenv, is_loaded, own_name, typed_name, tells, tests, CallReason, unknown, left_out, bad_arguments, bad_record, CallForm, call_of}
 
 -- What a file is evaluated in: the mode, and whether it is half of a switch; the module's full name and the path of its
 -- file; the shell; the name as it was typed; the names of the modules that are loaded before the file, and the
@@ -87,27 +87,27 @@ record_number (bad_edit reason) = edit_number reason
 record_number (bad_module_name name) = 44
 
 -- a command that isn't done
-abbrev pub not_done : CallReason → Answer
+abbrev pub not_done : CallReason → OracleAnswer
 not_done unknown = Unknown false
 not_done (left_out name) = LeftOut name false
 not_done bad_arguments = Refused 56 false
 not_done (bad_record reason) = Refused (record_number reason) false
 
 -- A command that leaves a record answers the empty text, and its words are kept, where the record has its effect.
-abbrev pub kept : List Text → Result Environment RecordReason → Answer
+abbrev pub kept : List Text → Result Environment RecordReason → OracleAnswer
 kept words (Ok e) = Done [] (Kept words) false
 kept words (Err reason) = not_done (bad_record reason)
 
 -- the answer to a question
-abbrev pub asked : Text → Answer
+abbrev pub asked : Text → OracleAnswer
 asked text = Done text Nothing true
 
 -- Any well-named variable may be read.
-abbrev pub read : Text → Text → Answer
+abbrev pub read : Text → Text → OracleAnswer
 read var value = if is_variable_name var then asked value else not_done (bad_record (bad_edit (bad_variable var)))
 
 -- Questions are those about the environment, the mode, the shell, the typed name or the loaded modules, and no others.
-abbrev pub answered : Context → Environment → List Text → Form → Answer
+abbrev pub answered : Context → Environment → List Text → CallForm → OracleAnswer
 answered c e words (Err reason) = not_done reason
 answered c e words (Ok (keeps r)) = kept words (effect c.mode c.name r e)
 answered c e words (Ok (says message)) = Done [] (Message message) false
@@ -130,7 +130,7 @@ recorded (tells topic) = Err unknown
 recorded (tests topic word) = Err unknown
 
 -- the records of commands that were accepted, which are kept by their words
-abbrev pub records_in : List oracle.Record → Result (List Record) CallReason
+abbrev pub records_in : List oracle.CommandWords → Result (List Record) CallReason
 records_in [] = Ok []
 records_in (words ∷ more) = call_of words >>= recorded >>= (λ r. records_in more >>= (λ rs. Ok (r ∷ rs)))
 
@@ -140,7 +140,7 @@ by_record (Ok e) = Ok e
 by_record (Err reason) = Err (bad_record reason)
 
 -- what the records so far make of the environment before the file, in the mode at hand
-abbrev pub effects_so_far : Context → List oracle.Record → Result Environment CallReason
+abbrev pub effects_so_far : Context → List oracle.CommandWords → Result Environment CallReason
 effects_so_far c told = records_in told >>= (λ rs. by_record (effects c.mode c.name rs c.start))
 
 abbrev pub or_start : Environment → Result Environment CallReason → Environment
@@ -149,7 +149,7 @@ or_start start (Err reason) = start
 
 -- The environment that the file finds there. The records of accepted commands always have their effects, so the start
 -- doesn't stand for them.
-abbrev pub found_after : Context → List oracle.Record → Environment
+abbrev pub found_after : Context → List oracle.CommandWords → Environment
 found_after c told = or_start c.start (effects_so_far c told)
 
 -- the oracle that a modulefile is evaluated over
@@ -161,7 +161,7 @@ oracle_of c =
     }
 
 -- what the words of a command add where it is done, and whether they ask
-abbrev pub call_adds : List Text → Form → Addition
+abbrev pub call_adds : List Text → CallForm → Addition
 call_adds words (Err reason) = Nothing
 call_adds words (Ok (keeps r)) = Kept words
 call_adds words (Ok (says message)) = Message message
@@ -172,7 +172,7 @@ call_adds words (Ok typed_name) = Nothing
 call_adds words (Ok (tells topic)) = Nothing
 call_adds words (Ok (tests topic word)) = Nothing
 
-abbrev pub call_asks : Form → Bool
+abbrev pub call_asks : CallForm → Bool
 call_asks (Err reason) = false
 call_asks (Ok (keeps r)) = false
 call_asks (Ok (says message)) = false

@@ -43,8 +43,8 @@ pub data CallReason : Type 0 where
   bad_record : RecordReason → CallReason
 
 -- a command of these words, or why it isn't one
-abbrev pub Form : Type 0
-Form = Result Call CallReason
+abbrev pub CallForm : Type 0
+CallForm = Result Call CallReason
 
 -- No options are known here: a first word that begins with `-` would be one.
 abbrev pub no_option : List Text → Result (List Text) CallReason
@@ -52,16 +52,16 @@ no_option [] = Ok []
 no_option (word ∷ words) = if begins 45 word then Err bad_arguments else Ok (word ∷ words)
 
 -- the form of words of which the first is no option
-abbrev pub without_option : (List Text → Form) → List Text → Form
+abbrev pub without_option : (List Text → CallForm) → List Text → CallForm
 without_option form words = no_option words >>= form
 
 -- `VAR value`
-abbrev pub var_and_value : (Text → Text → Record) → List Text → Form
+abbrev pub var_and_value : (Text → Text → Record) → List Text → CallForm
 var_and_value make (var ∷ value ∷ []) = Ok (keeps (make var value))
 var_and_value make words = Err bad_arguments
 
 -- `VAR ?value?`
-abbrev pub var_and_perhaps : List Text → Form
+abbrev pub var_and_perhaps : List Text → CallForm
 var_and_perhaps (var ∷ []) = Ok (keeps (Unset var None))
 var_and_perhaps (var ∷ value ∷ []) = Ok (keeps (Unset var (Some value)))
 var_and_perhaps words = Err bad_arguments
@@ -96,47 +96,47 @@ abbrev pub elements_of : ℕ → List Text → List Text
 elements_of delim values = flat_map (parted delim) values
 
 -- `VAR value...`
-abbrev pub var_and_values : (ℕ → Text → List Text → Record) → ℕ × List Text → Form
+abbrev pub var_and_values : (ℕ → Text → List Text → Record) → ℕ × List Text → CallForm
 var_and_values make (delim, var ∷ value ∷ values) = Ok (keeps (make delim var (elements_of delim (value ∷ values))))
 var_and_values make (delim, words) = Err bad_arguments
 
-abbrev pub path_form : (ℕ → Text → List Text → Record) → List Text → Form
+abbrev pub path_form : (ℕ → Text → List Text → Record) → List Text → CallForm
 path_form make words = delimited words >>= var_and_values make
 
 -- at least one word
-abbrev pub some_words : (List Text → Record) → List Text → Form
+abbrev pub some_words : (List Text → Record) → List Text → CallForm
 some_words make [] = Err bad_arguments
 some_words make (word ∷ words) = Ok (keeps (make (word ∷ words)))
 
 -- `getenv VAR ?default?`: without a default an unset variable has the empty text
-abbrev pub getenv_form : List Text → Form
+abbrev pub getenv_form : List Text → CallForm
 getenv_form (var ∷ []) = Ok (getenv var [])
 getenv_form (var ∷ default ∷ []) = Ok (getenv var default)
 getenv_form words = Err bad_arguments
 
 -- `is-loaded ?NAME...?`
-abbrev pub asked_of_loaded : List Text → Form
+abbrev pub asked_of_loaded : List Text → CallForm
 asked_of_loaded names = Ok (is_loaded names)
 
 -- the evaluator hands on a channel and a text, or `-nonewline` in front of these
-abbrev pub puts_form : List Text → Form
+abbrev pub puts_form : List Text → CallForm
 puts_form (channel ∷ text ∷ []) = Ok (says (text ++ 10 ∷ []))
 puts_form (option ∷ channel ∷ text ∷ []) = Ok (says text)
 puts_form words = Err bad_arguments
 
 -- no further word
-abbrev pub alone : Call → List Text → Form
+abbrev pub alone : Call → List Text → CallForm
 alone call [] = Ok call
 alone call (word ∷ words) = Err bad_arguments
 
 -- at most one further word
-abbrev pub told_or_tested : Topic → List Text → Form
+abbrev pub told_or_tested : Topic → List Text → CallForm
 told_or_tested topic [] = Ok (tells topic)
 told_or_tested topic (word ∷ []) = Ok (tests topic word)
 told_or_tested topic (word ∷ other ∷ others) = Err bad_arguments
 
 -- `module-info`: what it is asked about else is left out
-abbrev pub info_form : List Text → Form
+abbrev pub info_form : List Text → CallForm
 info_form [] = Err bad_arguments
 info_form (topic ∷ words) =
     if bytes_eq topic (codes "mode") then told_or_tested mode words
@@ -155,7 +155,7 @@ abbrev pub not_a_command : Text → CallReason
 not_a_command name = if is_among left_out_module_commands name then left_out name else unknown
 
 -- The command that these words call.
-unfoldable pub call_of : List Text → Form
+unfoldable pub call_of : List Text → CallForm
 call_of [] = Err unknown
 call_of (name ∷ words) =
     if bytes_eq name (codes "setenv") then without_option (var_and_value Set) words

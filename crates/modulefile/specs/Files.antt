@@ -52,18 +52,18 @@ ran_of c told =
     Ok (record { records = rs; messages = told.messages; asked = told.asked; env = e })))
 
 -- From how the evaluation ended. A file ends by no return, break or continue: the rules of evaluation see to these.
-abbrev pub Finishes : Context → Text → Outcome Ending → Told → Result Ran Stop → Type 0
-Finishes c text (Ended (Normal result s)) told o = (ran : Ran) × (ran_of c told ≡ Ok ran) × (o ≡ Ok ran)
-Finishes c text (Ended (Raised message s)) told o = o ≡ Err (failed message (line_at text s.place))
-Finishes c text (Ended (Returned result s)) told o = ⊥
-Finishes c text (Ended (Broken s)) told o = ⊥
-Finishes c text (Ended (Continued s)) told o = ⊥
-Finishes c text (Halted halt) told o = o ≡ Err (halted halt)
+abbrev pub FinishesFile : Context → Text → Outcome Ending → Told → Result Ran Stop → Type 0
+FinishesFile c text (Ended (Normal result s)) told o = (ran : Ran) × (ran_of c told ≡ Ok ran) × (o ≡ Ok ran)
+FinishesFile c text (Ended (Raised message s)) told o = o ≡ Err (failed message (line_at text s.place))
+FinishesFile c text (Ended (Returned result s)) told o = ⊥
+FinishesFile c text (Ended (Broken s)) told o = ⊥
+FinishesFile c text (Ended (Continued s)) told o = ⊥
+FinishesFile c text (Halted halt) told o = o ≡ Err (halted halt)
 
 -- The text of a modulefile, evaluated in a context, comes to this.
-abbrev pub Runs : Limits → Context → Text → Result Ran Stop → Type 0
-Runs limits c text o =
-    (out : Outcome Ending) × (w : World) × ComesTo (setting_of limits c text) out w × Finishes c text out w.told o
+abbrev pub RunsFile : Limits → Context → Text → Result Ran Stop → Type 0
+RunsFile limits c text o =
+    (out : Outcome Ending) × (w : World) × ComesTo (setting_of limits c text) out w × FinishesFile c text out w.told o
 
 -- the module that a file makes
 abbrev pub module_of : Context → Ran → Module

@@ -3,25 +3,26 @@ use Rattle.std.specs.Prelude.{◌≡◌, ℕ, true, false, List, Some, Result, O
 use Rattle.std.specs.List.{list_all}
 use Rattle.environment.specs.Texts.{Text}
 use Rattle.tclrules.specs.Oracle as oracle
-use Rattle.tclrules.specs.Oracle.{Answer, Nothing, Done, Unknown, LeftOut, Refused, addition, is_question}
+use Rattle.tclrules.specs.Oracle.{OracleAnswer, Nothing, Done, Unknown, LeftOut, Refused, addition, is_question}
 use Rattle.tclrules.specs.declared.limits.Limits.{Limits}
 use Rattle.modulerecords.specs.Judgments.{is_proper}
 use Rattle.modulerecords.specs.Effects.{Mode, load, unload, display, whatis, effects}
 use Rattle.modulefile.specs.Calls.{call_of}
 use Rattle.modulefile.specs.Answers.{Context, oracle_of, call_adds, call_asks}
-use Rattle.modulefile.specs.Files.{Ran, Stop, Runs, IsSameOrRefused, play}
+use Rattle.modulefile.specs.Files.{Ran, Stop, RunsFile, IsSameOrRefused, play}
 
 -- A modulefile comes to one outcome, and there is one.
 abbrev pub OneOutcome : Type 0
 OneOutcome =
-    (limits : Limits) (c : Context) (text : Text) (o p : Result Ran Stop) → Runs limits c text o → Runs limits c text p
+    (limits : Limits) (c : Context) (text : Text) (o p : Result Ran Stop) → RunsFile limits c text o
+    → RunsFile limits c text p
     → o ≡ p
 
 abbrev pub SomeOutcome : Type 0
-SomeOutcome = (limits : Limits) (c : Context) (text : Text) → (o : Result Ran Stop) × Runs limits c text o
+SomeOutcome = (limits : Limits) (c : Context) (text : Text) → (o : Result Ran Stop) × RunsFile limits c text o
 
 -- the answer to a command that was done
-abbrev pub IsDone : Answer → Type 0
+abbrev pub IsDone : OracleAnswer → Type 0
 IsDone (Done text adds asks) = Unit {0}
 IsDone (Unknown asks) = ⊥
 IsDone (LeftOut name asks) = ⊥
@@ -31,50 +32,51 @@ IsDone (Refused n asks) = ⊥
 -- before.
 abbrev pub WordsSay : Type 0
 WordsSay =
-    (c : Context) (told : List oracle.Record) (words : List Text) → IsDone ((oracle_of c).command told words)
+    (c : Context) (told : List oracle.CommandWords) (words : List Text) → IsDone ((oracle_of c).command told words)
     → (addition ((oracle_of c).command told words) ≡ call_adds words (call_of words))
     × (is_question ((oracle_of c).command told words) ≡ call_asks (call_of words))
 
 -- A command that isn't done adds nothing and asks nothing.
 abbrev pub NothingElseAdds : Type 0
 NothingElseAdds =
-    (c : Context) (told : List oracle.Record) (words : List Text) → (IsDone ((oracle_of c).command told words) → ⊥)
+    (c : Context) (told : List oracle.CommandWords) (words : List Text)
+    → (IsDone ((oracle_of c).command told words) → ⊥)
     → (addition ((oracle_of c).command told words) ≡ Nothing) × (is_question ((oracle_of c).command told words) ≡ false)
 
 -- The environment that a file leaves is the effects of its records, in the mode at hand, on the environment before it.
 abbrev pub RecordsMake : Type 0
 RecordsMake =
-    (limits : Limits) (c : Context) (text : Text) (ran : Ran) → Runs limits c text (Ok ran)
+    (limits : Limits) (c : Context) (text : Text) (ran : Ran) → RunsFile limits c text (Ok ran)
     → effects c.mode c.name ran.records c.start ≡ Ok ran.env
 
 -- Each of them is proper.
 abbrev pub RecordsAreProper : Type 0
 RecordsAreProper =
-    (limits : Limits) (c : Context) (text : Text) (ran : Ran) → Runs limits c text (Ok ran)
+    (limits : Limits) (c : Context) (text : Text) (ran : Ran) → RunsFile limits c text (Ok ran)
     → list_all is_proper ran.records ≡ true
 
 -- a mode that changes nothing
-abbrev pub Shows : Mode → Type 0
-Shows load = ⊥
-Shows unload = ⊥
-Shows display = Unit {0}
-Shows whatis = Unit {0}
+abbrev pub ChangesNothing : Mode → Type 0
+ChangesNothing load = ⊥
+ChangesNothing unload = ⊥
+ChangesNothing display = Unit {0}
+ChangesNothing whatis = Unit {0}
 
 -- Where a file is shown, or asked for its description, the environment stays.
 abbrev pub ShowingLeaves : Type 0
 ShowingLeaves =
-    (limits : Limits) (c : Context) (text : Text) (ran : Ran) → Shows c.mode → Runs limits c text (Ok ran)
+    (limits : Limits) (c : Context) (text : Text) (ran : Ran) → ChangesNothing c.mode → RunsFile limits c text (Ok ran)
     → ran.env ≡ c.start
 
 -- A file that asked nothing leaves the same records in every context of the same name and path, whatever the mode, the
 -- environment, the shell, the typed name and the loaded modules; or it is refused there.
 abbrev pub PlainFilesAgree : Type 0
 PlainFilesAgree =
-    (limits : Limits) (c d : Context) (text : Text) (ran : Ran) (o : Result Ran Stop) → Runs limits c text (Ok ran)
-    → ran.asked ≡ false → d.name ≡ c.name → d.path ≡ c.path → Runs limits d text o → IsSameOrRefused ran o
+    (limits : Limits) (c d : Context) (text : Text) (ran : Ran) (o : Result Ran Stop) → RunsFile limits c text (Ok ran)
+    → ran.asked ≡ false → d.name ≡ c.name → d.path ≡ c.path → RunsFile limits d text o → IsSameOrRefused ran o
 
 -- What playing a file gives is what it comes to.
 abbrev pub PlayedRuns : Type 0
 PlayedRuns =
     (limits : Limits) (c : Context) (text : Text) (steps : ℕ) (o : Result Ran Stop) → play limits c text steps ≡ Some o
-    → Runs limits c text o
+    → RunsFile limits c text o

@@ -9,7 +9,7 @@ use Rattle.modulerecords.specs.Effects.{Mode, load, unload, display, whatis}
 use Rattle.shells.specs.declared.shell.Shell.{Shell}
 use Rattle.shells.specs.declared.shell.Shell.TheVariants.{Sh, Zsh, Tcsh}
 use Rattle.modulefile.specs.Answers.{Context}
-use Rattle.modulefile.specs.Files.{halted, failed, Runs}
+use Rattle.modulefile.specs.Files.{halted, failed, RunsFile}
 
 -- what every command may use
 abbrev pub standard : Limits
@@ -70,29 +70,31 @@ abbrev pub unsets : Text → Environment → Environment
 unsets var e = with_value e var None
 
 -- the file leaves these records, and makes this of the environment, and nothing is asked
-abbrev pub Leaves : Seat → Text → List Record → (Environment → Environment) → Type 0
-Leaves seat lines records makes =
+abbrev pub LeavesRecords : Seat → Text → List Record → (Environment → Environment) → Type 0
+LeavesRecords seat lines records makes =
     (e : Environment)
-    → Runs standard (seat e) (file lines)
+    → RunsFile standard (seat e) (file lines)
     (Ok (record { records = records; messages = []; asked = false; env = makes e }))
 
 -- the same, where something is asked
-abbrev pub Asks : Seat → Text → List Record → (Environment → Environment) → Type 0
-Asks seat lines records makes =
+abbrev pub LeavesAsking : Seat → Text → List Record → (Environment → Environment) → Type 0
+LeavesAsking seat lines records makes =
     (e : Environment)
-    → Runs standard (seat e) (file lines)
+    → RunsFile standard (seat e) (file lines)
     (Ok (record { records = records; messages = []; asked = true; env = makes e }))
 
 -- it leaves messages alone
-abbrev pub Says : Seat → Text → List Text → Type 0
-Says seat lines messages =
+abbrev pub LeavesMessages : Seat → Text → List Text → Type 0
+LeavesMessages seat lines messages =
     (e : Environment)
-    → Runs standard (seat e) (file lines) (Ok (record { records = []; messages = messages; asked = false; env = e }))
+    → RunsFile standard (seat e) (file lines)
+    (Ok (record { records = []; messages = messages; asked = false; env = e }))
 
 -- it is halted
-abbrev pub Halts : Seat → Text → Halt → Type 0
-Halts seat lines halt = (e : Environment) → Runs standard (seat e) (file lines) (Err (halted halt))
+abbrev pub IsHalted : Seat → Text → Halt → Type 0
+IsHalted seat lines halt = (e : Environment) → RunsFile standard (seat e) (file lines) (Err (halted halt))
 
 -- it ends with an error that nothing caught, on this line
-abbrev pub Fails : Seat → Text → Text → ℕ → Type 0
-Fails seat lines message line = (e : Environment) → Runs standard (seat e) (file lines) (Err (failed message line))
+abbrev pub FailsOnLine : Seat → Text → Text → ℕ → Type 0
+FailsOnLine seat lines message line =
+    (e : Environment) → RunsFile standard (seat e) (file lines) (Err (failed message line))

@@ -3,7 +3,7 @@ use Rattle.std.proofs.Common.{◌≡◌, ◌≤◌, ◌-◌, true, false, List, 
 use Rattle.std.specs.Prelude.{◌==◌}
 use Rattle.std.proofs.lemmas.Bool.Decides.{nat_tests}
 use Rattle.modulename.specs.ModuleName.{Text}
-use Rattle.lookup.specs.Agreement.{Files, Listings, Shows}
+use Rattle.lookup.specs.Agreement.{Files, Listings, InEachPair}
 use Rattle.lookup.specs.Causes.{Cause, memory, device, because, Applies}
 use Rattle.lookup.specs.Search.{Held, absent, no_cookie, not_utf8, script, modulefile, is_module, is_empty, path_of}
 use Rattle.lookup.specs.declared.search.FindFault.{FindFault}
@@ -11,7 +11,7 @@ use Rattle.lookup.specs.declared.search.FindFault.TheVariants as faults
 use Rattle.relations.specs.Relations.{Then, Where}
 use Rattle.modulesearch.specs.Reasons.{Reason}
 use Rattle.modulesearch.specs.DefaultFiles.{Left}
-use Rattle.modulesearch.specs.Found.{Module, IsCandidate, HasCandidates, NamedDefault, Default, At, FoundAlong, read}
+use Rattle.modulesearch.specs.Found.{FoundModule, IsCandidate, HasCandidates, NamedDefault, Default, At, FoundAlong, read}
 use Rattle.modulefind.specs.Answers.{Tells, cause_of}
 use Rattle.modulefind.specs.Steps.{caused, because_of, module_in, module_at, DefaultIn, OfDefault, Below}
 use Rattle.modulefind.specs.Versions.{IsGreatestOf}
@@ -52,14 +52,14 @@ module _ (leaves : Text → Text → Option Left → Type 0) (files : Files) (li
       no (v, c) = let e : None ≡ Some c.entry.0 = sym nothing ∙ ap listings at ∙ c.entry.1 in absurd (cc)
 
   -- the directory gives the module of this name itself
-  pub below_first : (o : Result (Option Module) Reason) (held : Held) → modulefile (files (path_of dir name)) ≡ held → o ≡ module_at files dir name → (o ≡ Ok None → ⊥) → Below leaves files listings dir name o
+  pub below_first : (o : Result (Option FoundModule) Reason) (held : Held) → modulefile (files (path_of dir name)) ≡ held → o ≡ module_at files dir name → (o ≡ Ok None → ⊥) → Below leaves files listings dir name o
   below_first o absent e h some = absurd (some (h ∙ ap (module_in name (path_of dir name)) e))
   below_first o no_cookie e h some = absurd (some (h ∙ ap (module_in name (path_of dir name)) e))
   below_first o not_utf8 e h some = inl (ap is_module e, h)
   below_first o (script text) e h some = inl (ap is_module e, h)
 
   -- or else the default candidate
-  pub below_default : (held : Held) → modulefile (files (path_of dir name)) ≡ held → Ok None ≡ module_at files dir name → (v : Option Text) (o : Result (Option Module) Reason)
+  pub below_default : (held : Held) → modulefile (files (path_of dir name)) ≡ held → Ok None ≡ module_at files dir name → (v : Option Text) (o : Result (Option FoundModule) Reason)
       → DefaultIn leaves files listings dir name (Ok v) → OfDefault files dir name v o → Below leaves files listings dir name o
   below_default absent e h v o d of = inr (λ k. let q : false ≡ true = sym (ap is_module e) ∙ k in absurd (cc), (Ok v, d, of))
   below_default no_cookie e h v o d of = inr (λ k. let q : false ≡ true = sym (ap is_module e) ∙ k in absurd (cc), (Ok v, d, of))
@@ -88,19 +88,19 @@ tells_caused agrees failed view (Ok x) (Err s) Comes e h = absurd (cc)
 tells_caused agrees failed view (Err f) (Ok y) Comes e h = absurd (cc)
 tells_caused {Y = Y} agrees failed view (Err f) (Err s) Comes e h = fault (cause_of f) (caused view (Err f)) (because_of (Err s)) refl refl e
   where
-    fault : (c : Cause Reason) (p q : Result Y (Cause Reason)) → p ≡ Err c → q ≡ Err (because s) → p ≡ q → Applies c failed (λ r. Shows agrees (λ files listings. Comes files listings (Err r)))
+    fault : (c : Cause Reason) (p q : Result Y (Cause Reason)) → p ≡ Err c → q ≡ Err (because s) → p ≡ q → Applies c failed (λ r. InEachPair agrees (λ files listings. Comes files listings (Err r)))
     fault memory p q k l g = tt
     fault device p q k l g = absurd (cc)
     fault (because r) p q k l g = λ files listings a. subst (λ z. Comes files listings (Err z)) (sym (same_reason r s p q k l g)) (h files listings a)
 
 -- how the search goes on behind one directory
-abbrev pub Continues : (Text → Text → Option Left → Type 0) → Files → Listings → Text → List Text → Result (Option Module) Reason → Result Module Reason → Type 0
+abbrev pub Continues : (Text → Text → Option Left → Type 0) → Files → Listings → Text → List Text → Result (Option FoundModule) Reason → Result FoundModule Reason → Type 0
 Continues leaves files listings name dirs (Ok None) o = FoundAlong leaves files listings name dirs o
 Continues leaves files listings name dirs (Ok (Some m)) o = o ≡ Ok m
 Continues leaves files listings name dirs (Err r) o = o ≡ Err r
 
 module _ (leaves : Text → Text → Option Left → Type 0) (files : Files) (listings : Listings) (dir name : Text) (dirs : List Text) where
-  given_read : (full path : Text) (held : Held) → is_module held ≡ true → (given : Result (Option Module) Reason) (o : Result Module Reason)
+  given_read : (full path : Text) (held : Held) → is_module held ≡ true → (given : Result (Option FoundModule) Reason) (o : Result FoundModule Reason)
       → given ≡ module_in full path held → Continues leaves files listings name dirs given o → o ≡ read full path held
   given_read full path absent m given o e k = absurd (cc)
   given_read full path no_cookie m given o e k = absurd (cc)
@@ -112,7 +112,7 @@ module _ (leaves : Text → Text → Option Left → Type 0) (files : Files) (li
   default_is_candidate v (Ok None, h, (w, greatest, e)) = subst (IsCandidate files listings dir name) (sym (same_ok v w (Ok v) (Ok w) refl refl e)) greatest.member
   default_is_candidate v (Err r, h, e) = absurd (cc)
 
-  along_default : (v : Option Text) (given : Result (Option Module) Reason) (o : Result Module Reason) → DefaultIn leaves files listings dir name (Ok v) → OfDefault files dir name v given
+  along_default : (v : Option Text) (given : Result (Option FoundModule) Reason) (o : Result FoundModule Reason) → DefaultIn leaves files listings dir name (Ok v) → OfDefault files dir name v given
       → Continues leaves files listings name dirs given o
       → Where (HasCandidates files listings dir name) (Then (Default leaves files listings dir name) (λ w. At files dir (path_of name w))) (FoundAlong leaves files listings name dirs) o
   along_default v given o (inl (c, (Ok w, default, e))) of k =
@@ -126,13 +126,13 @@ module _ (leaves : Text → Text → Option Left → Type 0) (files : Files) (li
       let at : given ≡ Ok None = subst (λ x. OfDefault files dir name x given) q of in
       inr (none, subst (λ x. Continues leaves files listings name dirs x o) at k)
 
-  along_fault : (r : Reason) (o : Result Module Reason) → DefaultIn leaves files listings dir name (Err r) → o ≡ Err r
+  along_fault : (r : Reason) (o : Result FoundModule Reason) → DefaultIn leaves files listings dir name (Err r) → o ≡ Err r
       → Where (HasCandidates files listings dir name) (Then (Default leaves files listings dir name) (λ w. At files dir (path_of name w))) (FoundAlong leaves files listings name dirs) o
   along_fault r o (inl (c, (Ok w, default, e))) k = absurd (cc)
   along_fault r o (inl (c, (Err s, default, e))) k = inl (c, (Err s, default, (let q : r ≡ s = cc in k ∙ ap Err q)))
   along_fault r o (inr (none, e)) k = absurd (cc)
 
-  pub along : (given : Result (Option Module) Reason) (o : Result Module Reason) → Below leaves files listings dir name given → Continues leaves files listings name dirs given o
+  pub along : (given : Result (Option FoundModule) Reason) (o : Result FoundModule Reason) → Below leaves files listings dir name given → Continues leaves files listings name dirs given o
       → FoundAlong leaves files listings name (dir ∷ dirs) o
   along given o (inl (at, e)) k = inl (at, given_read name (path_of dir name) (modulefile (files (path_of dir name))) at given o e k)
   along given o (inr (other, (Ok v, d, of))) k = inr (other, along_default v given o d of k)
@@ -140,7 +140,7 @@ module _ (leaves : Text → Text → Option Left → Type 0) (files : Files) (li
 
 -- the first of the directories that are left
 pub along_rest : (leaves : Text → Text → Option Left → Type 0) (files : Files) (listings : Listings) (name : Text) {X : Type 0} (view : X → Text) (d : X) (rest : List X) → 1 ≤ length rest
-    → (given : Result (Option Module) Reason) (o : Result Module Reason) → Below leaves files listings (view (get_or rest 0 d)) name given
+    → (given : Result (Option FoundModule) Reason) (o : Result FoundModule Reason) → Below leaves files listings (view (get_or rest 0 d)) name given
     → Continues leaves files listings name (map view (take (length rest - 1) (drop 1 rest))) given o → FoundAlong leaves files listings name (map view rest) o
 along_rest leaves files listings name view d rest some given o below k =
     subst (λ dirs. FoundAlong leaves files listings name dirs o) (sym (split_first view d rest some))

@@ -6,7 +6,7 @@ use Rattle.lookup.specs.Causes.{Cause, memory, device, because}
 use Rattle.lookup.specs.declared.search.FindFault.{FindFault}
 use Rattle.lookup.specs.declared.search.FindFault.TheVariants as faults
 use Rattle.modulesearch.specs.Reasons.{Reason, bad_name, not_found, bad_default, not_utf8_at}
-use Rattle.modulesearch.specs.Found.{Module}
+use Rattle.modulesearch.specs.Found.{FoundModule}
 use Rattle.modulefind.specs.declared.search.Found.{Found}
 
 -- the cause of a fault of the search
@@ -23,7 +23,7 @@ abbrev pub Tells : {X Y : Type 0} → (Files → Listings → Type 0) → Type 0
     → (Files → Listings → Result Y Reason → Type 0) → Type 0
 Tells = causes.Tells cause_of
 
-abbrev pub found_view : Found → Module
+abbrev pub found_view : Found → FoundModule
 found_view found = record {
   name = string_bytes found.name;
   path = string_bytes found.path;

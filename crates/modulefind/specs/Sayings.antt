@@ -4,7 +4,7 @@ use Rattle.modulename.specs.ModuleName.{Text}
 use Rattle.lookup.specs.Agreement.{Files, Listings}
 use Rattle.relations.specs.Relations.{Is, Where, ◌>>◌}
 use Rattle.modulesearch.specs.Reasons.{Reason, bad_default}
-use Rattle.modulesearch.specs.DefaultFiles.{Left, Says, Names, by_command, by_variable}
+use Rattle.modulesearch.specs.DefaultFiles.{Left, VersionIn, Names, by_command, by_variable}
 use Rattle.modulesearch.specs.Found.{IsCandidate, IsOneOf, default_file}
 use Rattle.modulefind.specs.declared.sayings.DefaultFile.{DefaultFile}
 use Rattle.modulefind.specs.declared.sayings.DefaultFile.TheVariants.{Modulerc, Version}
@@ -19,7 +19,7 @@ abbrev pub file_name : DefaultFile → Text
 file_name Modulerc = codes ".modulerc"
 file_name Version = codes ".version"
 
-abbrev pub says : DefaultFile → Text → Says
+abbrev pub says : DefaultFile → Text → VersionIn
 says Modulerc name = by_command name
 says Version name = by_variable
 

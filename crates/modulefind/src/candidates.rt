@@ -1,7 +1,7 @@
 //! Candidates of a name.
 ghost use Rattle.std.specs.Prelude.{◌≡◌, IfOk};
 ghost use Rattle.std.specs.Option.{option_map};
-ghost use Rattle.lookup.specs.Agreement.{Files, Listings, Narrows, Shows, HasCause};
+ghost use Rattle.lookup.specs.Agreement.{Files, Listings, Narrows, InEachPair, HasCause};
 ghost use Rattle.lookup.specs.Answers.{modulefile_view};
 ghost use Rattle.lookup.specs.Search.{modulefile, path_of};
 ghost use Rattle.modulefind.specs.Candidates.{held_module};
@@ -28,7 +28,7 @@ pub(crate) fn module_in<T: Tree>(
     version: &str,
 ) -> Result<Option<Modulefile>, TreeFault>
     ensures before { Narrows (T.agrees tree.old) (T.agrees tree.new) }
-    ensures answer { IfOk result (λ r. Shows (T.agrees tree.new) (λ files listings.
+    ensures answer { IfOk result (λ r. InEachPair (T.agrees tree.new) (λ files listings.
         option_map modulefile_view r
         ≡ held_module (modulefile (files (path_of dir.now (path_of name.now version.now)))))) }
     ensures cause { HasCause (T.failures tree.old) (T.failures tree.new) result }

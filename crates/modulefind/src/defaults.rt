@@ -1,6 +1,6 @@
 //! The candidate that the default files of a folder name.
 ghost use Rattle.std.specs.Prelude.{◌≡◌, map, Some, IfOk, string_bytes};
-ghost use Rattle.lookup.specs.Agreement.{Files, Listings, Shows, HasCause};
+ghost use Rattle.lookup.specs.Agreement.{Files, Listings, InEachPair, HasCause};
 ghost use Rattle.lookup.specs.Search.{path_of};
 ghost use Rattle.modulesearch.specs.DefaultFiles.{Names, said};
 ghost use Rattle.modulesearch.specs.Found.{IsCandidate, NamedDefault, default_file};
@@ -68,8 +68,8 @@ fn said_by<T: Tree, D: DefaultFiles>(
     name: &str,
     file: DefaultFile,
 ) -> Result<Said, TreeFault>
-    ensures before { Shows (T.agrees tree.new) (λ files listings. T.agrees tree.old files listings) }
-    ensures answer { IfOk result (λ s. Shows (T.agrees tree.new) (λ files listings.
+    ensures before { InEachPair (T.agrees tree.new) (λ files listings. T.agrees tree.old files listings) }
+    ensures answer { IfOk result (λ s. InEachPair (T.agrees tree.new) (λ files listings.
         Names (D.leaves default_files.now) files (says file name.now)
         (default_file dir.now name.now (file_name file)) (said_view s))) }
     ensures cause { HasCause (T.failures tree.old) (T.failures tree.new) result }
@@ -96,12 +96,12 @@ fn candidate_of<T: Tree>(
     entries: &[String],
     version: String,
 ) -> Result<Option<Candidate>, TreeFault>
-    requires { Shows (T.agrees tree.old) (λ files listings.
+    requires { InEachPair (T.agrees tree.old) (λ files listings.
         listings (path_of dir.now name.now) ≡ Some (map string_bytes entries.now)) }
-    ensures before { Shows (T.agrees tree.new) (λ files listings. T.agrees tree.old files listings) }
-    ensures answer { IfOk result (λ r. Shows (T.agrees tree.new) (λ files listings.
+    ensures before { InEachPair (T.agrees tree.new) (λ files listings. T.agrees tree.old files listings) }
+    ensures answer { IfOk result (λ r. InEachPair (T.agrees tree.new) (λ files listings.
         IsCandidateIfAny (IsCandidate files listings dir.now name.now) (string_bytes version) r)) }
-    ensures read { IfOk result (λ r. Shows (T.agrees tree.new) (λ files listings.
+    ensures read { IfOk result (λ r. InEachPair (T.agrees tree.new) (λ files listings.
         IsReadIfAny files dir.now name.now r)) }
     ensures cause { HasCause (T.failures tree.old) (T.failures tree.new) result }
 {
@@ -124,12 +124,12 @@ fn named_by<T: Tree, D: DefaultFiles>(
     entries: &[String],
     file: DefaultFile,
 ) -> Result<Named, TreeFault>
-    requires { Shows (T.agrees tree.old) (λ files listings.
+    requires { InEachPair (T.agrees tree.old) (λ files listings.
         listings (path_of dir.now name.now) ≡ Some (map string_bytes entries.now)) }
-    ensures before { Shows (T.agrees tree.new) (λ files listings. T.agrees tree.old files listings) }
-    ensures answer { IfOk result (λ n. Shows (T.agrees tree.new) (λ files listings.
+    ensures before { InEachPair (T.agrees tree.new) (λ files listings. T.agrees tree.old files listings) }
+    ensures answer { IfOk result (λ n. InEachPair (T.agrees tree.new) (λ files listings.
         NamedBy (D.leaves default_files.now) files listings dir.now name.now file (named_view n))) }
-    ensures read { IfOk result (λ n. Shows (T.agrees tree.new) (λ files listings.
+    ensures read { IfOk result (λ n. InEachPair (T.agrees tree.new) (λ files listings.
         IsReadIfAny files dir.now name.now (candidate_named n))) }
     ensures cause { HasCause (T.failures tree.old) (T.failures tree.new) result }
 {
@@ -156,12 +156,12 @@ pub fn named_default<T: Tree, D: DefaultFiles>(
     name: &str,
     entries: &[String],
 ) -> Result<Named, TreeFault>
-    requires { Shows (T.agrees tree.old) (λ files listings.
+    requires { InEachPair (T.agrees tree.old) (λ files listings.
         listings (path_of dir.now name.now) ≡ Some (map string_bytes entries.now)) }
-    ensures before { Shows (T.agrees tree.new) (λ files listings. T.agrees tree.old files listings) }
-    ensures answer { IfOk result (λ n. Shows (T.agrees tree.new) (λ files listings.
+    ensures before { InEachPair (T.agrees tree.new) (λ files listings. T.agrees tree.old files listings) }
+    ensures answer { IfOk result (λ n. InEachPair (T.agrees tree.new) (λ files listings.
         NamedDefault (D.leaves default_files.now) files listings dir.now name.now (named_view n))) }
-    ensures read { IfOk result (λ n. Shows (T.agrees tree.new) (λ files listings.
+    ensures read { IfOk result (λ n. InEachPair (T.agrees tree.new) (λ files listings.
         IsReadIfAny files dir.now name.now (candidate_named n))) }
     ensures cause { HasCause (T.failures tree.old) (T.failures tree.new) result }
 {

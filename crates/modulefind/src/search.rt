@@ -2,7 +2,7 @@
 ghost use Rattle.std.specs.Prelude.{◌≡◌, ◌<◌, ◌≤◌, map, false, Some, IfOk, string_bytes};
 ghost use Rattle.std.specs.Option.{option_map};
 ghost use Rattle.modulename.specs.ModuleName.{is_module_name};
-ghost use Rattle.lookup.specs.Agreement.{Files, Listings, Shows};
+ghost use Rattle.lookup.specs.Agreement.{Files, Listings, InEachPair};
 ghost use Rattle.lookup.specs.Search.{path_of, directories};
 ghost use Rattle.relations.specs.Relations.{Is};
 ghost use Rattle.modulesearch.specs.Found as meaning;
@@ -51,7 +51,7 @@ fn module_at<T: Tree>(
     dir: &str,
     name: &str,
 ) -> Result<Option<Found>, FindFault>
-    ensures before { Shows (T.agrees tree.new) (λ files listings. T.agrees tree.old files listings) }
+    ensures before { InEachPair (T.agrees tree.new) (λ files listings. T.agrees tree.old files listings) }
     ensures later { T.failures tree.old ≤ T.failures tree.new }
     ensures told { Tells (T.agrees tree.new) (T.failures tree.old < T.failures tree.new) (option_map found_view) result
         (λ files listings. Is (module_at files dir.now name.now)) }
@@ -70,13 +70,13 @@ fn default_of<T: Tree, D: DefaultFiles>(
     name: &str,
     entries: &[String],
 ) -> Result<Option<Candidate>, FindFault>
-    requires { Shows (T.agrees tree.old) (λ files listings.
+    requires { InEachPair (T.agrees tree.old) (λ files listings.
         listings (path_of dir.now name.now) ≡ Some (map string_bytes entries.now)) }
-    ensures before { Shows (T.agrees tree.new) (λ files listings. T.agrees tree.old files listings) }
+    ensures before { InEachPair (T.agrees tree.new) (λ files listings. T.agrees tree.old files listings) }
     ensures later { T.failures tree.old ≤ T.failures tree.new }
     ensures told { Tells (T.agrees tree.new) (T.failures tree.old < T.failures tree.new) (option_map version_of) result
         (λ files listings. DefaultIn (D.leaves default_files.now) files listings dir.now name.now) }
-    ensures read { IfOk result (λ r. Shows (T.agrees tree.new) (λ files listings.
+    ensures read { IfOk result (λ r. InEachPair (T.agrees tree.new) (λ files listings.
         IsReadIfAny files dir.now name.now r)) }
 {
     match named_default(alloc, tree, default_files, dir, name, entries)? {
@@ -97,11 +97,11 @@ fn default_in<T: Tree, D: DefaultFiles>(
     dir: &str,
     name: &str,
 ) -> Result<Option<Candidate>, FindFault>
-    ensures before { Shows (T.agrees tree.new) (λ files listings. T.agrees tree.old files listings) }
+    ensures before { InEachPair (T.agrees tree.new) (λ files listings. T.agrees tree.old files listings) }
     ensures later { T.failures tree.old ≤ T.failures tree.new }
     ensures told { Tells (T.agrees tree.new) (T.failures tree.old < T.failures tree.new) (option_map version_of) result
         (λ files listings. DefaultIn (D.leaves default_files.now) files listings dir.now name.now) }
-    ensures read { IfOk result (λ r. Shows (T.agrees tree.new) (λ files listings.
+    ensures read { IfOk result (λ r. InEachPair (T.agrees tree.new) (λ files listings.
         IsReadIfAny files dir.now name.now r)) }
 {
     let folder = path_of(alloc, dir, name)?;
@@ -119,7 +119,7 @@ fn module_below<T: Tree, D: DefaultFiles>(
     dir: &str,
     name: &str,
 ) -> Result<Option<Found>, FindFault>
-    ensures before { Shows (T.agrees tree.new) (λ files listings. T.agrees tree.old files listings) }
+    ensures before { InEachPair (T.agrees tree.new) (λ files listings. T.agrees tree.old files listings) }
     ensures later { T.failures tree.old ≤ T.failures tree.new }
     ensures told { Tells (T.agrees tree.new) (T.failures tree.old < T.failures tree.new) (option_map found_view) result
         (λ files listings. Below (D.leaves default_files.now) files listings dir.now name.now) }
@@ -155,7 +155,7 @@ fn module_along<T: Tree, D: DefaultFiles>(
     dirs: &[&str],
     name: &str,
 ) -> Result<Found, FindFault>
-    ensures before { Shows (T.agrees tree.new) (λ files listings. T.agrees tree.old files listings) }
+    ensures before { InEachPair (T.agrees tree.new) (λ files listings. T.agrees tree.old files listings) }
     ensures later { T.failures tree.old ≤ T.failures tree.new }
     ensures told { Tells (T.agrees tree.new) (T.failures tree.old < T.failures tree.new) found_view result
         (λ files listings. meaning.FoundAlong (D.leaves default_files.now) files listings name.now
@@ -186,7 +186,7 @@ pub fn locate<T: Tree, D: DefaultFiles>(
     modulepath: &str,
     name: &str,
 ) -> Result<Found, FindFault>
-    ensures before { Shows (T.agrees tree.new) (λ files listings. T.agrees tree.old files listings) }
+    ensures before { InEachPair (T.agrees tree.new) (λ files listings. T.agrees tree.old files listings) }
     ensures later { T.failures tree.old ≤ T.failures tree.new }
     ensures told { Tells (T.agrees tree.new) (T.failures tree.old < T.failures tree.new) found_view result
         (λ files listings. meaning.Found (D.leaves default_files.now) files listings modulepath.now name.now) }

@@ -3,7 +3,7 @@ ghost use Rattle.std.specs.Prelude.{◌≡◌, map, filter, find, Some, OnOk, If
 ghost use Rattle.std.specs.List.{list_any};
 ghost use Rattle.std.specs.List.Sorted.{IsPermutation, IsSortedBy};
 ghost use Rattle.std.specs.Option.{option_map};
-ghost use Rattle.lookup.specs.Agreement.{Files, Listings, Shows, HasCause};
+ghost use Rattle.lookup.specs.Agreement.{Files, Listings, InEachPair, HasCause};
 ghost use Rattle.lookup.specs.Search.{path_of};
 ghost use Rattle.modulefind.specs.Candidates.{version_of, IsReadIfAny};
 ghost use Rattle.modulefind.specs.Versions.{is_version, is_module_in, goes_before, IsGreatestOf};
@@ -64,10 +64,10 @@ fn first_module<T: Tree>(
     name: &str,
     versions: &[&str],
 ) -> Result<Option<Candidate>, TreeFault>
-    ensures before { Shows (T.agrees tree.new) (λ files listings. T.agrees tree.old files listings) }
-    ensures answer { IfOk result (λ r. Shows (T.agrees tree.new) (λ files listings.
+    ensures before { InEachPair (T.agrees tree.new) (λ files listings. T.agrees tree.old files listings) }
+    ensures answer { IfOk result (λ r. InEachPair (T.agrees tree.new) (λ files listings.
         option_map version_of r ≡ find (is_module_in files dir.now name.now) (map (λ v. v.now) versions.now))) }
-    ensures read { IfOk result (λ r. Shows (T.agrees tree.new) (λ files listings.
+    ensures read { IfOk result (λ r. InEachPair (T.agrees tree.new) (λ files listings.
         IsReadIfAny files dir.now name.now r)) }
     ensures cause { HasCause (T.failures tree.old) (T.failures tree.new) result }
 {
@@ -93,12 +93,12 @@ pub(crate) fn greatest_candidate<T: Tree>(
     name: &str,
     entries: &[String],
 ) -> Result<Option<Candidate>, TreeFault>
-    requires { Shows (T.agrees tree.old) (λ files listings.
+    requires { InEachPair (T.agrees tree.old) (λ files listings.
         listings (path_of dir.now name.now) ≡ Some (map string_bytes entries.now)) }
-    ensures before { Shows (T.agrees tree.new) (λ files listings. T.agrees tree.old files listings) }
-    ensures answer { IfOk result (λ r. Shows (T.agrees tree.new) (λ files listings.
+    ensures before { InEachPair (T.agrees tree.new) (λ files listings. T.agrees tree.old files listings) }
+    ensures answer { IfOk result (λ r. InEachPair (T.agrees tree.new) (λ files listings.
         IsGreatestOf files listings dir.now name.now (option_map version_of r))) }
-    ensures read { IfOk result (λ r. Shows (T.agrees tree.new) (λ files listings.
+    ensures read { IfOk result (λ r. InEachPair (T.agrees tree.new) (λ files listings.
         IsReadIfAny files dir.now name.now r)) }
     ensures cause { HasCause (T.failures tree.old) (T.failures tree.new) result }
 {

@@ -19,7 +19,7 @@ use Rattle.moduleversion.proofs.OrderLemmas.{total, equal}
 use Rattle.lookup.specs.Agreement.{Files, Listings}
 use Rattle.modulesearch.specs.DefaultFiles.{Left}
 use Rattle.modulesearch.specs.Listed as listed
-use Rattle.modulesearch.specs.Listed.{Leads, IsBelow, IsNamed, IsListing, names_of, is_marked}
+use Rattle.modulesearch.specs.Listed.{LeadsThrough, IsBelow, IsNamed, IsListing, names_of, is_marked}
 use Rattle.modulefind.proofs.VersionLemmas.{has}
 use Rattle.modulelist.specs.Below.{IsUnder, IsMarkRight, AreRows}
 use Rattle.modulelist.specs.Rows.{row_view, name_of, goes_before, is_same_name}
@@ -85,7 +85,7 @@ module _ (leaves : Text → Text → Option Left → Type 0) (files : Files) (fo
   Right row = IsUnder files folders dir None row.0 × IsMarkRight leaves files folders dir row
 
   below_from : (v : Text) → IsUnder files folders dir None v → IsBelow files folders dir v
-  below_from v u = record { spelled = u.spelled; leads = subst (λ r. Leads folders dir (parts r)) (sym u.joined) u.leads; file = u.file }
+  below_from v u = record { spelled = u.spelled; leads = subst (λ r. LeadsThrough folders dir (parts r)) (sym u.joined) u.leads; file = u.file }
 
   under_from : (v : Text) → IsBelow files folders dir v → IsUnder files folders dir None v
   under_from v b = record { rest = v; joined = refl; spelled = b.spelled; leads = b.leads; file = b.file }

@@ -8,7 +8,7 @@ use Rattle.lookup.specs.Agreement.{Files, Listings}
 use Rattle.lookup.specs.Search.{path_of}
 use Rattle.modulesearch.specs.Single.{is_single}
 use Rattle.modulesearch.specs.Found.{HasEntry}
-use Rattle.modulesearch.specs.Listed.{Leads}
+use Rattle.modulesearch.specs.Listed.{LeadsThrough}
 use Rattle.modulefind.proofs.VersionLemmas.{has, in_filter, filter_has}
 use Rattle.modulelist.specs.Below.{folder_path, name_below, parts_of, names_in, IsUnder, IsInside}
 use Rattle.modulelist.proofs.PartLemmas.{parts-single, parts-path, parts-some, Cut, cut, name_below-path, folder_path-below, spelled_front, too_deep}
@@ -35,7 +35,7 @@ map_has f x (y ∷ ys) h =
 pub none_under : (files : Files) (folders : Listings) (dir : Text) (front : Option Text) (name : Text) → folders (folder_path dir front) ≡ None → IsUnder files folders dir front name → ⊥
 none_under files folders dir front name nothing u = at (parts u.rest) refl u.leads
   where
-    at : (ps : List Text) → parts u.rest ≡ ps → Leads folders (folder_path dir front) ps → ⊥
+    at : (ps : List Text) → parts u.rest ≡ ps → LeadsThrough folders (folder_path dir front) ps → ⊥
     at [] e l = parts-some u.rest e
     at (p ∷ ps) e l = let q : None ≡ Some l.0.0 = sym nothing ∙ l.0.1 in absurd (cc)
 
@@ -68,12 +68,12 @@ module _ (files : Files) (folders : Listings) (dir : Text) (front : Option Text)
     where
       at : (is_single u.rest ≡ true) ⊎ Cut u.rest → IsInside files folders dir (names_in front entries) (names_in front entries) v
       at (inl s) =
-          let l = subst (Leads folders (folder_path dir front)) (parts-single u.rest s) u.leads in
+          let l = subst (LeadsThrough folders (folder_path dir front)) (parts-single u.rest s) u.leads in
           let spelled : is_module_name (name_below front u.rest) ≡ true = ap is_module_name (sym u.joined) ∙ u.spelled in
           inl (ap (λ x. has x (names_in front entries)) u.joined ∙ in_names u.rest (entry_in u.rest l.0) s spelled, u.file)
       at (inr (e, more, whole, s)) =
           let made : parts u.rest ≡ e ∷ parts more = ap parts whole ∙ parts-path e more ∙ ap (λ ps. ps ++ parts more) (parts-single e s) in
-          let l = subst (Leads folders (folder_path dir front)) made u.leads in
+          let l = subst (LeadsThrough folders (folder_path dir front)) made u.leads in
           let joined : v ≡ path_of (name_below front e) more = u.joined ∙ ap (name_below front) whole ∙ name_below-path front e more in
           let spelled : is_module_name (name_below front e) ≡ true = spelled_front (name_below front e) more (ap is_module_name (sym joined) ∙ u.spelled) in
           inr (
@@ -83,7 +83,7 @@ module _ (files : Files) (folders : Listings) (dir : Text) (front : Option Text)
               rest = more;
               joined = joined;
               spelled = u.spelled;
-              leads = subst (λ p. Leads folders p (parts more)) (sym (folder_path-below dir front e)) l.1;
+              leads = subst (λ p. LeadsThrough folders p (parts more)) (sym (folder_path-below dir front e)) l.1;
               file = u.file;
             },
           )
@@ -94,7 +94,7 @@ module _ (files : Files) (folders : Listings) (dir : Text) (front : Option Text)
         rest = r.0;
         joined = r.1;
         spelled = r.4;
-        leads = subst (Leads folders (folder_path dir front)) (sym (parts-single r.0 r.3)) ((entries, listed, r.2), tt);
+        leads = subst (LeadsThrough folders (folder_path dir front)) (sym (parts-single r.0 r.3)) ((entries, listed, r.2), tt);
         file = file;
       }
   outside v (inr (n, h, u)) =
@@ -104,6 +104,6 @@ module _ (files : Files) (folders : Listings) (dir : Text) (front : Option Text)
         rest = path_of r.0 u.rest;
         joined = u.joined ∙ ap (λ x. path_of x u.rest) r.1 ∙ sym (name_below-path front r.0 u.rest);
         spelled = u.spelled;
-        leads = subst (Leads folders (folder_path dir front)) (sym made) ((entries, listed, r.2), subst (λ p. Leads folders p (parts u.rest)) below u.leads);
+        leads = subst (LeadsThrough folders (folder_path dir front)) (sym made) ((entries, listed, r.2), subst (λ p. LeadsThrough folders p (parts u.rest)) below u.leads);
         file = u.file;
       }

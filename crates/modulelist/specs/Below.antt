@@ -7,7 +7,7 @@ use Rattle.lookup.specs.Search.{modulefile, is_module, path_of}
 use Rattle.modulesearch.specs.Single.{is_single}
 use Rattle.modulesearch.specs.DefaultFiles.{Left}
 use Rattle.modulesearch.specs.Found.{IsModuleAt}
-use Rattle.modulesearch.specs.Listed.{Leads, IsNamed, Row, names_of}
+use Rattle.modulesearch.specs.Listed.{LeadsThrough, IsNamed, Row, names_of}
 use Rattle.modulelist.specs.Marks.{is_marked_by}
 
 -- A folder is known by its name below the directory; the directory itself has none.
@@ -36,7 +36,7 @@ pub record IsUnder (files : Files) (folders : Listings) (dir : Text) (front : Op
   pub rest : Text
   pub joined : name ≡ name_below front rest
   pub spelled : is_module_name name ≡ true
-  pub leads : Leads folders (folder_path dir front) (parts rest)
+  pub leads : LeadsThrough folders (folder_path dir front) (parts rest)
   pub file : IsModuleAt files (path_of dir name)
 
 -- a file with the cookie that has one of the names of a folder, or what is below one of those that are done

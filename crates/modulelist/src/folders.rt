@@ -1,7 +1,7 @@
 //! The modules below a folder.
 ghost use Rattle.std.specs.Prelude.{◌≡◌, ◌++◌, ◌+◌, ◌≤◌, List, map, Some, length, OnOk, IfOk, string_bytes};
 ghost use Rattle.std.specs.Option.{option_map};
-ghost use Rattle.lookup.specs.Agreement.{Files, Listings, Shows, HasCause};
+ghost use Rattle.lookup.specs.Agreement.{Files, Listings, InEachPair, HasCause};
 ghost use Rattle.modulesearch.specs.Listed as listed;
 ghost use Rattle.modulelist.specs.Below.{folder_path, parts_of, names_in, IsUnder, AreFiles, AreRows, IsDefaultOf};
 ghost use Rattle.modulelist.specs.Rows.{row_view};
@@ -30,11 +30,11 @@ impl<D: DefaultFiles> Walk<'_, D> {
         front: Option<&str>,
         entries: &[String],
     ) -> Result<Option<String>, TreeFault>
-        requires { Shows (T.agrees tree.old) (λ files folders.
+        requires { InEachPair (T.agrees tree.old) (λ files folders.
             folders (folder_path self.now.dir.now (option_map (λ f. f.now) front))
             ≡ Some (map string_bytes entries.now)) }
-        ensures before { Shows (T.agrees tree.new) (λ files folders. T.agrees tree.old files folders) }
-        ensures answer { IfOk result (λ default. Shows (T.agrees tree.new) (λ files folders.
+        ensures before { InEachPair (T.agrees tree.new) (λ files folders. T.agrees tree.old files folders) }
+        ensures answer { IfOk result (λ default. InEachPair (T.agrees tree.new) (λ files folders.
             IsDefaultOf (D.leaves self.now.default_files.now) files folders self.now.dir.now
             (option_map (λ f. f.now) front.entry)
             (option_map string_bytes default))) }
@@ -69,13 +69,13 @@ impl<D: DefaultFiles> Walk<'_, D> {
         names: &[String],
         rows: &mut Vec<Row>,
     ) -> Result<(), TreeFault>
-        requires listed { Shows (T.agrees tree.old) (λ files folders.
+        requires listed { InEachPair (T.agrees tree.old) (λ files folders.
             folders (folder_path self.now.dir.now (option_map (λ f. f.now) front))
             ≡ Some (map string_bytes entries.now)) }
         requires named { map string_bytes names.now
             ≡ names_in (option_map (λ f. f.now) front) (map string_bytes entries.now) }
-        ensures before { Shows (T.agrees tree.new) (λ files folders. T.agrees tree.old files folders) }
-        ensures added { OnOk result (Shows (T.agrees tree.new) (λ files folders. (more : List listed.Row)
+        ensures before { InEachPair (T.agrees tree.new) (λ files folders. T.agrees tree.old files folders) }
+        ensures added { OnOk result (InEachPair (T.agrees tree.new) (λ files folders. (more : List listed.Row)
             × (map row_view rows.new.items ≡ map row_view rows.old.items ++ more)
             × AreFiles (D.leaves self.now.default_files.now) files folders self.now.dir.now
             (map string_bytes names.now) more)) }
@@ -99,8 +99,8 @@ impl<D: DefaultFiles> Walk<'_, D> {
         rows: &mut Vec<Row>,
     ) -> Result<(), TreeFault>
         requires { 4 ≤ length (parts_of (option_map (λ f. f.now) front)) + levels }
-        ensures before { Shows (T.agrees tree.new) (λ files folders. T.agrees tree.old files folders) }
-        ensures added { OnOk result (Shows (T.agrees tree.new) (λ files folders. (more : List listed.Row)
+        ensures before { InEachPair (T.agrees tree.new) (λ files folders. T.agrees tree.old files folders) }
+        ensures added { OnOk result (InEachPair (T.agrees tree.new) (λ files folders. (more : List listed.Row)
             × (map row_view rows.new.items ≡ map row_view rows.old.items ++ more)
             × AreRows (D.leaves self.now.default_files.now) files folders self.now.dir.now
             (IsUnder files folders self.now.dir.now (option_map (λ f. f.now) front.entry)) more)) }

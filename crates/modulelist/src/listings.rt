@@ -1,6 +1,6 @@
 //! The modules of each directory of a MODULEPATH.
 ghost use Rattle.std.specs.Prelude.{◌≡◌, map, IfOk, string_bytes};
-ghost use Rattle.lookup.specs.Agreement.{Files, Listings, Shows, HasCause};
+ghost use Rattle.lookup.specs.Agreement.{Files, Listings, InEachPair, HasCause};
 ghost use Rattle.modulesearch.specs.Listed.{IsListing, AreListings, Listed};
 ghost use Rattle.modulelist.specs.Rows.{row_view};
 ghost use Rattle.modulelist.specs.Listings.{listing_view};
@@ -29,8 +29,8 @@ fn modules_of<T: Tree, D: DefaultFiles>(
     default_files: &D,
     dir: &str,
 ) -> Result<Vec<Row>, TreeFault>
-    ensures before { Shows (T.agrees tree.new) (λ files folders. T.agrees tree.old files folders) }
-    ensures answer { IfOk result (λ rows. Shows (T.agrees tree.new) (λ files folders.
+    ensures before { InEachPair (T.agrees tree.new) (λ files folders. T.agrees tree.old files folders) }
+    ensures answer { IfOk result (λ rows. InEachPair (T.agrees tree.new) (λ files folders.
         IsListing (D.leaves default_files.now) files folders dir.now (map row_view rows.items))) }
     ensures cause { HasCause (T.failures tree.old) (T.failures tree.new) result }
 {
@@ -58,8 +58,8 @@ pub fn available<T: Tree, D: DefaultFiles>(
     default_files: &D,
     modulepath: &str,
 ) -> Result<Vec<Listing>, TreeFault>
-    ensures before { Shows (T.agrees tree.new) (λ files folders. T.agrees tree.old files folders) }
-    ensures listed { IfOk result (λ listings. Shows (T.agrees tree.new) (λ files folders.
+    ensures before { InEachPair (T.agrees tree.new) (λ files folders. T.agrees tree.old files folders) }
+    ensures listed { IfOk result (λ listings. InEachPair (T.agrees tree.new) (λ files folders.
         Listed (D.leaves default_files.now) files folders modulepath.now (map listing_view listings.items))) }
     ensures cause { HasCause (T.failures tree.old) (T.failures tree.new) result }
 {

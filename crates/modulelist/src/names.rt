@@ -1,7 +1,7 @@
 //! Names below a directory.
 ghost use Rattle.std.specs.Prelude.{◌≡◌, map, filter, IfOk, string_bytes};
 ghost use Rattle.std.specs.Option.{option_map};
-ghost use Rattle.lookup.specs.Agreement.{Files, Listings, Shows, HasCause};
+ghost use Rattle.lookup.specs.Agreement.{Files, Listings, InEachPair, HasCause};
 ghost use Rattle.modulesearch.specs.Single.{is_single};
 ghost use Rattle.modulelist.specs.Below.{folder_path, name_below, names_in, is_module_below};
 
@@ -64,8 +64,8 @@ pub(crate) fn modules_among<'a, T: Tree>(
     dir: &str,
     names: &'a [String],
 ) -> Result<Vec<&'a str>, TreeFault>
-    ensures before { Shows (T.agrees tree.new) (λ files folders. T.agrees tree.old files folders) }
-    ensures answer { IfOk result (λ modules. Shows (T.agrees tree.new) (λ files folders.
+    ensures before { InEachPair (T.agrees tree.new) (λ files folders. T.agrees tree.old files folders) }
+    ensures answer { IfOk result (λ modules. InEachPair (T.agrees tree.new) (λ files folders.
         map (λ m. m.now) modules.items ≡ filter (is_module_below files dir.now) (map string_bytes names.entry.now))) }
     ensures cause { HasCause (T.failures tree.old) (T.failures tree.new) result }
 {

@@ -5,17 +5,18 @@ use Rattle.lookup.specs.Agreement.{Files, Listings}
 use Rattle.relations.specs.Relations.{Is, Then}
 use Rattle.modulesearch.specs.Reasons.{Reason}
 use Rattle.modulesearch.specs.DefaultFiles.{Left}
-use Rattle.modulesearch.specs.Found.{Module, Found}
+use Rattle.modulesearch.specs.Found.{FoundModule, Found}
 
 -- a module's full name, and the path of its file
-pub record Place : Type 0 where
+pub record ModulePlace : Type 0 where
   pub name : Text
   pub path : Text
 
-abbrev pub place_of : Module → Place
+abbrev pub place_of : FoundModule → ModulePlace
 place_of found = record { name = found.name; path = found.path }
 
 -- The place of the module that a name means along a MODULEPATH, or the reason that it means none.
-abbrev pub Located : (Text → Text → Option Left → Type 0) → Files → Listings → Text → Text → Result Place Reason → Type 0
+abbrev pub Located : (Text → Text → Option Left → Type 0) → Files → Listings → Text → Text → Result ModulePlace Reason
+    → Type 0
 Located leaves files folders modulepath name =
     Then (Found leaves files folders modulepath name) (λ found. Is (Ok (place_of found)))

@@ -1,6 +1,6 @@
 //! All modules along MODULEPATH, one after the other.
 ghost use Rattle.std.specs.Prelude.{◌≡◌, ◌<◌, ◌≤◌, ◌++◌, map, IfOk, IfErr, OnOk};
-ghost use Rattle.lookup.specs.Agreement.{Narrows, Shows};
+ghost use Rattle.lookup.specs.Agreement.{Narrows, InEachPair};
 ghost use Rattle.lookup.specs.Causes.{Applies};
 ghost use Rattle.modulefind.specs.Answers.{cause_of};
 ghost use Rattle.modulelist.specs.Listings.{listing_view};
@@ -76,7 +76,7 @@ pub fn available<T: Tree>(
 ) -> Result<Vec<Listing>, FindFault>
     ensures before { Narrows (T.agrees tree.old) (T.agrees tree.new) }
     ensures later { T.failures tree.old ≤ T.failures tree.new }
-    ensures listed { IfOk result (λ listings. Shows (T.agrees tree.new) (λ files folders.
+    ensures listed { IfOk result (λ listings. InEachPair (T.agrees tree.new) (λ files folders.
         Available (Leaves limits) files folders modulepath.now (map line_view listings.items))) }
     ensures fault { IfErr result (λ e.
         Applies (cause_of e) (T.failures tree.old < T.failures tree.new) (λ reason. ⊥)) }

@@ -22,9 +22,9 @@ pub struct Found {
 }
 
 /// Finds the module that a name means: the first directory of MODULEPATH, a list parted by colons, that gives one. A
-/// directory gives the modulefile at directory, `/`, name; or else, where a folder is there with files that begin
-/// with `#%Module`, the one of these that its default files name (`.modulerc`, or else `.version`, each evaluated within
-/// the limits), or else the greatest by version order.
+/// directory gives the modulefile at directory, `/`, name; or else, where a folder is there with files that begin with
+/// `#%Module`, the one of these that its default files name (`.modulerc`, or else `.version`, each evaluated within the
+/// limits), or else the greatest by version order.
 ///
 /// It fails with `BadName` exactly where the name is ill-spelled, before anything is read; with `NotFound` where no
 /// directory gives a module; with `BadDefaultFile` where a default file of the folder that was meant has a fault;

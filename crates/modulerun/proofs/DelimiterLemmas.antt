@@ -12,7 +12,7 @@ use Rattle.modulefile.specs.declared.call.PathEdit.{PathEdit}
 use Rattle.modulefile.specs.declared.call.PathEdit.TheVariants as edits
 use Rattle.modulefile.specs.Results.{◌>>=◌}
 use Rattle.modulefile.specs.Calls as calls
-use Rattle.modulefile.specs.Calls.{Topic, keeps, says, getenv, is_loaded, own_name, typed_name, tells, tests, CallReason, Form, bad_arguments, left_out, no_option, without_option, var_and_value, var_and_perhaps, with_delimiter, by_next_word, by_same_word, by_option, delimited, elements_of, var_and_values, path_form, some_words, getenv_form, asked_of_loaded, puts_form, alone, told_or_tested, info_form, description, not_a_command, call_of}
+use Rattle.modulefile.specs.Calls.{Topic, keeps, says, getenv, is_loaded, own_name, typed_name, tells, tests, CallReason, CallForm, bad_arguments, left_out, no_option, without_option, var_and_value, var_and_perhaps, with_delimiter, by_next_word, by_same_word, by_option, delimited, elements_of, var_and_values, path_form, some_words, getenv_form, asked_of_loaded, puts_form, alone, told_or_tested, info_form, description, not_a_command, call_of}
 use Rattle.modulefile.specs.CallViews.{edit_record}
 
 -- the delimiter of a record; 0 where it has none
@@ -27,7 +27,7 @@ delimiter_in (Conflict names) = 0
 delimiter_in (Prereq names) = 0
 delimiter_in (Whatis text) = 0
 
-abbrev IsAscii : Form → Type 0
+abbrev IsAscii : CallForm → Type 0
 IsAscii (Ok (keeps r)) = delimiter_in r < 128
 IsAscii (Ok (says message)) = ⊤
 IsAscii (Ok (getenv var default)) = ⊤
@@ -42,16 +42,16 @@ abbrev IsAsciiFront : Result (ℕ × List Text) CallReason → Type 0
 IsAsciiFront (Ok p) = p.0 < 128
 IsAsciiFront (Err reason) = ⊤
 
-either : (b : Bool) (f g : Form) → IsAscii f → IsAscii g → IsAscii (if b then f else g)
+either : (b : Bool) (f g : CallForm) → IsAscii f → IsAscii g → IsAscii (if b then f else g)
 either true f g h k = h
 either false f g h k = k
 
 -- commands without a delimiter
-behind_test : (b : Bool) (form : List Text → Form) (words : List Text) → ((ws : List Text) → IsAscii (form ws)) → IsAscii ((if b then Err bad_arguments else Ok words) >>= form)
+behind_test : (b : Bool) (form : List Text → CallForm) (words : List Text) → ((ws : List Text) → IsAscii (form ws)) → IsAscii ((if b then Err bad_arguments else Ok words) >>= form)
 behind_test true form words h = tt
 behind_test false form words h = h words
 
-optionless : (form : List Text → Form) → ((ws : List Text) → IsAscii (form ws)) → (words : List Text) → IsAscii (without_option form words)
+optionless : (form : List Text → CallForm) → ((ws : List Text) → IsAscii (form ws)) → (words : List Text) → IsAscii (without_option form words)
 optionless form h [] = h []
 optionless form h (word ∷ words) = behind_test (begins 45 word) form (word ∷ words) h
 

@@ -4,7 +4,7 @@ use Rattle.std.specs.declared.vec.Vec.{Vec}
 use Rattle.std.specs.declared.alloc.Global.{Global}
 use Rattle.environment.specs.Texts.{Text, texts_in}
 use Rattle.environment.specs.Environment.{Environment}
-use Rattle.environment.specs.Changes.{applied, edits_in}
+use Rattle.environment.specs.Changes.{applied, new_values_in}
 use Rattle.tclrules.specs.Oracle.{Oracle, Told}
 use Rattle.tclrules.specs.Variables.{Variables}
 use Rattle.tclrules.specs.Promise.{Evaluates}
@@ -13,7 +13,7 @@ use Rattle.tclrules.specs.declared.outcome.Ending.{Ending}
 use Rattle.tclrules.specs.declared.outcome.EvalFault.{EvalFault}
 use Rattle.modulefile.specs.Answers as answers
 use Rattle.modulefile.specs.Answers.{oracle_of}
-use Rattle.modulefile.specs.Files.{Stop, Runs, ran_of, untold, globals_of}
+use Rattle.modulefile.specs.Files.{Stop, RunsFile, ran_of, untold, globals_of}
 use Rattle.modulerun.specs.declared.context.Context.{Context}
 use Rattle.modulerun.specs.declared.run.Draft.{Draft}
 use Rattle.modulerun.specs.declared.run_fault.RunFault.{RunFault}
@@ -50,14 +50,14 @@ started limits text cx ctx start j messages mark gs r new e d m b k h =
 
 pub drafts_ok : (limits : Limits) (c d : answers.Context) (text : Text) (told : Told) (end : Ending) (r : Result Draft RunFault)
     → Evaluates limits text (globals_of c.path) (oracle_of c) untold (Ok end) told → oracle_of d ≡ oracle_of c
-    → IfOk r (λ draft. ran_of d told ≡ Ok (ran_view draft.ran (applied (edits_in draft.changes) d.start))) → IfErr r (λ fault. fault ≡ OutOfMemory)
+    → IfOk r (λ draft. ran_of d told ≡ Ok (ran_view draft.ran (applied (new_values_in draft.changes) d.start))) → IfErr r (λ fault. fault ≡ OutOfMemory)
     → Drafts limits c text r
 drafts_ok limits c d text told end (Ok draft) h same k only =
     runs_ok limits c text told end _ h
-    (sym (same_ran d c told same) ∙ k ∙ ap (λ (s : Environment). Ok (ran_view draft.ran (applied (edits_in draft.changes) s))) (same_start d c same))
-drafts_ok limits c d text told end (Err fault) h same k only = subst (λ (f : RunFault). IfSome (stop_of f) (λ stop. Runs limits c text (Err stop))) (sym only) tt
+    (sym (same_ran d c told same) ∙ k ∙ ap (λ (s : Environment). Ok (ran_view draft.ran (applied (new_values_in draft.changes) s))) (same_start d c same))
+drafts_ok limits c d text told end (Err fault) h same k only = subst (λ (f : RunFault). IfSome (stop_of f) (λ stop. RunsFile limits c text (Err stop))) (sym only) tt
 
 pub drafts_err : (limits : Limits) (c : answers.Context) (text : Text) (told : Told) (fault : EvalFault) (refusal : RunFault)
     → Evaluates limits text (globals_of c.path) (oracle_of c) untold (Err fault) told → IfSome (stop_of refusal) (λ stop. eval_stop fault ≡ Some stop)
     → Drafts limits c text (Err refusal)
-drafts_err limits c text told fault refusal h k = of_stop (eval_stop fault) (stop_of refusal) (λ stop. Runs limits c text (Err stop)) k (runs_err limits c text told fault h)
+drafts_err limits c text told fault refusal h k = of_stop (eval_stop fault) (stop_of refusal) (λ stop. RunsFile limits c text (Err stop)) k (runs_err limits c text told fault h)

@@ -3,7 +3,7 @@ use Rattle.std.proofs.Common.{◌≡◌, List, [], ◌∷◌, ◌++◌, map, Res
 use Rattle.std.proofs.lemmas.List.{map_push}
 use Rattle.environment.specs.Texts.{Text, texts_in}
 use Rattle.environment.specs.Environment.{Environment}
-use Rattle.environment.specs.Changes.{Edit, AreChanges, applied}
+use Rattle.environment.specs.Changes.{NewValue, AreChanges, applied}
 use Rattle.environment.proofs.ChangeLemmas.{applied-changes}
 use Rattle.modulerecords.specs.Records as records
 use Rattle.modulerecords.specs.Effects as effects
@@ -88,7 +88,7 @@ records_kept entries rs e = seen entries ∙ ap (λ xs. map record_view xs) (sym
     seen (x ∷ es) = ap (λ xs. record_view x.kept ∷ xs) (seen es)
 
 -- what the records of a file make is what they changed
-pub made_by : (mode : Mode) (owner : Text) (start now : Environment) (entries : List Entry) (rs : List Record) (cs : List Edit)
+pub made_by : (mode : Mode) (owner : Text) (start now : Environment) (entries : List Entry) (rs : List Record) (cs : List NewValue)
     → IsKept (mode_view mode) owner start now entries → rs ≡ map (λ (entry : Entry). entry.kept) entries → AreChanges start now cs
     → effects (mode_view mode) owner (map record_view rs) start ≡ Ok (applied cs start)
 made_by mode owner start now entries rs cs k e h =

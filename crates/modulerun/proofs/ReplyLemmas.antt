@@ -8,7 +8,7 @@ use Rattle.environment.specs.Names.{is_variable_name}
 use Rattle.environment.specs.Environment.{Environment}
 use Rattle.environment.specs.Reasons.{bad_variable, inconsistent}
 use Rattle.tclrules.specs.Oracle as oracle
-use Rattle.tclrules.specs.Oracle.{Oracle, Answer, Told, Kept, tell}
+use Rattle.tclrules.specs.Oracle.{Oracle, OracleAnswer, Told, Kept, tell}
 use Rattle.tclrules.specs.Hosts.{Answers}
 use Rattle.tclrules.specs.declared.host.HostAnswer.{HostAnswer}
 use Rattle.tclrules.specs.declared.host.HostAnswer.TheVariants.{Done, Unknown, LeftOut, Refused, OutOfMemory}
@@ -28,7 +28,7 @@ use Rattle.modulerun.specs.declared.context.Context.{Context}
 use Rattle.modulerun.specs.Journals.{SoFar, found, noted, effect_on}
 use Rattle.modulerun.specs.Hosting.{context_with, told_with, Replies}
 
-pub by_answer : (a b : Answer) (h : HostAnswer) (old new : Told) → a ≡ b → Replies b h old new → Replies a h old new
+pub by_answer : (a b : OracleAnswer) (h : HostAnswer) (old new : Told) → a ≡ b → Replies b h old new → Replies a h old new
 by_answer a b h old new e r = subst (λ x. Replies x h old new) (sym e) r
 
 -- the replies of a host are the answers of its oracle
@@ -58,7 +58,7 @@ noted_reply s t cx messages mark words r text e call empty note effect =
       ),
     )
 
-abbrev number_in : Answer → ℕ
+abbrev number_in : OracleAnswer → ℕ
 number_in (oracle.Done t adds asks) = 0
 number_in (oracle.Unknown asks) = 0
 number_in (oracle.LeftOut name asks) = 0
@@ -68,7 +68,7 @@ true_not_false : true ≡ false → ⊥
 true_not_false e = absurd (cc)
 
 -- what replies to every reason of a record alike is want of memory
-from_reasons : (h : HostAnswer) (old new : Told) (a : Answer) → ((reason : RecordReason) → Replies (not_done (bad_record reason)) h old new) → Replies a h old new
+from_reasons : (h : HostAnswer) (old new : Told) (a : OracleAnswer) → ((reason : RecordReason) → Replies (not_done (bad_record reason)) h old new) → Replies a h old new
 from_reasons (Done t) old new a f = let r = f (bad_module_name []) in let e : oracle.Refused 44 false ≡ oracle.Done (string_bytes t) r.0 r.1 = r.2.0 in absurd (cc)
 from_reasons Unknown old new a f = let r = f (bad_module_name []) in let e : oracle.Refused 44 false ≡ oracle.Unknown r.0 = r.1.0 in absurd (cc)
 from_reasons (LeftOut name) old new a f = let r = f (bad_module_name []) in let e : oracle.Refused 44 false ≡ oracle.LeftOut (string_bytes name) r.0 = r.1.0 in absurd (cc)
@@ -114,7 +114,7 @@ asked_reply c e words call made text h old new k is a r =
     by_answer _ (asked text) h old new (ap (answered c e words) (k ∙ ap (λ x. Ok x) is) ∙ a) r
 
 -- what replies to every reason of a call alike is want of memory
-from_call_reasons : (h : HostAnswer) (old new : Told) (a : Answer) → ((reason : CallReason) → Replies (not_done reason) h old new) → Replies a h old new
+from_call_reasons : (h : HostAnswer) (old new : Told) (a : OracleAnswer) → ((reason : CallReason) → Replies (not_done reason) h old new) → Replies a h old new
 from_call_reasons (Done t) old new a f = let r = f unknown in let e : oracle.Unknown false ≡ oracle.Done (string_bytes t) r.0 r.1 = r.2.0 in absurd (cc)
 from_call_reasons Unknown old new a f = let r = f bad_arguments in let e : oracle.Refused 56 false ≡ oracle.Unknown r.0 = r.1.0 in absurd (cc)
 from_call_reasons (LeftOut name) old new a f = let r = f unknown in let e : oracle.Unknown false ≡ oracle.LeftOut (string_bytes name) r.0 = r.1.0 in absurd (cc)

@@ -4,7 +4,7 @@ use Rattle.std.specs.declared.vec.Vec.{Vec}
 use Rattle.std.specs.declared.alloc.Global.{Global}
 use Rattle.environment.specs.Texts.{Text, texts_in}
 use Rattle.tclrules.specs.Oracle as oracle
-use Rattle.tclrules.specs.Oracle.{Answer, Told}
+use Rattle.tclrules.specs.Oracle.{OracleAnswer, Told}
 use Rattle.tclrules.specs.Derivation.{perhaps_asked}
 use Rattle.tclrules.specs.Hosts.{IsTold}
 use Rattle.tclrules.specs.declared.host.HostAnswer.{HostAnswer}
@@ -45,7 +45,7 @@ abbrev pub message_of : Text → Bool → Text
 message_of text newline = if newline then text ++ 10 ∷ [] else text
 
 -- The host replies by this answer, and it is told; or memory runs out.
-abbrev pub Replies : Answer → HostAnswer → Told → Told → Type 0
+abbrev pub Replies : OracleAnswer → HostAnswer → Told → Told → Type 0
 Replies answer (Done t) old new =
     (adds : oracle.Addition) × (asks : Bool) × IsTold answer (oracle.Done (string_bytes t) adds asks) old new
 Replies answer Unknown old new = (asks : Bool) × IsTold answer (oracle.Unknown asks) old new

@@ -3,7 +3,7 @@ use Rattle.std.specs.Prelude.{◌≡◌, List, map, string_bytes, Option, Some, 
 use Rattle.std.specs.Option.{option_map}
 use Rattle.environment.specs.Texts.{Text}
 use Rattle.environment.specs.Environment.{Environment}
-use Rattle.environment.specs.Changes.{applied, edits_in}
+use Rattle.environment.specs.Changes.{applied, new_values_in}
 use Rattle.tclrules.specs.Derivation as halts
 use Rattle.tclrules.specs.Derivation.{Halt}
 use Rattle.tclrules.specs.declared.limits.Limits.{Limits}
@@ -13,7 +13,7 @@ use Rattle.modulefile.specs.RecordViews.{mode_view, record_view, fault_reason}
 use Rattle.modulefile.specs.Answers as answers
 use Rattle.modulefile.specs.Answers.{record_number}
 use Rattle.modulefile.specs.Files as files
-use Rattle.modulefile.specs.Files.{Stop, halted, failed, Runs}
+use Rattle.modulefile.specs.Files.{Stop, halted, failed, RunsFile}
 use Rattle.modulerun.specs.declared.context.Context.{Context}
 use Rattle.modulerun.specs.declared.run.Ran.{Ran}
 use Rattle.modulerun.specs.declared.run.Draft.{Draft}
@@ -68,11 +68,12 @@ stop_of (BadRecord fault) = option_map (λ reason. halted (halts.ByHost (record_
 -- What a call returned is what the text comes to in the context, or want of memory. The environment after an accepted
 -- file is the one that it left, and after a refused one the old one.
 abbrev pub RunsTo : Limits → answers.Context → Text → Result Ran RunFault → Environment → Type 0
-RunsTo limits c text (Ok ran) new = Runs limits c text (Ok (ran_view ran new))
-RunsTo limits c text (Err fault) new = (new ≡ c.start) × IfSome (stop_of fault) (λ stop. Runs limits c text (Err stop))
+RunsTo limits c text (Ok ran) new = RunsFile limits c text (Ok (ran_view ran new))
+RunsTo limits c text (Err fault) new = (new ≡ c.start) × IfSome (stop_of fault)
+    (λ stop. RunsFile limits c text (Err stop))
 
 -- The same of a file whose changes aren't made yet.
 abbrev pub Drafts : Limits → answers.Context → Text → Result Draft RunFault → Type 0
 Drafts limits c text (Ok draft) =
-    Runs limits c text (Ok (ran_view draft.ran (applied (edits_in draft.changes) c.start)))
-Drafts limits c text (Err fault) = IfSome (stop_of fault) (λ stop. Runs limits c text (Err stop))
+    RunsFile limits c text (Ok (ran_view draft.ran (applied (new_values_in draft.changes) c.start)))
+Drafts limits c text (Err fault) = IfSome (stop_of fault) (λ stop. RunsFile limits c text (Err stop))

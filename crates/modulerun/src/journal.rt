@@ -3,7 +3,7 @@ ghost use Rattle.std.specs.Prelude.{◌≡◌, ◌++◌, ◌∷◌, [], Ok, map,
 ghost use Rattle.std.specs.Option.{option_map};
 ghost use Rattle.environment.specs.Texts.{texts_in};
 ghost use Rattle.environment.specs.Environment.{lookup};
-ghost use Rattle.environment.specs.Changes.{applied, edits_in};
+ghost use Rattle.environment.specs.Changes.{applied, new_values_in};
 ghost use Rattle.modulerecords.specs.Effects.{effect, effects};
 ghost use Rattle.modulefile.specs.Calls.{keeps, call_of};
 ghost use Rattle.modulefile.specs.Answers.{records_in};
@@ -166,7 +166,7 @@ impl<'a, V: Vars> Journal<'a, V> {
         ensures records { IfOk result (λ made. records_in self.entry.words ≡ Ok (map record_view made.records.items)) }
         ensures changes { IfOk result (λ made. effects (mode_view self.entry.mode) self.entry.owner
             (map record_view made.records.items) self.entry.start
-            ≡ Ok (applied (edits_in made.changes) self.entry.start)) }
+            ≡ Ok (applied (new_values_in made.changes) self.entry.start)) }
     {
         let Journal {
             alloc,

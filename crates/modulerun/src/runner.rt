@@ -2,7 +2,7 @@
 ghost use Rattle.std.specs.Prelude.{◌≡◌, ◌++◌, ◌∷◌, [], Ok, map, string_bytes, IfOk, IfErr, OnOk, OnErr, false};
 ghost use Rattle.environment.specs.Texts.{Text, texts_in};
 ghost use Rattle.environment.specs.Reasons.{bad_variable};
-ghost use Rattle.environment.specs.Changes.{applied, edits_in};
+ghost use Rattle.environment.specs.Changes.{applied, new_values_in};
 ghost use Rattle.tclrules.specs.Oracle.{Nothing, Message, Done};
 ghost use Rattle.modulerecords.specs.Judgments.{RecordReason, bad_edit};
 ghost use Rattle.modulefile.specs.Calls.{CallReason, bad_record, keeps, call_of};
@@ -223,7 +223,7 @@ impl<'a, V: Vars> Runner<'a, V> {
     /// What the file leaves where it ends.
     pub(crate) fn finish(self) -> Result<Draft, RunFault>
         ensures ok { IfOk result (λ draft. ran_of (context_of self.entry) (told_by self.entry)
-            ≡ Ok (ran_view draft.ran (applied (edits_in draft.changes) self.entry.journal.start))) }
+            ≡ Ok (ran_view draft.ran (applied (new_values_in draft.changes) self.entry.journal.start))) }
         ensures only { IfErr result (λ fault. fault ≡ OutOfMemory) }
     {
         let Runner {

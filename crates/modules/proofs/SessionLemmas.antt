@@ -10,8 +10,8 @@ use Rattle.requests.specs.declared.asked.Request as code
 use Rattle.requests.specs.Returning.{AreNew, AreFitting}
 use Rattle.requests.specs.Sessions as sessions
 use Rattle.requests.specs.Sessions.{Response, Session, IsResponse, env_after, in_shell, session_moves}
-use Rattle.requests.specs.Steps.{Site, Step}
-use Rattle.lookup.specs.Agreement.{Files, Listings, Shows}
+use Rattle.requests.specs.Steps.{Site, RequestStep}
+use Rattle.lookup.specs.Agreement.{Files, Listings, InEachPair}
 use Rattle.lookup.specs.Causes.{Cause, Applies, memory, device, because}
 use Rattle.modulesteps.specs.Answers.{cause_of}
 use Rattle.modulesteps.specs.declared.refusal.Refusal.{Refusal}
@@ -32,7 +32,7 @@ responses_push e [] o = refl
 responses_push e (p ∷ os) o = ap (λ rs. response_of e p ∷ rs) (responses_push (env_after e (response_of e p)) os o)
 
 -- the moves of an accepted step lead to the environment that it leaves
-pub made_led : StepsAreMade → (s : Site) (e new : Environment) (asked : Asked) (done : Done) → Step s e asked (Ok (done_view done new)) → new ≡ led_to e done
+pub made_led : StepsAreMade → (s : Site) (e new : Environment) (asked : Asked) (done : Done) → RequestStep s e asked (Ok (done_view done new)) → new ≡ led_to e done
 made_led law s e new asked done step = sym (ap (accepted_in e) (law s e asked (done_view done new) step))
 
 plus_assoc : (a b c : ℕ) → a + (b + c) ≡ (a + b) + c
@@ -74,21 +74,21 @@ pub refused_counts : (before after : ℕ) (refusal : Refusal) (Is : RequestReaso
     → before + count_failed (Refused refusal ∷ []) ≤ after
 refused_counts before after refusal Is later h = cause_counts (cause_of refusal) before after Is later h
 
-pub responds : StepsAreMade → (s : Site) (e new : Environment) (asked : Asked) (done : Done) → Step s e asked (Ok (done_view done new)) → IsResponse s e asked (response_of e (Accepted done))
+pub responds : StepsAreMade → (s : Site) (e new : Environment) (asked : Asked) (done : Done) → RequestStep s e asked (Ok (done_view done new)) → IsResponse s e asked (response_of e (Accepted done))
 responds law s e new asked done step =
-    let P : Environment → Type 0 = λ x. Step s e asked (Ok (done_view done x)) in
+    let P : Environment → Type 0 = λ x. RequestStep s e asked (Ok (done_view done x)) in
     subst P (made_led law s e new asked done step) step
 
 cause_responds : (c : Cause RequestReason) (agrees : Files → Listings → Type 0) (failed : Type 0) (site : Files → Listings → Site) (e : Environment) (asked : Asked)
-    → Applies c failed (λ r. Shows agrees (λ files listings. Step (site files listings) e asked (Err r)))
-    → Shows agrees (λ files listings. IsResponse (site files listings) e asked (by_cause c))
+    → Applies c failed (λ r. InEachPair agrees (λ files listings. RequestStep (site files listings) e asked (Err r)))
+    → InEachPair agrees (λ files listings. IsResponse (site files listings) e asked (by_cause c))
 cause_responds memory agrees failed site e asked h = λ files listings agreed. refl
 cause_responds device agrees failed site e asked h = λ files listings agreed. refl
 cause_responds (because r) agrees failed site e asked h = h
 
 pub refused_responds : (refusal : Refusal) (agrees : Files → Listings → Type 0) (failed : Type 0) (site : Files → Listings → Site) (e : Environment) (asked : Asked)
-    → Applies (cause_of refusal) failed (λ r. Shows agrees (λ files listings. Step (site files listings) e asked (Err r)))
-    → Shows agrees (λ files listings. IsResponse (site files listings) e asked (response_of e (Refused refusal)))
+    → Applies (cause_of refusal) failed (λ r. InEachPair agrees (λ files listings. RequestStep (site files listings) e asked (Err r)))
+    → InEachPair agrees (λ files listings. IsResponse (site files listings) e asked (response_of e (Refused refusal)))
 refused_responds refusal agrees failed site e asked h = cause_responds (cause_of refusal) agrees failed site e asked h
 
 cause_leaves : (c : Cause RequestReason) (e : Environment) → e ≡ env_after e (by_cause c)

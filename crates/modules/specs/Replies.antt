@@ -1,6 +1,6 @@
 -- What accepted requests answer, as the definitions see it.
 use Rattle.environment.specs.Environment.{Environment}
-use Rattle.environment.specs.Changes.{applied, edits_in}
+use Rattle.environment.specs.Changes.{applied, new_values_in}
 use Rattle.lookup.specs.Agreement.{Files, Listings}
 use Rattle.shells.specs.declared.shell.Shell.{Shell}
 use Rattle.tclrules.specs.declared.limits.Limits.{Limits}
@@ -15,7 +15,7 @@ site_in limits shell files listings = record { files = files; listings = listing
 
 -- the changes, made in an environment
 abbrev pub left_by : Environment → Changed → Environment
-left_by e changed = applied (edits_in changed.changes) e
+left_by e changed = applied (new_values_in changed.changes) e
 
 abbrev pub changed_view : Environment → Changed → Done
 changed_view e changed = done_view changed.done (left_by e changed)

@@ -56,9 +56,9 @@ abbrev pub count_failed : List Outcome → ℕ
 count_failed [] = 0
 count_failed (o ∷ os) = count_one o + count_failed os
 
--- Where the start is in order, and the moves are of new modules that are reversible and apart: after each beginning of the
--- session the environment is in order and stands over the start with the modules that are live there. With none it is the
--- start.
+-- Where the start is in order, and the moves are of new modules that are reversible and apart: after each beginning of
+-- the session the environment is in order and stands over the start with the modules that are live there. With none it
+-- is the start.
 abbrev pub Returns : Environment → List Response → Type 0
 Returns start os =
     (ways : Text → Way) → IsStart ways start → AreNew start (session_moves os)

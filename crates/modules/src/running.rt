@@ -1,10 +1,10 @@
 //! One request over an environment that stays as it is.
 ghost use Rattle.std.specs.Prelude.{◌≡◌, ◌<◌, ◌≤◌, [], ◌∷◌, ◌++◌, map, IfOk, OnOk};
-ghost use Rattle.environment.specs.Changes.{AreChanges, edits_in};
+ghost use Rattle.environment.specs.Changes.{AreChanges, new_values_in};
 ghost use Rattle.lookup.specs.Agreement.{Narrows};
 ghost use Rattle.modulerecords.specs.Moves as records;
 ghost use Rattle.requests.specs.RequestViews.{asked_view};
-ghost use Rattle.requests.specs.Steps.{Step};
+ghost use Rattle.requests.specs.Steps.{RequestStep};
 ghost use Rattle.modulesteps.specs.Answers.{Tells};
 ghost use Rattle.modulesteps.specs.Views.{move_view};
 ghost use Rattle.modules.specs.Replies.{left_by, changed_view, reply_view, site_in};
@@ -16,8 +16,8 @@ use requests::Request;
 use std::alloc::{AllocError, Global};
 use tclrules::Limits;
 
-/// What an accepted request changes: each variable whose value is another now, once, in the order of bytes; and what was
-/// done.
+/// What an accepted request changes: each variable whose value is another now, once, in the order of bytes; and what
+/// was done.
 #[derive(Debug, Drop)]
 pub struct Changed {
     pub changes: Vec<Change>,
@@ -34,8 +34,8 @@ pub struct Reply {
 /// Runs a request over an environment, which stays as it is, and a tree of modulefiles, and answers what the request
 /// changes. It costs what the request touches, whatever else is set.
 ///
-/// It is refused as the request's step over the tree is; or for want of memory; or by 43 where the device failed in this
-/// call. Then there is no change.
+/// It is refused as the request's step over the tree is; or for want of memory; or by 43 where the device failed in
+/// this call. Then there is no change.
 pub fn run_changes<T: Tree>(
     alloc: Global,
     request: &Request,
@@ -46,10 +46,10 @@ pub fn run_changes<T: Tree>(
     ensures before { Narrows (T.agrees tree.old) (T.agrees tree.new) }
     ensures later { T.failures tree.old ≤ T.failures tree.new }
     ensures answer { Tells (T.agrees tree.new) (T.failures tree.old < T.failures tree.new) (changed_view env.now) result
-        (λ files listings. Step (site_in limits request.now.shell files listings) env.now
+        (λ files listings. RequestStep (site_in limits request.now.shell files listings) env.now
         (asked_view request.now.action)) }
     ensures exact { IfOk result (λ changed.
-        AreChanges env.now (left_by env.now changed) (edits_in changed.changes)) }
+        AreChanges env.now (left_by env.now changed) (new_values_in changed.changes)) }
 {
     environment::laws::changes();
     let mut working = Working::over(env);
@@ -70,7 +70,7 @@ pub fn run<T: Tree>(
     ensures before { Narrows (T.agrees tree.old) (T.agrees tree.new) }
     ensures later { T.failures tree.old ≤ T.failures tree.new }
     ensures answer { Tells (T.agrees tree.new) (T.failures tree.old < T.failures tree.new) reply_view result
-        (λ files listings. Step (site_in limits request.now.shell files listings) env.now
+        (λ files listings. RequestStep (site_in limits request.now.shell files listings) env.now
         (asked_view request.now.action)) }
 {
     let changed = run_changes(alloc, request, env, tree, limits)?;

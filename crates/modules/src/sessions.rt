@@ -1,10 +1,10 @@
 //! Requests one after another.
 ghost use Rattle.std.specs.Prelude.{◌≡◌, ◌<◌, ◌≤◌, ◌+◌, [], ◌∷◌, map, IfOk, OnErr};
-ghost use Rattle.lookup.specs.Agreement.{Narrows, Shows};
+ghost use Rattle.lookup.specs.Agreement.{Narrows, InEachPair};
 ghost use Rattle.shells.specs.declared.shell.Shell.{Shell};
 ghost use Rattle.requests.specs.RequestViews.{asked_view, request_view};
 ghost use Rattle.requests.specs.Sessions.{Session, IsResponse, env_after, left_by};
-ghost use Rattle.requests.specs.Steps.{Step};
+ghost use Rattle.requests.specs.Steps.{RequestStep};
 ghost use Rattle.modulesteps.specs.Answers.{Tells};
 ghost use Rattle.modulesteps.specs.Views.{done_view};
 ghost use Rattle.modules.specs.Replies.{site_in};
@@ -39,7 +39,7 @@ fn change<T: Tree>(
     ensures later { T.failures tree.old ≤ T.failures tree.new }
     ensures answer { Tells (T.agrees tree.new) (T.failures tree.old < T.failures tree.new)
         (λ done. done_view done env.new) result
-        (λ files listings. Step (site_in limits request.now.shell files listings) env.old
+        (λ files listings. RequestStep (site_in limits request.now.shell files listings) env.old
         (asked_view request.now.action)) }
     ensures kept { OnErr result (env.new ≡ env.old) }
 {
@@ -58,10 +58,10 @@ fn respond<T: Tree>(
 ) -> Outcome
     ensures before { Narrows (T.agrees tree.old) (T.agrees tree.new) }
     ensures failures { T.failures tree.old + count_failed (result ∷ []) ≤ T.failures tree.new }
-    ensures answer { Shows (T.agrees tree.new) (λ files listings.
+    ensures answer { InEachPair (T.agrees tree.new) (λ files listings.
         IsResponse (site_in limits request.now.shell files listings) env.old (asked_view request.now.action)
         (response_of env.old result)) }
-    ensures left { Shows (T.agrees tree.new) (λ files listings.
+    ensures left { InEachPair (T.agrees tree.new) (λ files listings.
         env.new ≡ env_after env.old (response_of env.old result)) }
 {
     requests::outcomes();
@@ -74,9 +74,10 @@ fn respond<T: Tree>(
 /// Runs requests one after another over an environment and a tree of modulefiles, and answers what they leave, with one
 /// outcome for each. A refused request leaves the environment, and the next is run.
 ///
-/// For every pair of maps that agrees with the tree, the outcomes are those of a session. No more of them are refused by
-/// 43 than the device failed. Where the environment is in order, and only new modules that are reversible and apart are
-/// loaded, each environment on the way is in order and stands over it, and with none of them loaded it is the same again.
+/// For every pair of maps that agrees with the tree, the outcomes are those of a session. No more of them are refused
+/// by 43 than the device failed. Where the environment is in order, and only new modules that are reversible and apart
+/// are loaded, each environment on the way is in order and stands over it, and with none of them loaded it is the same
+/// again.
 ///
 /// Errors: want of memory for the list of outcomes.
 pub fn session<T: Tree>(
@@ -88,12 +89,12 @@ pub fn session<T: Tree>(
 ) -> Result<(Env, Vec<Outcome>), AllocError>
     ensures before { Narrows (T.agrees tree.old) (T.agrees tree.new) }
     ensures failures { IfOk result (λ p. T.failures tree.old + count_failed p.1.items ≤ T.failures tree.new) }
-    ensures ran { IfOk result (λ p. Shows (T.agrees tree.new) (λ files listings. (shell : Shell)
+    ensures ran { IfOk result (λ p. InEachPair (T.agrees tree.new) (λ files listings. (shell : Shell)
         → Session (site_in limits shell files listings) env (map request_view requests.now)
         (responses env p.1.items))) }
-    ensures left { IfOk result (λ p. Shows (T.agrees tree.new) (λ files listings.
+    ensures left { IfOk result (λ p. InEachPair (T.agrees tree.new) (λ files listings.
         p.0 ≡ left_by env (responses env p.1.items))) }
-    ensures returns { IfOk result (λ p. Shows (T.agrees tree.new) (λ files listings.
+    ensures returns { IfOk result (λ p. InEachPair (T.agrees tree.new) (λ files listings.
         Returns env (responses env p.1.items))) }
 {
     requests::session_returns();

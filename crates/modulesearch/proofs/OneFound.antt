@@ -6,19 +6,19 @@ use Rattle.lookup.specs.Search.{Held, absent, no_cookie, not_utf8, script, modul
 use Rattle.relations.specs.Relations.{IsOne}
 use Rattle.relations.proofs.One.{one_is, one_then, one_if, one_where}
 use Rattle.modulesearch.specs.Reasons.{bad_name, bad_default, not_found}
-use Rattle.modulesearch.specs.DefaultFiles.{Left, Says, said, NamesIn, Names}
+use Rattle.modulesearch.specs.DefaultFiles.{Left, VersionIn, said, NamesIn, Names}
 use Rattle.modulesearch.specs.Found.{IsCandidate, NamedDefault, Greatest, NamedOrGreatest, Default, read, FoundAlong, Found}
 use Rattle.moduleversion.proofs.OrderLemmas.{one_greatest}
 
 one_names_in : (leaves : Text → Text → Option Left → Type 0) → ((path text : Text) (o p : Option Left) → leaves path text o → leaves path text p → o ≡ p)
-    → (says : Says) (path : Text) (held : Held) → IsOne (NamesIn leaves says path held)
+    → (says : VersionIn) (path : Text) (held : Held) → IsOne (NamesIn leaves says path held)
 one_names_in leaves law says path absent = one_is (Ok None)
 one_names_in leaves law says path no_cookie = one_is (Ok None)
 one_names_in leaves law says path not_utf8 = one_is (Err (bad_default path))
 one_names_in leaves law says path (script text) = λ o p h k. h.2 ∙ (ap (said says path) (law path text h.0 k.0 h.1 k.1) ∙ sym k.2)
 
 one_names : (leaves : Text → Text → Option Left → Type 0) → ((path text : Text) (o p : Option Left) → leaves path text o → leaves path text p → o ≡ p)
-    → (files : Files) (says : Says) (path : Text) → IsOne (Names leaves files says path)
+    → (files : Files) (says : VersionIn) (path : Text) → IsOne (Names leaves files says path)
 one_names leaves law files says path = one_names_in leaves law says path (modulefile (files path))
 
 pub one_named : (leaves : Text → Text → Option Left → Type 0) → ((path text : Text) (o p : Option Left) → leaves path text o → leaves path text p → o ≡ p)

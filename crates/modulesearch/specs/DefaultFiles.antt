@@ -39,25 +39,27 @@ last_default name [] = None
 last_default name (words ∷ more) = option_or (last_default name more) (default_by name words)
 
 -- what of an evaluation says the version: in `.modulerc` the commands, in `.version` the variable
-abbrev pub Says : Type 0
-Says = Left → Option Text
+abbrev pub VersionIn : Type 0
+VersionIn = Left → Option Text
 
-abbrev pub by_command : Text → Says
+abbrev pub by_command : Text → VersionIn
 by_command name left = last_default name left.commands
 
-abbrev pub by_variable : Says
+abbrev pub by_variable : VersionIn
 by_variable left = left.version
 
-abbrev pub said : Says → Text → Option Left → Result (Option Text) Reason
+abbrev pub said : VersionIn → Text → Option Left → Result (Option Text) Reason
 said says path None = Err (bad_default path)
 said says path (Some left) = Ok (says left)
 
 -- A default file names a version or none. Where there is no file, or one without the cookie, it names none.
-abbrev pub NamesIn : (Text → Text → Option Left → Type 0) → Says → Text → Held → Result (Option Text) Reason → Type 0
+abbrev pub NamesIn : (Text → Text → Option Left → Type 0) → VersionIn → Text → Held → Result (Option Text) Reason
+    → Type 0
 NamesIn leaves says path absent o = Is (Ok None) o
 NamesIn leaves says path no_cookie o = Is (Ok None) o
 NamesIn leaves says path not_utf8 o = Is (Err (bad_default path)) o
 NamesIn leaves says path (script text) o = (left : Option Left) × leaves path text left × (o ≡ said says path left)
 
-abbrev pub Names : (Text → Text → Option Left → Type 0) → Files → Says → Text → Result (Option Text) Reason → Type 0
+abbrev pub Names : (Text → Text → Option Left → Type 0) → Files → VersionIn → Text → Result (Option Text) Reason
+    → Type 0
 Names leaves files says path o = NamesIn leaves says path (modulefile (files path)) o

@@ -63,24 +63,24 @@ Default leaves files listings dir name =
     NamedDefault leaves files listings dir name >> NamedOrGreatest files listings dir name
 
 -- a module that was found: its full name, its path and its text
-pub record Module : Type 0 where
+pub record FoundModule : Type 0 where
   pub name : Text
   pub path : Text
   pub text : Text
 
-abbrev pub read : Text → Text → Held → Result Module Reason
+abbrev pub read : Text → Text → Held → Result FoundModule Reason
 read name path absent = Err (not_found name)
 read name path no_cookie = Err (not_found name)
 read name path not_utf8 = Err (not_utf8_at path)
 read name path (script text) = Ok (record { name = name; path = path; text = text })
 
 -- the module of this full name below a directory
-abbrev pub At : Files → Text → Text → Result Module Reason → Type 0
+abbrev pub At : Files → Text → Text → Result FoundModule Reason → Type 0
 At files dir name = Is (read name (path_of dir name) (modulefile (files (path_of dir name))))
 
 -- The first directory that gives one: the file of this name, or else the default candidate of the folder of this name.
 abbrev pub FoundAlong : (Text → Text → Option Left → Type 0) → Files → Listings → Text → List Text
-    → Result Module Reason → Type 0
+    → Result FoundModule Reason → Type 0
 FoundAlong leaves files listings name [] = Is (Err (not_found name))
 FoundAlong leaves files listings name (dir ∷ dirs) =
     Where (IsModuleAt files (path_of dir name)) (At files dir name) (
@@ -89,6 +89,7 @@ FoundAlong leaves files listings name (dir ∷ dirs) =
     FoundAlong leaves files listings name dirs))
 
 -- What a name means along a MODULEPATH.
-abbrev pub Found : (Text → Text → Option Left → Type 0) → Files → Listings → Text → Text → Result Module Reason → Type 0
+abbrev pub Found : (Text → Text → Option Left → Type 0) → Files → Listings → Text → Text → Result FoundModule Reason
+    → Type 0
 Found leaves files listings modulepath name =
     If (is_module_name name) (FoundAlong leaves files listings name (directories modulepath)) (Is (Err (bad_name name)))

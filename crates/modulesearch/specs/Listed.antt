@@ -11,14 +11,14 @@ use Rattle.modulesearch.specs.DefaultFiles.{Left}
 use Rattle.modulesearch.specs.Found.{IsModuleAt, HasEntry, NamedDefault}
 
 -- each part is an entry of the folder that the parts before it lead to
-abbrev pub Leads : Listings → Text → List Text → Type 0
-Leads listings path [] = Unit {0}
-Leads listings path (part ∷ rest) = HasEntry listings path part × Leads listings (path_of path part) rest
+abbrev pub LeadsThrough : Listings → Text → List Text → Type 0
+LeadsThrough listings path [] = Unit {0}
+LeadsThrough listings path (part ∷ rest) = HasEntry listings path part × LeadsThrough listings (path_of path part) rest
 
 -- a well-spelled name of one to four parts of a file with the cookie below the directory
 pub record IsBelow (files : Files) (listings : Listings) (dir name : Text) : Type 0 where
   pub spelled : is_module_name name ≡ true
-  pub leads : Leads listings dir (parts name)
+  pub leads : LeadsThrough listings dir (parts name)
   pub file : IsModuleAt files (path_of dir name)
 
 -- A default file of the folder that the module stands in names it. Where a default file has a fault nothing of the

@@ -4,14 +4,14 @@ ghost use Rattle.modulename.specs.ModuleName.{Text};
 ghost use Rattle.lookup.specs.Agreement.{Files, Listings};
 ghost use Rattle.modulesearch.specs.Reasons.{Reason};
 ghost use Rattle.modulesearch.specs.DefaultFiles.{last_default};
-ghost use Rattle.modulesearch.specs.Found.{Module, Found};
+ghost use Rattle.modulesearch.specs.Found.{FoundModule, Found};
 ghost use Rattle.modulesearch.specs.Listed.{Listing, Listed};
 
 use crate::default_files::DefaultFiles;
 
 /// A name means one module at most, or there is one reason that it means none.
 pub fn one_found<D: DefaultFiles>(default_files: &D)
-    ensures { (files : Files) (listings : Listings) (modulepath name : Text) (o p : Result Module Reason)
+    ensures { (files : Files) (listings : Listings) (modulepath name : Text) (o p : Result FoundModule Reason)
         → Found (D.leaves default_files.now) files listings modulepath name o
         → Found (D.leaves default_files.now) files listings modulepath name p → o ≡ p }
 {

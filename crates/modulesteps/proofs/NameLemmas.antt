@@ -6,7 +6,7 @@ use Rattle.loadedlist.specs.Loaded.{Entry, names_of}
 use Rattle.lookup.specs.Search.{modulefile}
 use Rattle.relations.specs.Relations.{Is, Then}
 use Rattle.modulerecords.specs.Effects as modes
-use Rattle.modulefile.specs.Files.{Ran, Runs}
+use Rattle.modulefile.specs.Files.{Ran, RunsFile}
 use Rattle.modulesearch.specs.Found as search
 use Rattle.modulesearch.specs.Reasons.{bad_name}
 use Rattle.requests.specs.Reasons.{RequestReason, missed, stopped}
@@ -28,7 +28,7 @@ module _ (s : Site) (in_switch : Bool) (typed : Text) (d : Done) where
     pub loads_unfound : has typed (names_of xs) ≡ false → (r : RequestReason) → Finds s d.env typed (Err r) → LoadsName s in_switch typed d (Err r)
     loads_unfound e r h = (Ok xs, listed, if_no (has typed (names_of xs)) (Is (Ok d)) (Then (Finds s d.env typed) (LoadsFound s in_switch typed d xs)) (Err r) e (Err r, h, refl))
 
-    pub loads_found : has typed (names_of xs) ≡ false → (m : search.Module) → Finds s d.env typed (Ok m) → (o : Result Done RequestReason) → LoadsFound s in_switch typed d xs m o → LoadsName s in_switch typed d o
+    pub loads_found : has typed (names_of xs) ≡ false → (m : search.FoundModule) → Finds s d.env typed (Ok m) → (o : Result Done RequestReason) → LoadsFound s in_switch typed d xs m o → LoadsName s in_switch typed d o
     loads_found e m h o k = (Ok xs, listed, if_no (has typed (names_of xs)) (Is (Ok d)) (Then (Finds s d.env typed) (LoadsFound s in_switch typed d xs)) o e (Ok m, h, k))
 
     pub unloads_misnamed : is_module_name typed ≡ false → UnloadsName s in_switch typed d (Err (missed (bad_name typed)))
@@ -43,9 +43,9 @@ module _ (s : Site) (in_switch : Bool) (typed : Text) (d : Done) where
     )
 
 -- the module that was found
-module _ (s : Site) (in_switch : Bool) (typed : Text) (d : Done) (xs : List Entry) (m : search.Module) where
+module _ (s : Site) (in_switch : Bool) (typed : Text) (d : Done) (xs : List Entry) (m : search.FoundModule) where
   abbrev evaluated : Result Ran RequestReason → Type 0
-  evaluated = RefusedAs stopped (Runs s.limits (context_of s modes.load in_switch typed m.name m.path xs d.env) m.text)
+  evaluated = RefusedAs stopped (RunsFile s.limits (context_of s modes.load in_switch typed m.name m.path xs d.env) m.text)
 
   abbrev ran_on : Result Done RequestReason → Type 0
   ran_on = Then evaluated (λ ran. Is (joins d xs (module_of m.name m.path ran) ran.messages))

@@ -4,7 +4,7 @@ use Rattle.environment.specs.Texts.{Text}
 use Rattle.environment.specs.Environment.{Environment}
 use Rattle.environment.specs.Reasons.{EnvReason}
 use Rattle.loadedlist.specs.Loaded.{Entry, dropped_loaded}
-use Rattle.lookup.specs.Agreement.{Files, Listings, Shows}
+use Rattle.lookup.specs.Agreement.{Files, Listings, InEachPair}
 use Rattle.lookup.specs.Causes.{Cause, Applies, memory, device, because}
 use Rattle.tclrules.specs.declared.limits.Limits.{Limits}
 use Rattle.tclrules.specs.Derivation.{Outcome, Ended, Halted}
@@ -18,7 +18,7 @@ use Rattle.modulerecords.specs.Moves.{Module, Loads, Unloads, listed}
 use Rattle.modulefile.specs.Results.{◌>>=◌}
 use Rattle.modulefile.specs.Calls.{CallReason}
 use Rattle.modulefile.specs.Answers.{Context, by_record, records_in}
-use Rattle.modulefile.specs.Files.{Ran, Stop, Runs, Finishes}
+use Rattle.modulefile.specs.Files.{Ran, Stop, RunsFile, FinishesFile}
 use Rattle.modulesearch.specs.Reasons as search
 use Rattle.requests.specs.Reasons.{RequestReason, missed, stopped, refused_edit}
 use Rattle.requests.specs.Refusals.{refused_as, unless, RefusedAs}
@@ -38,7 +38,7 @@ stands_as (because r) failed before P Q later then h = then r h
 
 stands_each : (c : Cause RequestReason) (agrees : Files → Listings → Type 0) (before : Type 0) (P Q : Files → Listings → RequestReason → Type 0)
     → ((files : Files) (listings : Listings) (r : RequestReason) → agrees files listings → P files listings r → Q files listings r)
-    → ((files : Files) (listings : Listings) → Applies c ⊥ (P files listings)) → Applies c before (λ r. Shows agrees (λ files listings. Q files listings r))
+    → ((files : Files) (listings : Listings) → Applies c ⊥ (P files listings)) → Applies c before (λ r. InEachPair agrees (λ files listings. Q files listings r))
 stands_each memory agrees before P Q then h = tt
 stands_each device agrees before P Q then h = absurd (h (λ path. None) (λ path. None))
 stands_each (because r) agrees before P Q then h = λ files listings a. then files listings r a (h files listings)
@@ -118,7 +118,7 @@ ran_by : (c : Context) (told : Told) (ran : Ran) (x : Result (List Record) CallR
 ran_by c told ran (Err r) h = absurd (cc)
 ran_by c told ran (Ok rs) h = made_by c told ran rs (effects c.mode c.name rs c.start) refl h
 
-finished : (c : Context) (text : Text) (out : Outcome Ending) (told : Told) (ran : Ran) → Finishes c text out told (Ok ran) → effects c.mode c.name ran.records c.start ≡ Ok ran.env
+finished : (c : Context) (text : Text) (out : Outcome Ending) (told : Told) (ran : Ran) → FinishesFile c text out told (Ok ran) → effects c.mode c.name ran.records c.start ≡ Ok ran.env
 finished c text (Ended (Normal result s)) told ran (x, made, e) = let q : x ≡ ran = cc in ran_by c told ran (records_in told.records) (made ∙ ap Ok q)
 finished c text (Ended (Raised message s)) told ran h = absurd (cc)
 finished c text (Ended (Returned result s)) told ran h = absurd h
@@ -127,8 +127,8 @@ finished c text (Ended (Continued s)) told ran h = absurd h
 finished c text (Halted halt) told ran h = absurd (cc)
 
 -- a file that ended made the effects of its records
-pub run_made : (limits : Limits) (c : Context) (text : Text) (ran : Ran) → RefusedAs stopped (Runs limits c text) (Ok ran) → effects c.mode c.name ran.records c.start ≡ Ok ran.env
-run_made limits c text ran h = let k = run_ended (Runs limits c text) ran h in finished c text k.0 k.1.told ran k.3
+pub run_made : (limits : Limits) (c : Context) (text : Text) (ran : Ran) → RefusedAs stopped (RunsFile limits c text) (Ok ran) → effects c.mode c.name ran.records c.start ≡ Ok ran.env
+run_made limits c text ran h = let k = run_ended (RunsFile limits c text) ran h in finished c text k.0 k.1.told ran k.3
 
 -- in the modes of reports nothing changes
 shown_same : (owner : Text) (rs : List Record) (e d : Environment) → effects display owner rs e ≡ Ok d → d ≡ e

@@ -14,7 +14,7 @@ use Rattle.modulerecords.specs.Effects as modes
 use Rattle.modulerecords.specs.Effects.{Mode, by_edit}
 use Rattle.modulerecords.specs.Moves.{Module, Unloads, entry_of}
 use Rattle.modulefile.specs.Answers.{Context}
-use Rattle.modulefile.specs.Files.{Runs}
+use Rattle.modulefile.specs.Files.{RunsFile}
 use Rattle.modulesearch.specs.Found as search
 use Rattle.requests.specs.Reasons.{RequestReason, conflict_with, prereq_missing, stopped, refused_edit}
 use Rattle.requests.specs.Refusals.{refused_as, unless, RefusedAs}
@@ -62,7 +62,8 @@ file_context asking mode name path xs e = context_among asking mode name path (n
 -- the module of this name and path is unloaded by a text
 abbrev pub UnloadsBy : Asking → Text → Text → Text → List Entry → Done → Result Done RequestReason → Type 0
 UnloadsBy asking name path text xs d =
-    RefusedAs stopped (Runs asking.terms.limits (file_context asking modes.unload name path xs d.env) text) >> (λ ran.
+    RefusedAs stopped (RunsFile asking.terms.limits (file_context asking modes.unload name path xs d.env) text) >>
+    (λ ran.
     Is (went d (Unloads (module_of name path ran)) ran.messages))
 
 -- what is evaluated for a topic, and what is reported
@@ -70,17 +71,18 @@ abbrev pub topic_mode : Topic → Mode
 topic_mode Commands = modes.display
 topic_mode Whatis = modes.whatis
 
-abbrev pub topic_text : Topic → search.Module → List Record → Text
+abbrev pub topic_text : Topic → search.FoundModule → List Record → Text
 topic_text Commands = shown_text
 topic_text Whatis = described_text
 
-abbrev pub ReportsFound : Asking → Topic → search.Module → List Entry → Done → Result Done RequestReason → Type 0
+abbrev pub ReportsFound : Asking → Topic → search.FoundModule → List Entry → Done → Result Done RequestReason → Type 0
 ReportsFound asking topic m xs d =
-    RefusedAs stopped (Runs asking.terms.limits (file_context asking (topic_mode topic) m.name m.path xs d.env) m.text)
+    RefusedAs stopped
+    (RunsFile asking.terms.limits (file_context asking (topic_mode topic) m.name m.path xs d.env) m.text)
     >> (λ ran. Is (Ok (reported d ran.messages (topic_text topic m ran.records))))
 
 -- what is done for a name
-abbrev pub Does : Doing → Site → Text → Done → Result Done RequestReason → Type 0
-Does Load s = LoadsName s false
-Does Unload s = UnloadsName s false
-Does (Report topic) s = ShowsName s (topic_mode topic) (topic_text topic)
+abbrev pub DoesForName : Doing → Site → Text → Done → Result Done RequestReason → Type 0
+DoesForName Load s = LoadsName s false
+DoesForName Unload s = UnloadsName s false
+DoesForName (Report topic) s = ShowsName s (topic_mode topic) (topic_text topic)

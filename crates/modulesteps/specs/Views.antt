@@ -18,7 +18,8 @@ abbrev pub site_of : Terms → Files → Listings → Site
 site_of terms files listings = record { files = files; listings = listings; limits = terms.limits; shell = terms.shell }
 
 abbrev pub module_view : Module → moves.Module
-module_view m = record { name = string_bytes m.name; path = string_bytes m.path; records = map record_view m.records.items }
+module_view m =
+    record { name = string_bytes m.name; path = string_bytes m.path; records = map record_view m.records.items }
 
 abbrev pub move_view : Move → moves.Move
 move_view (code.Loads m) = moves.Loads (module_view m)

@@ -11,10 +11,10 @@ ghost use Rattle.modulename.specs.ModuleName.{parts};
 ghost use Rattle.requests.specs.Requests as asked;
 ghost use Rattle.requests.specs.RequestViews.{asked_view};
 ghost use Rattle.requests.specs.Steps as steps;
-ghost use Rattle.requests.specs.Steps.{begun, Each, Ends, Named, Changes, Shows, Lists, ListsAll, Step};
+ghost use Rattle.requests.specs.Steps.{begun, Each, EndsRequest, Named, Changes, ShowsNames, ListsLoaded, ListsAll, RequestStep};
 ghost use Rattle.modulesteps.specs.Views.{site_of, done_view};
 ghost use Rattle.modulesteps.specs.Answers.{GivesOrRefuses, Tells};
-ghost use Rattle.modulesteps.specs.Parts.{Does, topic_mode, topic_text};
+ghost use Rattle.modulesteps.specs.Parts.{DoesForName, topic_mode, topic_text};
 
 use crate::conditions::first_lost;
 use crate::done::{Done, Terms};
@@ -55,7 +55,8 @@ fn do_name<T: Tree, V: Vars>(
     ensures under { V.under env.new ≡ V.under env.old }
     ensures told { Tells (T.agrees tree.new) (T.failures tree.old < T.failures tree.new)
         (λ u. done_view done.new (V.vars env.new)) result
-        (λ files listings. Does doing (site_of terms files listings) typed.now (done_view done.old (V.vars env.old))) }
+        (λ files listings. DoesForName doing (site_of terms files listings) typed.now
+        (done_view done.old (V.vars env.old))) }
 {
     let asking = Asking {
         terms,
@@ -84,7 +85,7 @@ fn do_each<T: Tree, V: Vars>(
     ensures under { V.under env.new ≡ V.under env.old }
     ensures told { Tells (T.agrees tree.new) (T.failures tree.old < T.failures tree.new)
         (λ u. done_view done.new (V.vars env.new)) result
-        (λ files listings. Each (Does doing (site_of terms files listings)) (map string_bytes names.now)
+        (λ files listings. Each (DoesForName doing (site_of terms files listings)) (map string_bytes names.now)
         (done_view done.old (V.vars env.old))) }
 {
     let mut rest = names;
@@ -98,7 +99,7 @@ fn do_each<T: Tree, V: Vars>(
 /// Refuses where a module that was loaded before has lost what it needs.
 fn end<V: Vars>(alloc: Global, before: &[Loaded], env: &V, done: &Done) -> Result<(), Refusal>
     ensures { GivesOrRefuses (λ u. done_view done.now (V.vars env.now)) result
-        (Ends (map entry_of before.now) (done_view done.now (V.vars env.now))) }
+        (EndsRequest (map entry_of before.now) (done_view done.now (V.vars env.now))) }
 {
     let after = entries_of(alloc, env)?;
     match first_lost(before, after.as_slice()) {
@@ -122,8 +123,8 @@ fn change_each<T: Tree, V: Vars>(
     ensures under { V.under env.new ≡ V.under env.old }
     ensures told { Tells (T.agrees tree.new) (T.failures tree.old < T.failures tree.new)
         (λ done. done_view done (V.vars env.new)) result
-        (λ files listings. Then (Each (Does doing (site_of terms files listings)) (map string_bytes names.now)
-        (begun (V.vars env.old))) (Ends (map entry_of before.now))) }
+        (λ files listings. Then (Each (DoesForName doing (site_of terms files listings)) (map string_bytes names.now)
+        (begun (V.vars env.old))) (EndsRequest (map entry_of before.now))) }
 {
     let mut done = Done::new(alloc);
     do_each(alloc, terms, doing, names, env, tree, &mut done)?;
@@ -146,7 +147,7 @@ fn change_names<T: Tree, V: Vars>(
     ensures told { Tells (T.agrees tree.new) (T.failures tree.old < T.failures tree.new)
         (λ done. done_view done (V.vars env.new)) result
         (λ files listings. Named (map string_bytes names.now) (Changes (V.vars env.old)
-        (λ before. Each (Does doing (site_of terms files listings)) (map string_bytes names.now)))) }
+        (λ before. Each (DoesForName doing (site_of terms files listings)) (map string_bytes names.now)))) }
 {
     if names.is_empty() {
         return Err(Refusal::Request(RequestFault::BadArguments));
@@ -176,7 +177,7 @@ fn purge<T: Tree, V: Vars>(
     ensures under { V.under env.new ≡ V.under env.old }
     ensures told { Tells (T.agrees tree.new) (T.failures tree.old < T.failures tree.new)
         (λ done. done_view done (V.vars env.new)) result
-        (λ files listings. Step (site_of terms files listings) (V.vars env.old) asked.purge) }
+        (λ files listings. RequestStep (site_of terms files listings) (V.vars env.old) asked.purge) }
 {
     let before = entries_of(alloc, env)?;
     let names = names_back(alloc, before.as_slice())?;
@@ -257,7 +258,7 @@ fn switch<T: Tree, V: Vars>(
     ensures under { V.under env.new ≡ V.under env.old }
     ensures told { Tells (T.agrees tree.new) (T.failures tree.old < T.failures tree.new)
         (λ done. done_view done (V.vars env.new)) result
-        (λ files listings. Step (site_of terms files listings) (V.vars env.old)
+        (λ files listings. RequestStep (site_of terms files listings) (V.vars env.old)
         (asked.switch (option_map (λ x. x.now) old.entry) new.now)) }
 {
     let before = entries_of(alloc, env)?;
@@ -281,7 +282,8 @@ fn report_names<T: Tree, V: Vars>(
     ensures under { V.under env.new ≡ V.under env.old }
     ensures told { Tells (T.agrees tree.new) (T.failures tree.old < T.failures tree.new)
         (λ done. done_view done (V.vars env.new)) result
-        (λ files listings. Named (map string_bytes names.now) (Shows (site_of terms files listings) (topic_mode topic)
+        (λ files listings. Named (map string_bytes names.now)
+        (ShowsNames (site_of terms files listings) (topic_mode topic)
         (topic_text topic) (V.vars env.old) (map string_bytes names.now))) }
 {
     if names.is_empty() {
@@ -312,7 +314,7 @@ fn reporting(alloc: Global, text: &str) -> Result<Done, AllocError>
 
 /// Reports the loaded modules.
 fn list<V: Vars>(alloc: Global, env: &V) -> Result<Done, Refusal>
-    ensures { GivesOrRefuses (λ done. done_view done (V.vars env.now)) result (Lists (V.vars env.now)) }
+    ensures { GivesOrRefuses (λ done. done_view done (V.vars env.now)) result (ListsLoaded (V.vars env.now)) }
 {
     let entries = entries_of(alloc, env)?;
     let names = names_of(alloc, entries.as_slice())?;
@@ -358,7 +360,7 @@ pub fn step<T: Tree, V: Vars>(
     ensures under { V.under env.new ≡ V.under env.old }
     ensures told { Tells (T.agrees tree.new) (T.failures tree.old < T.failures tree.new)
         (λ done. done_view done (V.vars env.new)) result
-        (λ files listings. Step (record {
+        (λ files listings. RequestStep (record {
           files = files;
           listings = listings;
           limits = limits;

@@ -5,7 +5,7 @@ ghost use Rattle.lookup.specs.Agreement.{Files, Listings, Narrows};
 ghost use Rattle.lookup.specs.Search.{modulefile};
 ghost use Rattle.relations.specs.Relations.{Is};
 ghost use Rattle.modulefile.specs.RecordViews.{mode_view, record_view};
-ghost use Rattle.modulefile.specs.Files.{Runs};
+ghost use Rattle.modulefile.specs.Files.{RunsFile};
 ghost use Rattle.modulefind.specs.Answers.{found_view};
 ghost use Rattle.modulerun.specs.Running.{ran_view};
 ghost use Rattle.requests.specs.Reasons.{stopped};
@@ -82,7 +82,7 @@ fn evaluate<V: Vars>(
     env: &mut V,
 ) -> Result<Ran, Refusal>
     ensures given { GivesOrRefuses (λ ran. ran_view ran (V.vars env.new)) result (RefusedAs stopped
-        (Runs asking.entry.terms.limits (file_context asking.entry (mode_view mode) file.entry.name.now
+        (RunsFile asking.entry.terms.limits (file_context asking.entry (mode_view mode) file.entry.name.now
         file.entry.path.now (map entry_of entries.now) (V.vars env.old)) file.entry.text.now)) }
     ensures under { V.under env.new ≡ V.under env.old }
 {

@@ -14,7 +14,7 @@ use Rattle.environment.specs.Escapes.{is_special, escaped}
 use Rattle.environment.proofs.TextLemmas.{same_text, bytes_eq-same}
 use Rattle.environment.proofs.EscapeLemmas.{escaped-append}
 use Rattle.pathstate.specs.Paths.{most}
-use Rattle.pathstate.specs.Counters.{is_counter, counter_of, Spells}
+use Rattle.pathstate.specs.Counters.{is_counter, counter_of, SpellsCounter}
 
 -- the decimal of a counter spells it
 found : (t : Text) (m n : ℕ) → m ≡ n → 0 < n → n ≤ most → t ≡ decimal n → (if is_counter m && bytes_eq t (decimal m) then Some m else None) ≡ Some n
@@ -30,7 +30,7 @@ counter_of-decimal n low high =
     found (decimal n) (digits_value 10 (decimal n)) n (decimal_is_IsNumeral n small).1 low high refl
 
 -- and nothing else does
-spelled_at : (t : Text) (m n : ℕ) (a b c : Bool) → leb 1 m ≡ a → leb m most ≡ b → bytes_eq t (decimal m) ≡ c → (if (a && b) && c then Some m else None) ≡ Some n → Spells t n
+spelled_at : (t : Text) (m n : ℕ) (a b c : Bool) → leb 1 m ≡ a → leb m most ≡ b → bytes_eq t (decimal m) ≡ c → (if (a && b) && c then Some m else None) ≡ Some n → SpellsCounter t n
 spelled_at t m n true true true e f g h =
     let same : m ≡ n = cc in
     record { low = (let l : leb 1 m ≡ true = e in grind (arith, nat_tests)); high = (let l : leb m most ≡ true = f in grind (arith, nat_tests)); spelled = same_text t (decimal m) g ∙ ap decimal same }
@@ -38,11 +38,11 @@ spelled_at t m n true true false e f g h = cc
 spelled_at t m n true false c e f g h = cc
 spelled_at t m n false b c e f g h = cc
 
-pub Spells-counter_of : (t : Text) (n : ℕ) → counter_of t ≡ Some n → Spells t n
-Spells-counter_of t n h = spelled_at t (digits_value 10 t) n (leb 1 (digits_value 10 t)) (leb (digits_value 10 t) most) (bytes_eq t (decimal (digits_value 10 t))) refl refl refl h
+pub SpellsCounter-counter_of : (t : Text) (n : ℕ) → counter_of t ≡ Some n → SpellsCounter t n
+SpellsCounter-counter_of t n h = spelled_at t (digits_value 10 t) n (leb 1 (digits_value 10 t)) (leb (digits_value 10 t) most) (bytes_eq t (decimal (digits_value 10 t))) refl refl refl h
 
-pub counter_of-Spells : (t : Text) (n : ℕ) → Spells t n → counter_of t ≡ Some n
-counter_of-Spells t n h = ap counter_of h.spelled ∙ counter_of-decimal n h.low h.high
+pub counter_of-SpellsCounter : (t : Text) (n : ℕ) → SpellsCounter t n → counter_of t ≡ Some n
+counter_of-SpellsCounter t n h = ap counter_of h.spelled ∙ counter_of-decimal n h.low h.high
 
 -- a decimal needs no escape
 abbrev Unescaped : ℕ → Text → Type 0
@@ -68,7 +68,7 @@ low_end : (n low high : ℕ) → (leb low n && leb n high) ≡ true → low ≤ 
 low_end n low high h = grind (arith, nat_tests)
 
 -- a text that spells a counter begins with a digit other than 0
-spelled_begins : (t : Text) (n : ℕ) → Spells t n → (leb 49 (get_or t 0 0) && leb (get_or t 0 0) 57) ≡ true
+spelled_begins : (t : Text) (n : ℕ) → SpellsCounter t n → (leb 49 (get_or t 0 0) && leb (get_or t 0 0) 57) ≡ true
 spelled_begins t n h =
     let l : 1 ≤ n = h.low in
     let u : n ≤ most = h.high in
@@ -77,9 +77,9 @@ spelled_begins t n h =
     let d = digit_at (decimal n) 0 (decimal_is_IsNumeral n small).0.1 (decimal_nonempty n small) in
     ap (λ (x : Text). leb 49 (get_or x 0 0) && leb (get_or x 0 0) 57) h.spelled ∙ between (get_or (decimal n) 0 0) 49 57 (omega arith) d.1
 
-absent_at : (t : Text) (o : Option ℕ) → counter_of t ≡ o → ((n : ℕ) → Spells t n → ⊥) → None ≡ o
+absent_at : (t : Text) (o : Option ℕ) → counter_of t ≡ o → ((n : ℕ) → SpellsCounter t n → ⊥) → None ≡ o
 absent_at t None e h = refl
-absent_at t (Some n) e h = absurd (h n (Spells-counter_of t n e))
+absent_at t (Some n) e h = absurd (h n (SpellsCounter-counter_of t n e))
 
 pub not_begun : (t : Text) (b : Bool) → b ≡ (leb 49 (get_or t 0 0) && leb (get_or t 0 0) 57) → b ≡ false → None ≡ counter_of t
 not_begun t true e h = absurd (false≢true (sym h))
@@ -105,7 +105,7 @@ parsed t r v true p e h q =
     let same : v ≡ digits_value 10 t = k.1 in
     let small : digits_value 10 t < 2 ^ 32 = k.0.2 in
     let d : t ≡ decimal (digits_value 10 t) = sym (decimal-digits_value digits t k.0.0 k.0.1 (no_zero t begun) (omega arith)) in
-    sym (counter_of-Spells t v (record { low = positive_at v t (d ∙ ap decimal (sym same)) begun (cases_lt v 10); high = omega arith; spelled = d ∙ ap decimal (sym same) }))
+    sym (counter_of-SpellsCounter t v (record { low = positive_at v t (d ∙ ap decimal (sym same)) begun (cases_lt v 10); high = omega arith; spelled = d ∙ ap decimal (sym same) }))
 
 pub not_parsed : {E : Type 0} (t : Text) (r : Result ℕ E) (x : E) (b : Bool) → ParsesUnsigned 32 10 t r → b ≡ (leb 49 (get_or t 0 0) && leb (get_or t 0 0) 57) → b ≡ true → r ≡ Err x → None ≡ counter_of t
 not_parsed t r x false p e h q = absurd (false≢true h)

@@ -8,7 +8,7 @@ use Rattle.std.proofs.lemmas.List.Sums.{sum_by-cons}
 use Rattle.environment.specs.Texts.{Text, has}
 use Rattle.environment.specs.Fields.{without}
 use Rattle.pathstate.specs.Paths.{PathState, IsPathState, placed, counted_up, counted_down, add, drop, add_front, add_back, add_all, drop_all}
-use Rattle.pathstate.specs.PathRuns.{StateEdit, after, adds, drops, live, EachDropUndoes, Stands}
+use Rattle.pathstate.specs.PathRuns.{StateEdit, after, adds, drops, live, EachDropUndoes, PathStands}
 use Rattle.pathstate.specs.PathRuns.StateEdit.{Add, Drop}
 use Rattle.pathstate.specs.declared.paths.End.{End}
 use Rattle.pathstate.specs.declared.paths.End.TheVariants.{Front, Back}
@@ -158,8 +158,8 @@ kept_after start live now (Drop xs ∷ edits) is k h =
 either_test : (h g : Bool) (n m k : ℕ) → h ≡ ltb 0 n → g ≡ ltb 0 m → n ≡ m + k → h ≡ (g || ltb 0 k)
 either_test h g n m k e f s = grind (arith, nat_tests)
 
-pub Stands-after : (start : PathState) (edits : List StateEdit) → IsPathState start → EachDropUndoes edits → Stands start (live edits) (after edits start)
-Stands-after start edits is each =
+pub PathStands-after : (start : PathState) (edits : List StateEdit) → IsPathState start → EachDropUndoes edits → PathStands start (live edits) (after edits start)
+PathStands-after start edits is each =
     let k : Kept start (live edits) (after edits start) = kept_more start (λ x. 0 + adds edits x - drops edits x) (live edits) (after edits start) (λ x. omega arith) (kept_after start (λ _. 0) start edits is (nothing_live start is) (λ done rest e x. let b : drops done x ≤ adds done x = each done rest e x in omega arith)) in
     record {
       order = k.order;
@@ -175,8 +175,8 @@ pub same_state : (s t : PathState) → s.elements ≡ t.elements → ((x : Text)
 same_state s t e f = λ i. record { elements = e i; counter = λ x. f x i }
 
 -- where nothing is live, what stands over the start is the start
-pub Stands-restored : (start now : PathState) (count : Text → ℕ) → Stands start count now → ((x : Text) → count x ≡ 0) → now ≡ start
-Stands-restored start now count k none =
+pub PathStands-restored : (start now : PathState) (count : Text → ℕ) → PathStands start count now → ((x : Text) → count x ≡ 0) → now ≡ start
+PathStands-restored start now count k none =
     same_state now start
     (sym (filter_itself start.elements now.elements (λ y e. or_nothing _ _ (count y) (k.inside y) (none y) e)) ∙ k.order)
     (λ x. let a : now.counter x ≡ start.counter x + count x = k.counters x in let b : count x ≡ 0 = none x in omega arith)
@@ -186,26 +186,26 @@ Stands-restored start now count k none =
 valid_from : (h g : Bool) (n m k : ℕ) → h ≡ (g || ltb 0 k) → g ≡ ltb 0 m → n ≡ m + k → h ≡ ltb 0 n
 valid_from h g n m k e f s = grind (arith, nat_tests)
 
-kept_from : (start now : PathState) (live : Text → ℕ) → IsPathState start → Stands start live now → Kept start live now
+kept_from : (start now : PathState) (live : Text → ℕ) → IsPathState start → PathStands start live now → Kept start live now
 kept_from start now live is s = record {
   valid = λ x. valid_from _ _ _ _ _ (s.inside x) (is x) (s.counters x);
   order = s.order;
   counters = s.counters;
 }
 
-stands_from : (start now : PathState) (live : Text → ℕ) → IsPathState start → Kept start live now → Stands start live now
+stands_from : (start now : PathState) (live : Text → ℕ) → IsPathState start → Kept start live now → PathStands start live now
 stands_from start now live is k = record {
   order = k.order;
   inside = λ x. either_test _ _ _ _ _ (k.valid x) (is x) (k.counters x);
   counters = k.counters;
 }
 
-pub Stands-start : (start : PathState) → IsPathState start → Stands start (λ _. 0) start
-Stands-start start is = stands_from start start (λ _. 0) is (nothing_live start is)
+pub PathStands-start : (start : PathState) → IsPathState start → PathStands start (λ _. 0) start
+PathStands-start start is = stands_from start start (λ _. 0) is (nothing_live start is)
 
-pub Stands-add_all : (start now : PathState) (live : Text → ℕ) (xs : List Text) (end : End) → IsPathState start → Stands start live now → Stands start (λ x. live x + count_by (bytes_eq x) xs) (add_all now xs end)
-Stands-add_all start now live xs end is s = stands_from start (add_all now xs end) _ is (kept_add_all start live now xs end is (kept_from start now live is s))
+pub PathStands-add_all : (start now : PathState) (live : Text → ℕ) (xs : List Text) (end : End) → IsPathState start → PathStands start live now → PathStands start (λ x. live x + count_by (bytes_eq x) xs) (add_all now xs end)
+PathStands-add_all start now live xs end is s = stands_from start (add_all now xs end) _ is (kept_add_all start live now xs end is (kept_from start now live is s))
 
-pub Stands-drop_all : (start now : PathState) (live : Text → ℕ) (xs : List Text) → IsPathState start → Stands start live now → ((x : Text) → count_by (bytes_eq x) xs ≤ live x)
-    → Stands start (λ x. live x - count_by (bytes_eq x) xs) (drop_all now xs)
-Stands-drop_all start now live xs is s h = stands_from start (drop_all now xs) _ is (kept_drop_all start live now xs is (kept_from start now live is s) h)
+pub PathStands-drop_all : (start now : PathState) (live : Text → ℕ) (xs : List Text) → IsPathState start → PathStands start live now → ((x : Text) → count_by (bytes_eq x) xs ≤ live x)
+    → PathStands start (λ x. live x - count_by (bytes_eq x) xs) (drop_all now xs)
+PathStands-drop_all start now live xs is s h = stands_from start (drop_all now xs) _ is (kept_drop_all start live now xs is (kept_from start now live is s) h)

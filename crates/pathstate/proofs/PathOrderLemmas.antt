@@ -13,7 +13,7 @@ use Rattle.environment.specs.Fields.{without}
 use Rattle.pathstate.specs.Paths.{PathState, IsPathState, CountersFit, most, placed, add, drop, add_front, add_back, add_all, drop_all}
 use Rattle.pathstate.specs.PathTexts.{is_delimiter, IsUnparted, IsWritable, state_of, elements_text, pairs_text}
 use Rattle.pathstate.specs.PathVariables.{path_in, with_path, is_element, counters_fit, path_reason, added_path, dropped_path, written_path}
-use Rattle.pathstate.specs.PathOrder.{IsPathInOrder, Leaves}
+use Rattle.pathstate.specs.PathOrder.{IsPathInOrder, LeavesPath}
 use Rattle.environment.specs.Reasons.{EnvReason, unless, counter_full, bad_value}
 use Rattle.pathstate.specs.declared.paths.End.{End}
 use Rattle.pathstate.specs.declared.paths.End.TheVariants.{Front, Back}
@@ -187,15 +187,15 @@ drop_accepts old new name d xs h =
       writable = IsWritable-drop_all d (path_in old name d) xs (IsWritable-state_of d (lookup old name) (lookup old (share_name name)));
     }
 
-leaves : (old new : Environment) (name : Text) (d : ℕ) (s : PathState) → Accepts old new name d s → Leaves old new name d s
+leaves : (old new : Environment) (name : Text) (d : ℕ) (s : PathState) → Accepts old new name d s → LeavesPath old new name d s
 leaves old new name d s a = record {
   state = ap (λ (e : Environment). path_in e name d) a.written ∙ path_in-written old name d s a.writable;
   order = subst (λ (e : Environment). IsPathInOrder e name d) (sym a.written) (in_order-written old name d s a.writable);
   others = λ q h k. ap (λ (e : Environment). lookup e q) a.written ∙ lookup-others old name d s q h k;
 }
 
-pub Leaves-added : (old new : Environment) (name : Text) (d : ℕ) (xs : List Text) (end : End) → added_path old name d xs end ≡ Ok new → Leaves old new name d (add_all (path_in old name d) xs end)
-Leaves-added old new name d xs end h = leaves old new name d _ (add_accepts old new name d xs end h)
+pub LeavesPath-added : (old new : Environment) (name : Text) (d : ℕ) (xs : List Text) (end : End) → added_path old name d xs end ≡ Ok new → LeavesPath old new name d (add_all (path_in old name d) xs end)
+LeavesPath-added old new name d xs end h = leaves old new name d _ (add_accepts old new name d xs end h)
 
-pub Leaves-dropped : (old new : Environment) (name : Text) (d : ℕ) (xs : List Text) → dropped_path old name d xs ≡ Ok new → Leaves old new name d (drop_all (path_in old name d) xs)
-Leaves-dropped old new name d xs h = leaves old new name d _ (drop_accepts old new name d xs h)
+pub LeavesPath-dropped : (old new : Environment) (name : Text) (d : ℕ) (xs : List Text) → dropped_path old name d xs ≡ Ok new → LeavesPath old new name d (drop_all (path_in old name d) xs)
+LeavesPath-dropped old new name d xs h = leaves old new name d _ (drop_accepts old new name d xs h)

@@ -8,7 +8,7 @@ use Rattle.environment.specs.Texts.{Text, has}
 use Rattle.pathstate.specs.Paths.{most}
 use Rattle.pathstate.specs.Counters.{counter_of}
 use Rattle.pathstate.specs.PathTexts.{parted, counted, pairs_of, elements_of, state_beside, state_of, IsUnparted, IsWritable}
-use Rattle.pathstate.proofs.CounterLemmas.{Spells-counter_of}
+use Rattle.pathstate.proofs.CounterLemmas.{SpellsCounter-counter_of}
 
 unparted_onto : (d b : ℕ) (parts : List Text) → eqb b d ≡ false → AllByRecursion (IsUnparted d) parts → AllByRecursion (IsUnparted d) (onto_first b parts)
 unparted_onto d b [] e h = ((rw e refl), h)
@@ -28,7 +28,7 @@ record IsCounter (k : ℕ) : Type 0 where
   high : k ≤ most
 
 counter_bounds : (t : Text) (k : ℕ) → counter_of t ≡ Some k → IsCounter k
-counter_bounds t k e = let h = Spells-counter_of t k e in let l : 1 ≤ k = h.low in record { low = omega arith; high = h.high }
+counter_bounds t k e = let h = SpellsCounter-counter_of t k e in let l : 1 ≤ k = h.low in record { low = omega arith; high = h.high }
 
 or_bounds : (o p : Option ℕ) (b : Bool) (k : ℕ) → ((j : ℕ) → o ≡ Some j → IsCounter j) → ((j : ℕ) → p ≡ Some j → IsCounter j) → option_or (if b then o else None) p ≡ Some k → IsCounter k
 or_bounds (Some i) p true k h g e = h k e

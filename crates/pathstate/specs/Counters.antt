@@ -15,7 +15,7 @@ counter_of t =
     (digits_value 10 t) else None
 
 -- the text is the decimal of the number, which is one from 1 to the largest
-pub record Spells (t : Text) (n : ℕ) : Type 0 where
+pub record SpellsCounter (t : Text) (n : ℕ) : Type 0 where
   pub low : 1 ≤ n
   pub high : n ≤ most
   pub spelled : t ≡ decimal n

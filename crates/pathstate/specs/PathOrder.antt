@@ -13,7 +13,7 @@ pub record IsPathInOrder (e : Environment) (name : Text) (delim : ℕ) : Type 0 
   pub counters : lookup e (share_name name) ≡ pairs_text (path_in e name delim)
 
 -- what an accepted edit leaves: the state in the variable, in order, and every other variable as it was
-pub record Leaves (old new : Environment) (name : Text) (delim : ℕ) (s : PathState) : Type 0 where
+pub record LeavesPath (old new : Environment) (name : Text) (delim : ℕ) (s : PathState) : Type 0 where
   pub state : path_in new name delim ≡ s
   pub order : IsPathInOrder new name delim
   pub others : (q : Text) → bytes_eq q name ≡ false → bytes_eq q (share_name name) ≡ false → lookup new q ≡ lookup old q

@@ -37,7 +37,7 @@ abbrev pub EachDropUndoes : List StateEdit → Type 0
 EachDropUndoes edits = (done rest : List StateEdit) → done ++ rest ≡ edits → (x : Text) → drops done x ≤ adds done x
 
 -- what stands over a start, where each element has so many live adds
-pub record Stands (start : PathState) (live : Text → ℕ) (now : PathState) : Type 0 where
+pub record PathStands (start : PathState) (live : Text → ℕ) (now : PathState) : Type 0 where
   pub order : filter (λ x. has x start.elements) now.elements ≡ start.elements
   pub inside : (x : Text) → has x now.elements ≡ (has x start.elements || nat_lt 0 (live x))
   pub counters : (x : Text) → now.counter x ≡ start.counter x + live x

@@ -3,19 +3,19 @@ ghost use Rattle.std.specs.Prelude.{◌≡◌, ◌↔◌, ℕ, List, Option, Som
 ghost use Rattle.std.specs.List.{list_all};
 ghost use Rattle.environment.specs.Texts.{Text};
 ghost use Rattle.environment.specs.Environment.{Environment};
-ghost use Rattle.pathstate.specs.Counters.{counter_of, Spells};
+ghost use Rattle.pathstate.specs.Counters.{counter_of, SpellsCounter};
 ghost use Rattle.pathstate.specs.Paths.{PathState, IsPathState, add_all, drop_all};
-ghost use Rattle.pathstate.specs.PathRuns.{StateEdit, after, live, none, more, fewer, AreLive, EachDropUndoes, Stands};
+ghost use Rattle.pathstate.specs.PathRuns.{StateEdit, after, live, none, more, fewer, AreLive, EachDropUndoes, PathStands};
 ghost use Rattle.pathstate.specs.PathTexts.{IsWritable, state_of, elements_text, pairs_text};
 ghost use Rattle.pathstate.specs.PathVariables.{path_in, added_path, dropped_path, is_element, counters_fit};
-ghost use Rattle.pathstate.specs.PathOrder.{Leaves};
+ghost use Rattle.pathstate.specs.PathOrder.{LeavesPath};
 ghost use Rattle.pathstate.specs.declared.paths.End.{End};
 
 /// After any adds, and drops that each undo one of them, what was there before stands as it was,
 /// and what is live is counted on top of it. Where nothing is live, it is what was there before.
 pub fn paths()
     ensures stands { (start : PathState) (edits : List StateEdit) → IsPathState start → EachDropUndoes edits
-        → Stands start (live edits) (after edits start) }
+        → PathStands start (live edits) (after edits start) }
     ensures restored { (start : PathState) (edits : List StateEdit) → IsPathState start → EachDropUndoes edits
         → ((x : Text) → live edits x ≡ 0) → after edits start ≡ start }
 {}
@@ -23,18 +23,19 @@ pub fn paths()
 /// The same, step by step: a start stands over itself, an add keeps what stands, and so does a drop of what is live.
 /// Where nothing is live, what stands is the start.
 pub fn path_steps()
-    ensures start { (start : PathState) → IsPathState start → Stands start none start }
+    ensures start { (start : PathState) → IsPathState start → PathStands start none start }
     ensures add { (start now : PathState) (live : Text → ℕ) (xs : List Text) (end : End)
-        → IsPathState start → Stands start live now → Stands start (more live xs) (add_all now xs end) }
+        → IsPathState start → PathStands start live now → PathStands start (more live xs) (add_all now xs end) }
     ensures drop { (start now : PathState) (live : Text → ℕ) (xs : List Text)
-        → IsPathState start → Stands start live now → AreLive live xs → Stands start (fewer live xs) (drop_all now xs) }
+        → IsPathState start → PathStands start live now → AreLive live xs
+        → PathStands start (fewer live xs) (drop_all now xs) }
     ensures restored { (start now : PathState) (live : Text → ℕ)
-        → Stands start live now → ((x : Text) → live x ≡ 0) → now ≡ start }
+        → PathStands start live now → ((x : Text) → live x ≡ 0) → now ≡ start }
 {}
 
 /// A text spells a counter exactly where it is the decimal of a number from 1 to 4294967295.
 pub fn counters()
-    ensures { (t : Text) (n : ℕ) → (counter_of t ≡ Some n) ↔ Spells t n }
+    ensures { (t : Text) (n : ℕ) → (counter_of t ≡ Some n) ↔ SpellsCounter t n }
 {}
 
 /// The two texts that a state is written as say that state, and what two texts say can be written. So can what
@@ -55,7 +56,8 @@ pub fn path_texts()
 pub fn path_edits()
     ensures add { (old new : Environment) (name : Text) (delim : ℕ) (xs : List Text) (end : End)
         → added_path old name delim xs end ≡ Ok new
-        → Leaves old new name delim (add_all (path_in old name delim) xs end) }
+        → LeavesPath old new name delim (add_all (path_in old name delim) xs end) }
     ensures drop { (old new : Environment) (name : Text) (delim : ℕ) (xs : List Text)
-        → dropped_path old name delim xs ≡ Ok new → Leaves old new name delim (drop_all (path_in old name delim) xs) }
+        → dropped_path old name delim xs ≡ Ok new
+        → LeavesPath old new name delim (drop_all (path_in old name delim) xs) }
 {}

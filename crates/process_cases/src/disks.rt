@@ -33,7 +33,8 @@ fn is_as_listed(is_listed: bool, answer: Result<Option<Vec<String>>, TreeFault>)
     }
 }
 
-/// Whether the disk lists a folder without permission as the system does: whoever may read everything, as root, lists it.
+/// Whether the disk lists a folder without permission as the system does: whoever may read everything, as root, lists
+/// it.
 fn closed_text(
     rt: &HostRuntime,
     disk: &mut DiskTree<HostRuntime>,

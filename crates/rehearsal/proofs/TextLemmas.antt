@@ -5,8 +5,8 @@ use Rattle.std.specs.declared.alloc.Global.{Global}
 use Rattle.std.specs.declared.string.String.{String}
 use Rattle.environment.specs.Texts.{Text}
 use Rattle.environment.specs.Environment.{Environment}
-use Rattle.environment.specs.Changes.{Edit, AreChanges}
-use Rattle.lookup.specs.Agreement.{Files, Listings, Shows}
+use Rattle.environment.specs.Changes.{NewValue, AreChanges}
+use Rattle.lookup.specs.Agreement.{Files, Listings, InEachPair}
 use Rattle.shells.specs.declared.shell.Shell.{Shell}
 use Rattle.tclrules.specs.declared.limits.Limits.{Limits}
 use Rattle.shelltext.specs.Reading.{IsText}
@@ -17,7 +17,7 @@ use Rattle.requests.specs.Reasons.{RequestReason}
 use Rattle.requests.specs.Requests.{Request}
 use Rattle.requests.specs.RequestViews.{request_view}
 use Rattle.requests.specs.declared.asked.Request as code
-use Rattle.requests.specs.Steps.{Site, Done, Step}
+use Rattle.requests.specs.Steps.{Site, Done, RequestStep}
 use Rattle.requests.specs.Sessions.{accepted, refused, given_up, Session, left_by}
 use Rattle.lookup.specs.Causes.{Cause, Applies, memory, device, because}
 use Rattle.modulesteps.specs.Answers.{cause_of}
@@ -44,7 +44,7 @@ counts before mid after a b h k = omega arith
 
 module _ (agrees : Files → Listings → Type 0) (limits : Limits) (r : Request) (e : Environment) (before after : ℕ) (later : before ≤ after) where
   abbrev Steps : Result Done RequestReason → Type 0
-  Steps o = Shows agrees (λ files listings. Step (site_in limits r.0 files listings) e r.1 o)
+  Steps o = InEachPair agrees (λ files listings. RequestStep (site_in limits r.0 files listings) e r.1 o)
 
   -- memory was wanting
   pub wanting_came : Came agrees limits r e e None before after
@@ -76,7 +76,7 @@ module _ (agrees : Files → Listings → Type 0) (limits : Limits) (r : Request
   pub refused_came : (refusal : Refusal) → Applies (cause_of refusal) (before < after) (λ reason. Steps (Err reason)) → Came agrees limits r e e None before after
   refused_came refusal h = cause_came (cause_of refusal) h
 
-  module _ (d : Done) (cs : List Edit) (step : Steps (Ok d)) (changes : AreChanges e d.env cs) where
+  module _ (d : Done) (cs : List NewValue) (step : Steps (Ok d)) (changes : AreChanges e d.env cs) where
     pub unsaid_came : (fault : PrintFault) → IsPrintFault r.0 cs fault → Came agrees limits r e e None before after
     unsaid_came OutOfMemory h = record {
       response = given_up 61;
@@ -97,7 +97,7 @@ module _ (agrees : Files → Listings → Type 0) (limits : Limits) (r : Request
     accepted_came new text says made = record {
       response = accepted d;
       told = step;
-      printed = λ files listings agreed shell. record { settings = cs; exact = changes; says = says };
+      printed = λ files listings agreed shell. record { changes = cs; exact = changes; says = says };
       left = made;
       failures = none_more before after later;
     }

@@ -5,7 +5,7 @@ use Rattle.std.specs.declared.alloc.Global.{Global}
 use Rattle.std.specs.declared.string.String.{String}
 use Rattle.environment.specs.Texts.{Text}
 use Rattle.environment.specs.Environment.{Environment}
-use Rattle.lookup.specs.Agreement.{Files, Listings, Shows}
+use Rattle.lookup.specs.Agreement.{Files, Listings, InEachPair}
 use Rattle.shells.specs.declared.shell.Shell.{Shell}
 use Rattle.tclrules.specs.declared.limits.Limits.{Limits}
 use Rattle.requests.specs.Requests.{Request}
@@ -17,8 +17,8 @@ use Rattle.rehearsal.specs.Rehearsals.{IsPrint, one_failed}
 pub record Came (agrees : Files → Listings → Type 0) (limits : Limits) (r : Request) (old new : Environment)
     (print : Option Text) (before after : ℕ) : Type 0 where
   pub response : Response
-  pub told : Shows agrees (λ files listings. IsResponse (site_in limits r.0 files listings) old r.1 response)
-  pub printed : Shows agrees (λ files listings. (shell : Shell)
+  pub told : InEachPair agrees (λ files listings. IsResponse (site_in limits r.0 files listings) old r.1 response)
+  pub printed : InEachPair agrees (λ files listings. (shell : Shell)
       → IsPrint (site_in limits shell files listings) old r response print)
   pub left : new ≡ env_after old response
   pub failures : before + one_failed response ≤ after

@@ -2,12 +2,12 @@
 use Rattle.std.specs.Prelude.{ℕ, ◌≡◌, ◌≤◌, ◌+◌, ◌==◌, List, [], ◌∷◌, Option, Some, None, take, if◌then◌else◌, Ok}
 use Rattle.environment.specs.Texts.{Text}
 use Rattle.environment.specs.Environment.{Environment}
-use Rattle.environment.specs.Changes.{Edit, AreChanges}
+use Rattle.environment.specs.Changes.{NewValue, AreChanges}
 use Rattle.shelltext.specs.Reading.{SaysDifference}
 use Rattle.shelltext.specs.Printing.{IsUnsayable}
-use Rattle.shelltext.specs.Sequences.{Run, MakeOf}
+use Rattle.shelltext.specs.Sequences.{ShellRun, MakeOf}
 use Rattle.requests.specs.Requests.{Request}
-use Rattle.requests.specs.Steps.{Site, Done, Step}
+use Rattle.requests.specs.Steps.{Site, Done, RequestStep}
 use Rattle.requests.specs.Sessions.{Response, accepted, refused, given_up, Session, env_after, left_by, in_shell, session_moves}
 use Rattle.requests.specs.Returning.{AreNew, AreFitting}
 use Rattle.reversal.specs.Ways.{Way}
@@ -17,7 +17,7 @@ use Rattle.reversal.specs.Runs.{live_after}
 -- the step has changes that no text of the shell says
 abbrev pub LacksText : Site → Environment → Request → Type 0
 LacksText s e r =
-    (d : Done) × (changes : List Edit) × (name : Text) × Step (in_shell s r.0) e r.1 (Ok d)
+    (d : Done) × (changes : List NewValue) × (name : Text) × RequestStep (in_shell s r.0) e r.1 (Ok d)
     × AreChanges e d.env changes × IsUnsayable r.0 changes name
 
 -- what is printed for a request with this response: for an accepted one a text that says the difference between the
@@ -64,7 +64,7 @@ pub record Rehearsal (s : Site) (e : Environment) (rs : List Request) (ps : List
   pub failures : before + count_failed rehearsed.responses ≤ after
 
 -- the texts that were printed, each with the shell of its request
-abbrev pub runs_of : List Request → List (Option Text) → List Run
+abbrev pub runs_of : List Request → List (Option Text) → List ShellRun
 runs_of [] ps = []
 runs_of (r ∷ rs) [] = []
 runs_of (r ∷ rs) (None ∷ ps) = runs_of rs ps

@@ -1,6 +1,6 @@
 //! The texts that requests print, one after another.
 ghost use Rattle.std.specs.Prelude.{◌≡◌, map, IfOk, IfErr};
-ghost use Rattle.lookup.specs.Agreement.{Narrows, Shows};
+ghost use Rattle.lookup.specs.Agreement.{Narrows, InEachPair};
 ghost use Rattle.shells.specs.declared.shell.Shell.{Shell};
 ghost use Rattle.requests.specs.RequestViews.{request_view};
 ghost use Rattle.modulesteps.specs.declared.refusal.Refusal.TheVariants as refusals;
@@ -57,12 +57,12 @@ pub fn rehearse<T: Tree>(
     limits: Limits,
 ) -> Result<(Env, Vec<Option<String>>), Refusal>
     ensures before { Narrows (T.agrees tree.old) (T.agrees tree.new) }
-    ensures rehearsed { IfOk result (λ p. Shows (T.agrees tree.new) (λ files listings. (shell : Shell)
+    ensures rehearsed { IfOk result (λ p. InEachPair (T.agrees tree.new) (λ files listings. (shell : Shell)
         → Rehearsal (site_in limits shell files listings) env (map request_view requests.now) (prints p.1.items) p.0
         (T.failures tree.old) (T.failures tree.new))) }
-    ensures makes { IfOk result (λ p. Shows (T.agrees tree.new) (λ files listings. (shell : Shell)
+    ensures makes { IfOk result (λ p. InEachPair (T.agrees tree.new) (λ files listings. (shell : Shell)
         → Makes (site_in limits shell files listings) env (map request_view requests.now) (prints p.1.items) p.0)) }
-    ensures comes_back { IfOk result (λ p. Shows (T.agrees tree.new) (λ files listings. (shell : Shell)
+    ensures comes_back { IfOk result (λ p. InEachPair (T.agrees tree.new) (λ files listings. (shell : Shell)
         → ComesBack (site_in limits shell files listings) env (map request_view requests.now) (prints p.1.items) p.0)) }
     ensures only { IfErr result (λ refusal. refusal ≡ refusals.OutOfMemory) }
 {

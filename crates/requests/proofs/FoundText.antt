@@ -6,25 +6,25 @@ use Rattle.lookup.specs.Search.{Held, absent, no_cookie, not_utf8, script, modul
 use Rattle.relations.specs.Relations.{Is, If}
 use Rattle.modulesearch.specs.Reasons.{bad_name, not_found}
 use Rattle.modulesearch.specs.DefaultFiles.{Left}
-use Rattle.modulesearch.specs.Found.{Default, Module, read, At, FoundAlong, Found}
+use Rattle.modulesearch.specs.Found.{Default, FoundModule, read, At, FoundAlong, Found}
 use Rattle.requests.proofs.Bound.{went_on}
 
-abbrev pub IsScript : Files → Module → Type 0
+abbrev pub IsScript : Files → FoundModule → Type 0
 IsScript files m = modulefile (files m.path) ≡ script m.text
 
-at_held : (files : Files) (name path : Text) (held : Held) (m : Module) → modulefile (files path) ≡ held → Ok m ≡ read name path held → IsScript files m
+at_held : (files : Files) (name path : Text) (held : Held) (m : FoundModule) → modulefile (files path) ≡ held → Ok m ≡ read name path held → IsScript files m
 at_held files name path absent m e h = absurd (cc)
 at_held files name path no_cookie m e h = absurd (cc)
 at_held files name path not_utf8 m e h = absurd (cc)
 at_held files name path (script text) m e h =
-    let made : Module = record { name = name; path = path; text = text } in
+    let made : FoundModule = record { name = name; path = path; text = text } in
     let same : made ≡ m = (let q : Ok m ≡ Ok made = h in cc) in
     subst (IsScript files) same e
 
-at_text : (files : Files) (dir name : Text) (m : Module) → At files dir name (Ok m) → IsScript files m
+at_text : (files : Files) (dir name : Text) (m : FoundModule) → At files dir name (Ok m) → IsScript files m
 at_text files dir name m h = at_held files name (path_of dir name) (modulefile (files (path_of dir name))) m refl h
 
-along_text : (leaves : Text → Text → Option Left → Type 0) (files : Files) (listings : Listings) (name : Text) (dirs : List Text) (m : Module) → FoundAlong leaves files listings name dirs (Ok m) → IsScript files m
+along_text : (leaves : Text → Text → Option Left → Type 0) (files : Files) (listings : Listings) (name : Text) (dirs : List Text) (m : FoundModule) → FoundAlong leaves files listings name dirs (Ok m) → IsScript files m
 along_text leaves files listings name [] m h = absurd (let q : Ok m ≡ Err (not_found name) = h in cc)
 along_text leaves files listings name (dir ∷ dirs) m (inl (fact, h)) = at_text files dir name m h
 along_text leaves files listings name (dir ∷ dirs) m (inr (none, inl (some, h))) =
@@ -32,9 +32,9 @@ along_text leaves files listings name (dir ∷ dirs) m (inr (none, inl (some, h)
     at_text files dir (path_of name g.0) m g.2
 along_text leaves files listings name (dir ∷ dirs) m (inr (none, inr (no_candidate, h))) = along_text leaves files listings name dirs m h
 
-found_if : (leaves : Text → Text → Option Left → Type 0) (files : Files) (listings : Listings) (name : Text) (dirs : List Text) (m : Module) (spelled : Bool) → If spelled (FoundAlong leaves files listings name dirs) (Is (Err (bad_name name))) (Ok m) → IsScript files m
+found_if : (leaves : Text → Text → Option Left → Type 0) (files : Files) (listings : Listings) (name : Text) (dirs : List Text) (m : FoundModule) (spelled : Bool) → If spelled (FoundAlong leaves files listings name dirs) (Is (Err (bad_name name))) (Ok m) → IsScript files m
 found_if leaves files listings name dirs m true h = along_text leaves files listings name dirs m h
 found_if leaves files listings name dirs m false h = absurd (let q : Ok m ≡ Err (bad_name name) = h in cc)
 
-pub found_text : (leaves : Text → Text → Option Left → Type 0) (files : Files) (listings : Listings) (modulepath name : Text) (m : Module) → Found leaves files listings modulepath name (Ok m) → IsScript files m
+pub found_text : (leaves : Text → Text → Option Left → Type 0) (files : Files) (listings : Listings) (modulepath name : Text) (m : FoundModule) → Found leaves files listings modulepath name (Ok m) → IsScript files m
 found_text leaves files listings modulepath name m h = found_if leaves files listings name (directories modulepath) m (is_module_name name) h

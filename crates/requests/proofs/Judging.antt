@@ -6,7 +6,7 @@ use Rattle.environment.specs.Texts.{Text}
 use Rattle.relations.specs.Relations.{Is}
 use Rattle.relations.proofs.One.{one_is, one_then}
 use Rattle.modulefile.specs.Answers.{Context}
-use Rattle.modulefile.specs.Files.{Ran, Runs}
+use Rattle.modulefile.specs.Files.{Ran, RunsFile}
 use Rattle.modulefile.specs.Laws as files
 use Rattle.reversal.specs.Ways.{is_reversible}
 use Rattle.requests.specs.Refusals.{RefusedAs}
@@ -30,8 +30,8 @@ plain_parts true r e = absurd (cc)
 plain_parts false true e = (refl, refl)
 plain_parts false false e = absurd (cc)
 
-as_ok : (c : Context) (s : Site) (text : Text) (ran : Ran) → RefusedAs stopped (Runs s.limits c text) (Ok ran) → Runs s.limits c text (Ok ran)
-as_ok c s text ran h = subst (Runs s.limits c text) (kept_ok stopped h.0 ran (sym h.2)) h.1
+as_ok : (c : Context) (s : Site) (text : Text) (ran : Ran) → RefusedAs stopped (RunsFile s.limits c text) (Ok ran) → RunsFile s.limits c text (Ok ran)
+as_ok c s text ran h = subst (RunsFile s.limits c text) (kept_ok stopped h.0 ran (sym h.2)) h.1
 
 pub plain_holds : files.PlainFilesAgree → PlainHolds
 plain_holds agree s e name h =

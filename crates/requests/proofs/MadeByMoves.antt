@@ -20,7 +20,7 @@ use Rattle.requests.specs.Refusals.{refused_as}
 use Rattle.requests.specs.Reasons.{RequestReason, missed, refused_edit, bad_arguments}
 use Rattle.requests.specs.Requests.{Asked, load, unload, switch, purge, list, avail, show, whatis}
 use Rattle.requests.specs.Conditions.{load_objection, end_objection}
-use Rattle.requests.specs.Steps.{Site, Done, begun, moved_on, went, module_of, LoadsFound, LoadsName, UnloadsMeant, last_meant, UnloadsName, ShowsName, shown_text, described_text, Each, Named, Ends, Changes, Switches, Shows, Step, old_name, entries_of, consistent}
+use Rattle.requests.specs.Steps.{Site, Done, begun, moved_on, went, module_of, LoadsFound, LoadsName, UnloadsMeant, last_meant, UnloadsName, ShowsName, shown_text, described_text, Each, Named, EndsRequest, Changes, Switches, ShowsNames, RequestStep, old_name, entries_of, consistent}
 use Rattle.requests.proofs.Bound.{bound, kept_ok, allowed, went_on}
 
 abbrev Kept : Environment → Done → Type 0
@@ -70,7 +70,7 @@ keep_if e false Yes No k l = l refl
 keep_refused : (e : Environment) (r : RequestReason) → Keeps e (Is (Err r))
 keep_refused e r t h = absurd (let g : Ok t ≡ Err r = h in cc)
 
-keep_found : (s : Site) (w : Bool) (typed : Text) (e : Environment) (d : Done) (xs : List Entry) (m : search.Module) → loaded_in d.env ≡ Some xs → Kept e d → Keeps e (LoadsFound s w typed d xs m)
+keep_found : (s : Site) (w : Bool) (typed : Text) (e : Environment) (d : Done) (xs : List Entry) (m : search.FoundModule) → loaded_in d.env ≡ Some xs → Kept e d → Keeps e (LoadsFound s w typed d xs m)
 keep_found s w typed e d xs m read kept =
     keep_if e (has m.name (names_of xs)) _ _ (λ b. keep_same e d kept) (λ b. keep_then e (λ ran h.
     λ t g. keep_went e d (Loads (module_of m.name m.path ran)) ran.messages (xs, read, b) kept t
@@ -93,7 +93,7 @@ keep_unload s w e typed d kept =
     keep_then e (λ xs h.
     keep_if e (is_module_name typed) _ _ (λ b. keep_meant s w typed e d xs (λ x. means typed x.name) (last_meant typed xs) refl (list_read (loaded_in d.env) xs h) kept) (λ b. keep_refused e (missed (bad_name typed))))
 
-keep_show : (s : Site) (mode : Mode) (text_of : search.Module → List Record → Text) (e : Environment) (typed : Text) (d : Done) → Kept e d → Keeps e (ShowsName s mode text_of typed d)
+keep_show : (s : Site) (mode : Mode) (text_of : search.FoundModule → List Record → Text) (e : Environment) (typed : Text) (d : Done) → Kept e d → Keeps e (ShowsName s mode text_of typed d)
 keep_show s mode text_of e typed d kept =
     keep_then e (λ xs h. keep_then e (λ m g. keep_then e (λ ran f. keep_same e _ kept)))
 
@@ -106,7 +106,7 @@ keep_named : (e : Environment) (names : List Text) (Does : Result Done RequestRe
 keep_named e [] Does keeps = keep_refused e bad_arguments
 keep_named e (name ∷ names) Does keeps = keeps
 
-keep_end : (e : Environment) (before : List Entry) (d : Done) → Kept e d → Keeps e (Ends before d)
+keep_end : (e : Environment) (before : List Entry) (d : Done) → Kept e d → Keeps e (EndsRequest before d)
 keep_end e before d kept =
     keep_then e (λ after h. λ t g. keep_same e d kept t (sym (allowed (end_objection before after) (Ok d) t (sym g))))
 
@@ -118,11 +118,11 @@ keep_switch : (s : Site) (e : Environment) (old : Option Text) (new : Text) (d :
 keep_switch s e old new d kept =
     keep_then {First = UnloadsName s true (old_name old new) d} {Rest = LoadsName s true new} e (λ t h. keep_load s true e new t (keep_unload s true e (old_name old new) d kept t h))
 
-keep_shown : (s : Site) (mode : Mode) (text_of : search.Module → List Record → Text) (e : Environment) (names : List Text) → Keeps e (Shows s mode text_of e names)
+keep_shown : (s : Site) (mode : Mode) (text_of : search.FoundModule → List Record → Text) (e : Environment) (names : List Text) → Keeps e (ShowsNames s mode text_of e names)
 keep_shown s mode text_of e names =
     keep_then {First = Is (entries_of e)} {Rest = λ xs. Each (ShowsName s mode text_of) names (begun e)} e (λ xs h. keep_each e (ShowsName s mode text_of) (keep_show s mode text_of e) names (begun e) refl)
 
-pub led_by_moves : (s : Site) (e : Environment) (asked : Asked) → Keeps e (Step s e asked)
+pub led_by_moves : (s : Site) (e : Environment) (asked : Asked) → Keeps e (RequestStep s e asked)
 led_by_moves s e (load names) =
     keep_named e names (Changes e (λ before. Each (LoadsName s false) names)) (keep_changes e (λ before. Each (LoadsName s false) names) (λ before d kept. keep_each e (LoadsName s false) (keep_load s false e) names d kept))
 led_by_moves s e (unload names) =
@@ -133,5 +133,5 @@ led_by_moves s e purge =
     keep_changes e (λ before. Each (UnloadsName s false) (reverse (names_of before))) (λ before d kept. keep_each e (UnloadsName s false) (keep_unload s false e) (reverse (names_of before)) d kept)
 led_by_moves s e list = keep_then e (λ xs h. keep_same e _ refl)
 led_by_moves s e (avail texts) = λ d h. keep_same e _ refl d h.2
-led_by_moves s e (show names) = keep_named e names (Shows s modes.display shown_text e names) (keep_shown s modes.display shown_text e names)
-led_by_moves s e (whatis names) = keep_named e names (Shows s modes.whatis described_text e names) (keep_shown s modes.whatis described_text e names)
+led_by_moves s e (show names) = keep_named e names (ShowsNames s modes.display shown_text e names) (keep_shown s modes.display shown_text e names)
+led_by_moves s e (whatis names) = keep_named e names (ShowsNames s modes.whatis described_text e names) (keep_shown s modes.whatis described_text e names)

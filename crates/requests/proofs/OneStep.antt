@@ -13,7 +13,7 @@ use Rattle.modulerecords.specs.Effects as modes
 use Rattle.modulerecords.specs.Effects.{Mode}
 use Rattle.modulerecords.specs.Moves.{Unloads}
 use Rattle.modulefile.specs.Answers.{Context}
-use Rattle.modulefile.specs.Files.{Runs}
+use Rattle.modulefile.specs.Files.{RunsFile}
 use Rattle.modulefile.specs.Laws as files
 use Rattle.defaultfiles.specs.Leaves.{Leaves}
 use Rattle.modulesearch.specs.DefaultFiles.{Left}
@@ -27,20 +27,20 @@ use Rattle.requests.specs.Reasons.{RequestReason, bad_arguments, missed, stopped
 use Rattle.requests.specs.Requests.{Asked, load, unload, switch, purge, list, avail, show, whatis}
 use Rattle.requests.specs.Conditions.{end_objection}
 use Rattle.requests.specs.Reports.{loaded_text, avail_text}
-use Rattle.requests.specs.Steps.{Site, Done, begun, went, module_of, joins, reported, entries_of, modulepath, context_of, script_at, Finds, LoadsFound, LoadsName, UnloadsEntry, UnloadsMeant, last_meant, UnloadsName, ShowsName, shown_text, described_text, Each, Named, Ends, Changes, Switches, Shows, ListsAll, Step, old_name}
+use Rattle.requests.specs.Steps.{Site, Done, begun, went, module_of, joins, reported, entries_of, modulepath, context_of, script_at, Finds, LoadsFound, LoadsName, UnloadsEntry, UnloadsMeant, last_meant, UnloadsName, ShowsName, shown_text, described_text, Each, Named, EndsRequest, Changes, Switches, ShowsNames, ListsAll, RequestStep, old_name}
 use Rattle.requests.proofs.Bound.{one_refused_as}
 
 -- a default file leaves one thing
 abbrev pub OneLeft : Type 0
 OneLeft = (limits : Limits) (path text : Text) (o p : Option Left) → Leaves limits path text o → Leaves limits path text p → o ≡ p
 
-pub one_run : files.OneOutcome → (limits : Limits) (c : Context) (text : Text) → IsOne (RefusedAs stopped (Runs limits c text))
-one_run file limits c text = one_refused_as {f = stopped} {First = Runs limits c text} (file limits c text)
+pub one_run : files.OneOutcome → (limits : Limits) (c : Context) (text : Text) → IsOne (RefusedAs stopped (RunsFile limits c text))
+one_run file limits c text = one_refused_as {f = stopped} {First = RunsFile limits c text} (file limits c text)
 
 pub one_finds : OneLeft → (s : Site) (e : Environment) (name : Text) → IsOne (Finds s e name)
 one_finds left s e name = one_refused_as {f = missed} {First = Found (Leaves s.limits) s.files s.listings (modulepath e) name} (one_module (Leaves s.limits) (left s.limits) s.files s.listings (modulepath e) name)
 
-one_loads_found : files.OneOutcome → (s : Site) (w : Bool) (typed : Text) (d : Done) (xs : List Entry) (m : search.Module) → IsOne (LoadsFound s w typed d xs m)
+one_loads_found : files.OneOutcome → (s : Site) (w : Bool) (typed : Text) (d : Done) (xs : List Entry) (m : search.FoundModule) → IsOne (LoadsFound s w typed d xs m)
 one_loads_found file s w typed d xs m =
     one_if (has m.name (names_of xs)) (one_is (Ok d)) (
     one_then (one_run file s.limits (context_of s modes.load w typed m.name m.path xs d.env) m.text) (λ ran.
@@ -67,7 +67,7 @@ one_unload file s w typed d =
     one_then (one_is (entries_of d.env)) (λ xs.
     one_if (is_module_name typed) (one_meant file s w typed d xs (last_meant typed xs)) (one_is (Err (missed (bad_name typed)))))
 
-one_show : files.OneOutcome → OneLeft → (s : Site) (mode : Mode) (text_of : search.Module → List Record → Text) (typed : Text) (d : Done) → IsOne (ShowsName s mode text_of typed d)
+one_show : files.OneOutcome → OneLeft → (s : Site) (mode : Mode) (text_of : search.FoundModule → List Record → Text) (typed : Text) (d : Done) → IsOne (ShowsName s mode text_of typed d)
 one_show file left s mode text_of typed d =
     one_then (one_is (entries_of d.env)) (λ xs.
     one_then (one_finds left s d.env typed) (λ m.
@@ -82,19 +82,19 @@ one_named : (names : List Text) (Does : Result Done RequestReason → Type 0) �
 one_named [] Does u = one_is (Err bad_arguments)
 one_named (name ∷ names) Does u = u
 
-one_end : (before : List Entry) (d : Done) → IsOne (Ends before d)
+one_end : (before : List Entry) (d : Done) → IsOne (EndsRequest before d)
 one_end before d = one_then (one_is (entries_of d.env)) (λ after. one_is (unless (end_objection before after) (Ok d)))
 
 one_changes : (e : Environment) (Does : List Entry → Done → Result Done RequestReason → Type 0) → ((before : List Entry) (d : Done) → IsOne (Does before d)) → IsOne (Changes e Does)
 one_changes e Does u =
-    one_then {First = Is (entries_of e)} {Rest = λ before. Then (Does before (begun e)) (Ends before)} (one_is (entries_of e)) (λ before.
-    one_then {First = Does before (begun e)} {Rest = Ends before} (u before (begun e)) (one_end before))
+    one_then {First = Is (entries_of e)} {Rest = λ before. Then (Does before (begun e)) (EndsRequest before)} (one_is (entries_of e)) (λ before.
+    one_then {First = Does before (begun e)} {Rest = EndsRequest before} (u before (begun e)) (one_end before))
 
 one_switch : files.OneOutcome → OneLeft → (s : Site) (old : Option Text) (new : Text) (d : Done) → IsOne (Switches s old new d)
 one_switch file left s old new d =
     one_then {First = UnloadsName s true (old_name old new) d} {Rest = LoadsName s true new} (one_unload file s true (old_name old new) d) (one_load file left s true new)
 
-one_shown : files.OneOutcome → OneLeft → (s : Site) (mode : Mode) (text_of : search.Module → List Record → Text) (e : Environment) (names : List Text) → IsOne (Shows s mode text_of e names)
+one_shown : files.OneOutcome → OneLeft → (s : Site) (mode : Mode) (text_of : search.FoundModule → List Record → Text) (e : Environment) (names : List Text) → IsOne (ShowsNames s mode text_of e names)
 one_shown file left s mode text_of e names =
     one_then {First = Is (entries_of e)} {Rest = λ xs. Each (ShowsName s mode text_of) names (begun e)} (one_is (entries_of e)) (λ xs.
     one_each (ShowsName s mode text_of) (one_show file left s mode text_of) names (begun e))
@@ -103,7 +103,7 @@ one_lists : (s : Site) (e : Environment) (texts : List Text) → IsOne (ListsAll
 one_lists s e texts o p (ls, h, g) (ks, k, f) =
     g ∙ (ap (λ x. Ok (reported (begun e) [] (avail_text texts x))) (one_listed (Leaves s.limits) s.files s.listings (modulepath e) ls ks h k) ∙ sym f)
 
-pub one_step : files.OneOutcome → OneLeft → (s : Site) (e : Environment) (asked : Asked) → IsOne (Step s e asked)
+pub one_step : files.OneOutcome → OneLeft → (s : Site) (e : Environment) (asked : Asked) → IsOne (RequestStep s e asked)
 one_step file left s e (load names) =
     one_named names (Changes e (λ before. Each (LoadsName s false) names)) (one_changes e (λ before. Each (LoadsName s false) names) (λ before. one_each (LoadsName s false) (one_load file left s false) names))
 one_step file left s e (unload names) =
@@ -114,5 +114,5 @@ one_step file left s e purge =
     one_changes e (λ before. Each (UnloadsName s false) (reverse (names_of before))) (λ before. one_each (UnloadsName s false) (one_unload file s false) (reverse (names_of before)))
 one_step file left s e list = one_then (one_is (entries_of e)) (λ xs. one_is (Ok (reported (begun e) [] (loaded_text (names_of xs)))))
 one_step file left s e (avail texts) = one_lists s e texts
-one_step file left s e (show names) = one_named names (Shows s modes.display shown_text e names) (one_shown file left s modes.display shown_text e names)
-one_step file left s e (whatis names) = one_named names (Shows s modes.whatis described_text e names) (one_shown file left s modes.whatis described_text e names)
+one_step file left s e (show names) = one_named names (ShowsNames s modes.display shown_text e names) (one_shown file left s modes.display shown_text e names)
+one_step file left s e (whatis names) = one_named names (ShowsNames s modes.whatis described_text e names) (one_shown file left s modes.whatis described_text e names)

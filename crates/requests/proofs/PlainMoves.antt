@@ -14,7 +14,7 @@ use Rattle.loadedlist.specs.Loaded.{Entry, names_of, loaded_in}
 use Rattle.lookup.specs.Search.{script, modulefile}
 use Rattle.shells.specs.declared.shell.Shell.{Shell}
 use Rattle.modulerecords.specs.Moves.{Module, Move, Loads, Unloads, entry_of, Fits, Lead}
-use Rattle.modulefile.specs.Files.{Ran, halted, Runs, IsSameOrRefused}
+use Rattle.modulefile.specs.Files.{Ran, halted, RunsFile, IsSameOrRefused}
 use Rattle.modulefile.specs.Laws.{PlainFilesAgree}
 use Rattle.reversal.specs.Ways.{Way}
 use Rattle.reversal.specs.Live.{entries_over}
@@ -107,7 +107,7 @@ agreed ran other (inr (n, same)) = absurd (let r : Ok other ≡ Err (halted _) =
 same_records : PlainFilesAgree → (s : Site) (name path : Text) (ran other : Ran) → HasLeft s name path ran → ran.asked ≡ false → HasLeft s name path other → other.records ≡ ran.records
 same_records agree s name path ran other h unasked k =
     agreed ran other (agree s.limits h.context k.context h.text ran (Ok other) h.runs unasked (k.named ∙ sym h.named) (k.placed ∙ sym h.placed)
-    (subst (λ (t : Text). Runs s.limits k.context t (Ok other)) (one_script s path k.text h.text k.file h.file) k.runs))
+    (subst (λ (t : Text). RunsFile s.limits k.context t (Ok other)) (one_script s path k.text h.text k.file h.file) k.runs))
 
 moved_left : (s : Site) (a b c d : Text) (ran : Ran) → a ≡ b → c ≡ d → HasLeft s a c ran → HasLeft s b d ran
 moved_left s a b c d ran e g h = subst (λ (x : Text). HasLeft s x d ran) e (subst (λ (x : Text). HasLeft s a x ran) g h)

@@ -11,23 +11,23 @@ use Rattle.requests.specs.Steps.{Site}
 use Rattle.requests.specs.Sessions.{Response, accepted, refused, given_up, IsResponse, env_after, left_by, in_shell, Session, outcome_of, is_told}
 use Rattle.requests.specs.Laws.{OneOutcome, StepsLead}
 
-response_comes : StepsLead → (s : Site) (e : Environment) (asked : Asked) (o : Response) → IsResponse s e asked o → moves.Comes (outcome_of o) e (env_after e o)
+response_comes : StepsLead → (s : Site) (e : Environment) (asked : Asked) (o : Response) → IsResponse s e asked o → moves.RequestLeads (outcome_of o) e (env_after e o)
 response_comes law s e asked (accepted d) h = law s e asked d h
 response_comes law s e asked (refused r) h = refl
 response_comes law s e asked (given_up n) h = refl
 
-pub session_run : StepsLead → (s : Site) (e : Environment) (rs : List Request) (os : List Response) → Session s e rs os → moves.Run (map outcome_of os) e (left_by e os)
+pub session_run : StepsLead → (s : Site) (e : Environment) (rs : List Request) (os : List Response) → Session s e rs os → moves.RunLeads (map outcome_of os) e (left_by e os)
 session_run law s e [] [] h = refl
 session_run law s e [] (o ∷ os) h = absurd h
 session_run law s e (r ∷ rs) [] h = absurd h
 session_run law s e (r ∷ rs) (o ∷ os) h =
     (env_after e o, response_comes law (in_shell s r.0) e r.1 o h.0, session_run law s (env_after e o) rs os h.1)
 
-comes_lead : (o : moves.Outcome) (old new : Environment) → moves.Comes o old new → Lead (moves.moves_of o) old new
+comes_lead : (o : moves.RequestOutcome) (old new : Environment) → moves.RequestLeads o old new → Lead (moves.moves_of o) old new
 comes_lead (moves.accepted ms) old new h = h
 comes_lead moves.refused old new h = h
 
-pub run_leads : LeadsGoOn → (os : List moves.Outcome) (old new : Environment) → moves.Run os old new → Lead (moves.all_moves os) old new
+pub run_leads : LeadsGoOn → (os : List moves.RequestOutcome) (old new : Environment) → moves.RunLeads os old new → Lead (moves.all_moves os) old new
 run_leads law [] old new h = h
 run_leads law (o ∷ os) old new (mid, c, r) = law (moves.moves_of o) (moves.all_moves os) old mid new (comes_lead o old mid c) (run_leads law os mid new r)
 

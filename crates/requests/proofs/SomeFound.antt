@@ -13,7 +13,7 @@ use Rattle.lookup.specs.Search.{Held, absent, no_cookie, not_utf8, script, modul
 use Rattle.relations.specs.Relations.{Is, After, Then, If, Where}
 use Rattle.modulesearch.specs.Reasons.{bad_name, not_found, bad_default}
 use Rattle.modulesearch.specs.Single.{is_single}
-use Rattle.modulesearch.specs.DefaultFiles.{Left, Says, said, NamesIn, Names, by_command, by_variable}
+use Rattle.modulesearch.specs.DefaultFiles.{Left, VersionIn, said, NamesIn, Names, by_command, by_variable}
 use Rattle.modulesearch.specs.Found.{IsCandidate, HasCandidates, IsOneOf, default_file, NamedDefault, Greatest, NamedOrGreatest, Default, read, FoundAlong, Found}
 use Rattle.requests.specs.Refusals.{refused_as, RefusedAs}
 
@@ -155,13 +155,13 @@ some_greatest files listings dir name (v, c) =
 abbrev Leaving : (Text → Text → Option Left → Type 0) → Type 0
 Leaving leaves = (path text : Text) → (o : Option Left) × leaves path text o
 
-some_names_in : (leaves : Text → Text → Option Left → Type 0) → Leaving leaves → (says : Says) (path : Text) (held : Held) → IsSome (NamesIn leaves says path held)
+some_names_in : (leaves : Text → Text → Option Left → Type 0) → Leaving leaves → (says : VersionIn) (path : Text) (held : Held) → IsSome (NamesIn leaves says path held)
 some_names_in leaves law says path absent = (Ok None, refl)
 some_names_in leaves law says path no_cookie = (Ok None, refl)
 some_names_in leaves law says path not_utf8 = (Err (bad_default path), refl)
 some_names_in leaves law says path (script text) = let l = law path text in (said says path l.0, (l.0, l.1, refl))
 
-some_names : (leaves : Text → Text → Option Left → Type 0) → Leaving leaves → (files : Files) (says : Says) (path : Text) → IsSome (Names leaves files says path)
+some_names : (leaves : Text → Text → Option Left → Type 0) → Leaving leaves → (files : Files) (says : VersionIn) (path : Text) → IsSome (Names leaves files says path)
 some_names leaves law files says path = some_names_in leaves law says path (modulefile (files path))
 
 some_named : (leaves : Text → Text → Option Left → Type 0) → Leaving leaves → (files : Files) (listings : Listings) (dir name : Text) → IsSome (NamedDefault leaves files listings dir name)

@@ -12,7 +12,7 @@ use Rattle.modulerecords.specs.Effects as modes
 use Rattle.modulerecords.specs.Effects.{Mode}
 use Rattle.modulerecords.specs.Moves.{Unloads}
 use Rattle.modulefile.specs.Answers.{Context}
-use Rattle.modulefile.specs.Files.{Runs}
+use Rattle.modulefile.specs.Files.{RunsFile}
 use Rattle.modulefile.specs.Laws as files
 use Rattle.defaultfiles.specs.Leaves.{Leaves}
 use Rattle.modulesearch.specs.DefaultFiles.{Left}
@@ -24,7 +24,7 @@ use Rattle.requests.specs.Reasons.{RequestReason, bad_arguments, missed, stopped
 use Rattle.requests.specs.Requests.{Asked, load, unload, switch, purge, list, avail, show, whatis}
 use Rattle.requests.specs.Conditions.{end_objection}
 use Rattle.requests.specs.Reports.{loaded_text}
-use Rattle.requests.specs.Steps.{Site, Done, begun, went, module_of, joins, reported, entries_of, modulepath, context_of, script_at, Finds, LoadsFound, LoadsName, UnloadsMeant, last_meant, UnloadsName, ShowsName, shown_text, described_text, Each, Named, Ends, Changes, Switches, Shows, Step, old_name}
+use Rattle.requests.specs.Steps.{Site, Done, begun, went, module_of, joins, reported, entries_of, modulepath, context_of, script_at, Finds, LoadsFound, LoadsName, UnloadsMeant, last_meant, UnloadsName, ShowsName, shown_text, described_text, Each, Named, EndsRequest, Changes, Switches, ShowsNames, RequestStep, old_name}
 use Rattle.requests.specs.Laws.{IsNotAvail}
 use Rattle.requests.proofs.SomeFound.{IsSome, some_is, some_then, some_if, some_refused_as, some_found}
 
@@ -32,13 +32,13 @@ use Rattle.requests.proofs.SomeFound.{IsSome, some_is, some_then, some_if, some_
 abbrev pub SomeLeft : Type 0
 SomeLeft = (limits : Limits) (path text : Text) → (o : Option Left) × Leaves limits path text o
 
-some_run : files.SomeOutcome → (limits : Limits) (c : Context) (text : Text) → IsSome (RefusedAs stopped (Runs limits c text))
-some_run file limits c text = some_refused_as {f = stopped} {First = Runs limits c text} (file limits c text)
+some_run : files.SomeOutcome → (limits : Limits) (c : Context) (text : Text) → IsSome (RefusedAs stopped (RunsFile limits c text))
+some_run file limits c text = some_refused_as {f = stopped} {First = RunsFile limits c text} (file limits c text)
 
 some_finds : SomeLeft → (s : Site) (e : Environment) (name : Text) → IsSome (Finds s e name)
 some_finds left s e name = some_refused_as {f = missed} {First = Found (Leaves s.limits) s.files s.listings (modulepath e) name} (some_found (Leaves s.limits) (left s.limits) s.files s.listings (modulepath e) name)
 
-some_loads_found : files.SomeOutcome → (s : Site) (w : Bool) (typed : Text) (d : Done) (xs : List Entry) (m : search.Module) → IsSome (LoadsFound s w typed d xs m)
+some_loads_found : files.SomeOutcome → (s : Site) (w : Bool) (typed : Text) (d : Done) (xs : List Entry) (m : search.FoundModule) → IsSome (LoadsFound s w typed d xs m)
 some_loads_found file s w typed d xs m =
     some_if (has m.name (names_of xs)) (some_is (Ok d)) (
     some_then (some_run file s.limits (context_of s modes.load w typed m.name m.path xs d.env) m.text) (λ ran.
@@ -62,7 +62,7 @@ some_unload file s w typed d =
     some_then (some_is (entries_of d.env)) (λ xs.
     some_if (is_module_name typed) (some_meant file s w typed d xs (last_meant typed xs)) (some_is (Err (missed (bad_name typed)))))
 
-some_show : files.SomeOutcome → SomeLeft → (s : Site) (mode : Mode) (text_of : search.Module → List Record → Text) (typed : Text) (d : Done) → IsSome (ShowsName s mode text_of typed d)
+some_show : files.SomeOutcome → SomeLeft → (s : Site) (mode : Mode) (text_of : search.FoundModule → List Record → Text) (typed : Text) (d : Done) → IsSome (ShowsName s mode text_of typed d)
 some_show file left s mode text_of typed d =
     some_then (some_is (entries_of d.env)) (λ xs.
     some_then (some_finds left s d.env typed) (λ m.
@@ -77,24 +77,24 @@ some_named : (names : List Text) (Does : Result Done RequestReason → Type 0) �
 some_named [] Does u = some_is (Err bad_arguments)
 some_named (name ∷ names) Does u = u
 
-some_end : (before : List Entry) (d : Done) → IsSome (Ends before d)
+some_end : (before : List Entry) (d : Done) → IsSome (EndsRequest before d)
 some_end before d = some_then (some_is (entries_of d.env)) (λ after. some_is (unless (end_objection before after) (Ok d)))
 
 some_changes : (e : Environment) (Does : List Entry → Done → Result Done RequestReason → Type 0) → ((before : List Entry) (d : Done) → IsSome (Does before d)) → IsSome (Changes e Does)
 some_changes e Does u =
-    some_then {First = Is (entries_of e)} {Rest = λ before. Then (Does before (begun e)) (Ends before)} (some_is (entries_of e)) (λ before.
-    some_then {First = Does before (begun e)} {Rest = Ends before} (u before (begun e)) (some_end before))
+    some_then {First = Is (entries_of e)} {Rest = λ before. Then (Does before (begun e)) (EndsRequest before)} (some_is (entries_of e)) (λ before.
+    some_then {First = Does before (begun e)} {Rest = EndsRequest before} (u before (begun e)) (some_end before))
 
 some_switch : files.SomeOutcome → SomeLeft → (s : Site) (old : Option Text) (new : Text) (d : Done) → IsSome (Switches s old new d)
 some_switch file left s old new d =
     some_then {First = UnloadsName s true (old_name old new) d} {Rest = LoadsName s true new} (some_unload file s true (old_name old new) d) (some_load file left s true new)
 
-some_shown : files.SomeOutcome → SomeLeft → (s : Site) (mode : Mode) (text_of : search.Module → List Record → Text) (e : Environment) (names : List Text) → IsSome (Shows s mode text_of e names)
+some_shown : files.SomeOutcome → SomeLeft → (s : Site) (mode : Mode) (text_of : search.FoundModule → List Record → Text) (e : Environment) (names : List Text) → IsSome (ShowsNames s mode text_of e names)
 some_shown file left s mode text_of e names =
     some_then {First = Is (entries_of e)} {Rest = λ xs. Each (ShowsName s mode text_of) names (begun e)} (some_is (entries_of e)) (λ xs.
     some_each (ShowsName s mode text_of) (some_show file left s mode text_of) names (begun e))
 
-pub some_step : files.SomeOutcome → SomeLeft → (s : Site) (e : Environment) (asked : Asked) → IsNotAvail asked → IsSome (Step s e asked)
+pub some_step : files.SomeOutcome → SomeLeft → (s : Site) (e : Environment) (asked : Asked) → IsNotAvail asked → IsSome (RequestStep s e asked)
 some_step file left s e (load names) n =
     some_named names (Changes e (λ before. Each (LoadsName s false) names)) (some_changes e (λ before. Each (LoadsName s false) names) (λ before. some_each (LoadsName s false) (some_load file left s false) names))
 some_step file left s e (unload names) n =
@@ -105,5 +105,5 @@ some_step file left s e purge n =
     some_changes e (λ before. Each (UnloadsName s false) (reverse (names_of before))) (λ before. some_each (UnloadsName s false) (some_unload file s false) (reverse (names_of before)))
 some_step file left s e list n = some_then (some_is (entries_of e)) (λ xs. some_is (Ok (reported (begun e) [] (loaded_text (names_of xs)))))
 some_step file left s e (avail texts) n = absurd n
-some_step file left s e (show names) n = some_named names (Shows s modes.display shown_text e names) (some_shown file left s modes.display shown_text e names)
-some_step file left s e (whatis names) n = some_named names (Shows s modes.whatis described_text e names) (some_shown file left s modes.whatis described_text e names)
+some_step file left s e (show names) n = some_named names (ShowsNames s modes.display shown_text e names) (some_shown file left s modes.display shown_text e names)
+some_step file left s e (whatis names) n = some_named names (ShowsNames s modes.whatis described_text e names) (some_shown file left s modes.whatis described_text e names)

@@ -11,7 +11,7 @@ use Rattle.reversal.specs.Requests as moves
 use Rattle.reversal.specs.Laws.{Holds}
 use Rattle.requests.specs.Reasons.{RequestReason}
 use Rattle.requests.specs.Requests.{Asked, Request, load, unload, switch, purge, list, avail, show, whatis}
-use Rattle.requests.specs.Steps.{Site, Done, Step}
+use Rattle.requests.specs.Steps.{Site, Done, RequestStep}
 use Rattle.requests.specs.Sessions.{Response, Session, left_by, outcome_of, session_moves, is_told}
 use Rattle.requests.specs.Returning.{AreNew, AreFitting}
 use Rattle.requests.specs.PlainRuns.{ArePlain}
@@ -20,7 +20,7 @@ use Rattle.requests.specs.PlainRuns.{ArePlain}
 abbrev pub OneOutcome : Type 0
 OneOutcome =
     (s : Site) (e : Environment) (asked : Asked) (o p : Result Done RequestReason)
-    → Step s e asked o → Step s e asked p → o ≡ p
+    → RequestStep s e asked o → RequestStep s e asked p → o ≡ p
 
 -- a request other than `avail`
 abbrev pub IsNotAvail : Asked → Type 0
@@ -37,17 +37,17 @@ IsNotAvail (whatis names) = Unit {0}
 abbrev pub SomeOutcome : Type 0
 SomeOutcome =
     (s : Site) (e : Environment) (asked : Asked) → IsNotAvail asked
-    → (o : Result Done RequestReason) × Step s e asked o
+    → (o : Result Done RequestReason) × RequestStep s e asked o
 
 -- The moves of an accepted step lead from the environment to what it leaves, and each fits where it is made.
 abbrev pub StepsLead : Type 0
 StepsLead =
-    (s : Site) (e : Environment) (asked : Asked) (d : Done) → Step s e asked (Ok d) → Lead d.moves e d.env
+    (s : Site) (e : Environment) (asked : Asked) (d : Done) → RequestStep s e asked (Ok d) → Lead d.moves e d.env
 
 -- So what it leaves is what they make.
 abbrev pub StepsAreMade : Type 0
 StepsAreMade =
-    (s : Site) (e : Environment) (asked : Asked) (d : Done) → Step s e asked (Ok d) → made d.moves e ≡ Ok d.env
+    (s : Site) (e : Environment) (asked : Asked) (d : Done) → RequestStep s e asked (Ok d) → made d.moves e ≡ Ok d.env
 
 -- a request that only reports
 abbrev pub Reports : Asked → Type 0
@@ -63,14 +63,14 @@ Reports (whatis names) = Unit {0}
 -- It leaves the environment, and moves nothing.
 abbrev pub ReportsLeave : Type 0
 ReportsLeave =
-    (s : Site) (e : Environment) (asked : Asked) (d : Done) → Reports asked → Step s e asked (Ok d)
+    (s : Site) (e : Environment) (asked : Asked) (d : Done) → Reports asked → RequestStep s e asked (Ok d)
     → (d.env ≡ e) × (d.moves ≡ [])
 
 -- A session is a run of what its requests moved.
 abbrev pub SessionsRun : Type 0
 SessionsRun =
     (s : Site) (e : Environment) (rs : List Request) (os : List Response) → Session s e rs os
-    → moves.Run (map outcome_of os) e (left_by e os)
+    → moves.RunLeads (map outcome_of os) e (left_by e os)
 
 -- Its moves lead from the first environment to the last.
 abbrev pub SessionsLead : Type 0
@@ -107,5 +107,5 @@ abbrev pub CommandsReturn : Type 0
 CommandsReturn =
     (ways : Text → Way) (s : Site) (start e : Environment) (live : List Module) (asked : Asked) (d : Done)
     → IsStart ways start → IsInOrder ways e → Stands ways start live e → AreFit ways live
-    → Step s e asked (Ok d) → AreNew start d.moves → AreFitting ways live d.moves
+    → RequestStep s e asked (Ok d) → AreNew start d.moves → AreFitting ways live d.moves
     → Holds ways start (live_after live d.moves) d.env × AreFit ways (live_after live d.moves)

@@ -5,7 +5,7 @@ use Rattle.environment.specs.Environment.{Environment}
 use Rattle.lookup.specs.Search.{script, modulefile}
 use Rattle.modulerecords.specs.Moves.{Module, Move, Loads, Unloads}
 use Rattle.modulefile.specs.Answers.{Context}
-use Rattle.modulefile.specs.Files.{Ran, Runs}
+use Rattle.modulefile.specs.Files.{Ran, RunsFile}
 use Rattle.reversal.specs.Ways.{Way}
 use Rattle.reversal.specs.Runs.{without_live, IsFit}
 use Rattle.modulesearch.specs.Found as search
@@ -19,7 +19,7 @@ pub record HasLeft (s : Site) (name path : Text) (ran : Ran) : Type 0 where
   pub context : Context
   pub named : context.name ≡ name
   pub placed : context.path ≡ path
-  pub runs : Runs s.limits context text (Ok ran)
+  pub runs : RunsFile s.limits context text (Ok ran)
 
 -- One of them asked nothing.
 abbrev pub IsPlain : Site → Text → Text → Type 0
@@ -35,4 +35,4 @@ ArePlain s ways live (Unloads m ∷ ms) = ArePlain s ways (without_live m.name l
 abbrev pub JudgedIsPlain : Type 0
 JudgedIsPlain =
     (s : Site) (e : Environment) (name : Text) → Judged s e name (Ok plain)
-    → (m : search.Module) × Finds s e name (Ok m) × IsPlain s m.name m.path
+    → (m : search.FoundModule) × Finds s e name (Ok m) × IsPlain s m.name m.path

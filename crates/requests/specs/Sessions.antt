@@ -8,7 +8,7 @@ use Rattle.reversal.specs.Requests as moves
 use Rattle.reversal.specs.Requests.{all_moves}
 use Rattle.requests.specs.Reasons.{RequestReason}
 use Rattle.requests.specs.Requests.{Asked, Request}
-use Rattle.requests.specs.Steps.{Site, Done, Step}
+use Rattle.requests.specs.Steps.{Site, Done, RequestStep}
 
 -- A request is accepted, or refused for its reason, or given up: for want of memory, or since a device failed, or since
 -- the shell can't say a text. The number is that of the cause.
@@ -23,8 +23,8 @@ is_cause number = list_any (λ n. n == number) (11 ∷ 31 ∷ 41 ∷ 61 ∷ 43 �
 
 -- an accepted or refused request came to its step; one that was given up had a cause
 abbrev pub IsResponse : Site → Environment → Asked → Response → Type 0
-IsResponse s e asked (accepted d) = Step s e asked (Ok d)
-IsResponse s e asked (refused reason) = Step s e asked (Err reason)
+IsResponse s e asked (accepted d) = RequestStep s e asked (Ok d)
+IsResponse s e asked (refused reason) = RequestStep s e asked (Err reason)
 IsResponse s e asked (given_up number) = is_cause number ≡ true
 
 -- only an accepted request changes the environment
@@ -50,7 +50,7 @@ Session s e (r ∷ rs) [] = ⊥
 Session s e (r ∷ rs) (o ∷ os) = IsResponse (in_shell s r.0) e r.1 o × Session s (env_after e o) rs os
 
 -- what a response moved
-abbrev pub outcome_of : Response → moves.Outcome
+abbrev pub outcome_of : Response → moves.RequestOutcome
 outcome_of (accepted d) = moves.accepted d.moves
 outcome_of (refused reason) = moves.refused
 outcome_of (given_up number) = moves.refused

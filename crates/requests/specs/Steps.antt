@@ -17,7 +17,7 @@ use Rattle.modulerecords.specs.Effects.{Mode}
 use Rattle.modulerecords.specs.Moves.{Module, Move, Loads, Unloads, moved}
 use Rattle.modulefile.specs.Results.{◌>>=◌}
 use Rattle.modulefile.specs.Answers.{Context}
-use Rattle.modulefile.specs.Files.{Ran, Runs}
+use Rattle.modulefile.specs.Files.{Ran, RunsFile}
 use Rattle.modulefile.specs.Reports.{show_text, whatis_text}
 use Rattle.defaultfiles.specs.Leaves.{Leaves}
 use Rattle.modulesearch.specs.Reasons.{bad_name, not_utf8_at}
@@ -93,7 +93,7 @@ abbrev pub module_of : Text → Text → Ran → Module
 module_of name path ran = record { name = name; path = path; records = ran.records }
 
 -- what a name means now
-abbrev pub Finds : Site → Environment → Text → Result search.Module RequestReason → Type 0
+abbrev pub Finds : Site → Environment → Text → Result search.FoundModule RequestReason → Type 0
 Finds s e name = RefusedAs missed (Found (Leaves s.limits) s.files s.listings (modulepath e) name)
 
 -- ---- load
@@ -103,10 +103,11 @@ abbrev pub joins : Done → List Entry → Module → List Text → Result Done 
 joins d xs m messages = unless (load_objection m.name m.records xs) (went d (Loads m) messages)
 
 -- The module that was found is loaded, unless it is already.
-abbrev pub LoadsFound : Site → Bool → Text → Done → List Entry → search.Module → Result Done RequestReason → Type 0
+abbrev pub LoadsFound : Site → Bool → Text → Done → List Entry → search.FoundModule → Result Done RequestReason → Type 0
 LoadsFound s in_switch typed d xs m =
     If (has m.name (names_of xs)) (Is (Ok d)) (
-    RefusedAs stopped (Runs s.limits (context_of s modes.load in_switch typed m.name m.path xs d.env) m.text) >> (λ ran.
+    RefusedAs stopped (RunsFile s.limits (context_of s modes.load in_switch typed m.name m.path xs d.env) m.text) >>
+        (λ ran.
     Is (joins d xs (module_of m.name m.path ran) ran.messages)))
 
 -- A name that is exactly a loaded module's changes nothing. Another is searched for.
@@ -129,7 +130,8 @@ script_at path (script text) = Ok text
 abbrev pub UnloadsEntry : Site → Bool → Text → Done → List Entry → Entry → Result Done RequestReason → Type 0
 UnloadsEntry s in_switch typed d xs x =
     Is (script_at x.path (modulefile (s.files x.path))) >> (λ text.
-    RefusedAs stopped (Runs s.limits (context_of s modes.unload in_switch typed x.name x.path xs d.env) text) >> (λ ran.
+    RefusedAs stopped (RunsFile s.limits (context_of s modes.unload in_switch typed x.name x.path xs d.env) text) >>
+        (λ ran.
     Is (went d (Unloads (module_of x.name x.path ran)) ran.messages)))
 
 -- where there is no such module nothing changes
@@ -151,18 +153,18 @@ UnloadsName s in_switch typed d =
 -- ---- show and whatis
 
 -- The file is evaluated in the environment at hand, which stays.
-abbrev pub ShowsName : Site → Mode → (search.Module → List Record → Text) → Text → Done → Result Done RequestReason
+abbrev pub ShowsName : Site → Mode → (search.FoundModule → List Record → Text) → Text → Done → Result Done RequestReason
     → Type 0
 ShowsName s mode text_of typed d =
     Is (entries_of d.env) >> (λ xs.
     Finds s d.env typed >> (λ m.
-    RefusedAs stopped (Runs s.limits (context_of s mode false typed m.name m.path xs d.env) m.text) >> (λ ran.
+    RefusedAs stopped (RunsFile s.limits (context_of s mode false typed m.name m.path xs d.env) m.text) >> (λ ran.
     Is (Ok (reported d ran.messages (text_of m ran.records))))))
 
-abbrev pub shown_text : search.Module → List Record → Text
+abbrev pub shown_text : search.FoundModule → List Record → Text
 shown_text m rs = show_text m.path rs
 
-abbrev pub described_text : search.Module → List Record → Text
+abbrev pub described_text : search.FoundModule → List Record → Text
 described_text m rs = whatis_text m.name rs
 
 -- ---- whole requests
@@ -179,13 +181,13 @@ Named [] Does = Is (Err bad_arguments)
 Named (name ∷ names) Does = Does
 
 -- At the end no module that stayed has lost what it needs.
-abbrev pub Ends : List Entry → Done → Result Done RequestReason → Type 0
-Ends before d = Is (entries_of d.env) >> (λ after. Is (unless (end_objection before after) (Ok d)))
+abbrev pub EndsRequest : List Entry → Done → Result Done RequestReason → Type 0
+EndsRequest before d = Is (entries_of d.env) >> (λ after. Is (unless (end_objection before after) (Ok d)))
 
 -- The loaded modules are read first, and judged last.
 abbrev pub Changes : Environment → (List Entry → Done → Result Done RequestReason → Type 0)
     → Result Done RequestReason → Type 0
-Changes e Does = Is (entries_of e) >> (λ before. Does before (begun e) >> Ends before)
+Changes e Does = Is (entries_of e) >> (λ before. Does before (begun e) >> EndsRequest before)
 
 -- the first part of a name
 abbrev pub first_part : List Text → Text
@@ -201,12 +203,12 @@ old_name None new = first_part (parts new)
 abbrev pub Switches : Site → Option Text → Text → Done → Result Done RequestReason → Type 0
 Switches s old new d = UnloadsName s true (old_name old new) d >> LoadsName s true new
 
-abbrev pub Shows : Site → Mode → (search.Module → List Record → Text) → Environment → List Text
+abbrev pub ShowsNames : Site → Mode → (search.FoundModule → List Record → Text) → Environment → List Text
     → Result Done RequestReason → Type 0
-Shows s mode text_of e names = Is (entries_of e) >> (λ xs. Each (ShowsName s mode text_of) names (begun e))
+ShowsNames s mode text_of e names = Is (entries_of e) >> (λ xs. Each (ShowsName s mode text_of) names (begun e))
 
-abbrev pub Lists : Environment → Result Done RequestReason → Type 0
-Lists e = Is (entries_of e) >> (λ xs. Is (Ok (reported (begun e) [] (loaded_text (names_of xs)))))
+abbrev pub ListsLoaded : Environment → Result Done RequestReason → Type 0
+ListsLoaded e = Is (entries_of e) >> (λ xs. Is (Ok (reported (begun e) [] (loaded_text (names_of xs)))))
 
 -- no loaded module is asked for
 abbrev pub ListsAll : Site → Environment → List Text → Result Done RequestReason → Type 0
@@ -215,12 +217,12 @@ ListsAll s e texts o =
     × (o ≡ Ok (reported (begun e) [] (avail_text texts listings)))
 
 -- The step of a request.
-abbrev pub Step : Site → Environment → Asked → Result Done RequestReason → Type 0
-Step s e (load names) = Named names (Changes e (λ before. Each (LoadsName s false) names))
-Step s e (unload names) = Named names (Changes e (λ before. Each (UnloadsName s false) names))
-Step s e (switch old new) = Changes e (λ before. Switches s old new)
-Step s e purge = Changes e (λ before. Each (UnloadsName s false) (reverse (names_of before)))
-Step s e list = Lists e
-Step s e (avail texts) = ListsAll s e texts
-Step s e (show names) = Named names (Shows s modes.display shown_text e names)
-Step s e (whatis names) = Named names (Shows s modes.whatis described_text e names)
+abbrev pub RequestStep : Site → Environment → Asked → Result Done RequestReason → Type 0
+RequestStep s e (load names) = Named names (Changes e (λ before. Each (LoadsName s false) names))
+RequestStep s e (unload names) = Named names (Changes e (λ before. Each (UnloadsName s false) names))
+RequestStep s e (switch old new) = Changes e (λ before. Switches s old new)
+RequestStep s e purge = Changes e (λ before. Each (UnloadsName s false) (reverse (names_of before)))
+RequestStep s e list = ListsLoaded e
+RequestStep s e (avail texts) = ListsAll s e texts
+RequestStep s e (show names) = Named names (ShowsNames s modes.display shown_text e names)
+RequestStep s e (whatis names) = Named names (ShowsNames s modes.whatis described_text e names)

@@ -8,7 +8,7 @@ use Rattle.shells.specs.declared.shell.Shell.TheVariants.{Sh}
 use Rattle.relations.specs.Relations.{Is, ◌>>◌}
 use Rattle.modulerecords.specs.Effects as modes
 use Rattle.modulefile.specs.Answers.{Context}
-use Rattle.modulefile.specs.Files.{Ran, Stop, Runs, IsSameOrRefused}
+use Rattle.modulefile.specs.Files.{Ran, Stop, RunsFile, IsSameOrRefused}
 use Rattle.modulesearch.specs.Found as search
 use Rattle.reversal.specs.Ways.{is_reversible}
 use Rattle.requests.specs.Refusals.{RefusedAs}
@@ -28,7 +28,7 @@ abbrev pub verdict_of : Ran → Verdict
 verdict_of ran = if ran.asked then asking else if list_all is_reversible ran.records then plain else one_way
 
 -- for loading, in sh
-abbrev pub judged_in : Site → Text → search.Module → List Entry → Environment → Context
+abbrev pub judged_in : Site → Text → search.FoundModule → List Entry → Environment → Context
 judged_in s name m xs e = context_of (in_shell s Sh) modes.load false name m.name m.path xs e
 
 -- The verdict on the module that a name means. Its file is evaluated for loading in sh, and the typed name is this
@@ -37,14 +37,14 @@ abbrev pub Judged : Site → Environment → Text → Result Verdict RequestReas
 Judged s e name =
     Is (entries_of e) >> (λ xs.
     Finds s e name >> (λ m.
-    RefusedAs stopped (Runs s.limits (judged_in s name m xs e) m.text) >> (λ ran.
+    RefusedAs stopped (RunsFile s.limits (judged_in s name m xs e) m.text) >> (λ ran.
     Is (Ok (verdict_of ran)))))
 
 -- In every context of this module, whatever the mode, the environment, the shell, the typed name and the loaded
 -- modules, its file leaves these records or is refused.
-abbrev pub LeavesAlways : Site → search.Module → Ran → Type 0
+abbrev pub LeavesAlways : Site → search.FoundModule → Ran → Type 0
 LeavesAlways s m ran =
-    (c : Context) (o : Result Ran Stop) → c.name ≡ m.name → c.path ≡ m.path → Runs s.limits c m.text o
+    (c : Context) (o : Result Ran Stop) → c.name ≡ m.name → c.path ≡ m.path → RunsFile s.limits c m.text o
     → IsSameOrRefused ran o
 
 -- A module has one verdict at most.
@@ -57,5 +57,5 @@ OneVerdict =
 abbrev pub PlainHolds : Type 0
 PlainHolds =
     (s : Site) (e : Environment) (name : Text) → Judged s e name (Ok plain)
-    → (m : search.Module) × (ran : Ran) × Finds s e name (Ok m)
+    → (m : search.FoundModule) × (ran : Ran) × Finds s e name (Ok m)
     × (list_all is_reversible ran.records ≡ true) × LeavesAlways s m ran

@@ -9,7 +9,7 @@ use Rattle.environment.specs.Environment.{Environment, lookup, with_value}
 use Rattle.environment.specs.Reasons.{EnvReason}
 use Rattle.pathstate.specs.declared.paths.End.TheVariants as ends
 use Rattle.envlaws.specs.Places.{place_of, is_editable}
-use Rattle.envlaws.specs.Places.Place.{Other}
+use Rattle.envlaws.specs.Places.StatePlace.{Other}
 use Rattle.envlaws.specs.Frames.{EditsVariable, KeepsVariable, KeepsLoaded}
 use Rattle.envlaws.proofs.PlaceLemmas.{no_reason_against}
 use Rattle.envlaws.proofs.FrameLemmas.{add_edits, drop_edits, push_edits, pop_edits, set_edits, path_edits_variable, stack_edits_variable, keeps_other, keeps_loaded, rest_stays}

@@ -8,7 +8,7 @@ use Rattle.std.proofs.lemmas.Option.{same_Some, none-some}
 use Rattle.environment.specs.Texts.{Text, has}
 use Rattle.environment.specs.Names.{share_name, stack_name}
 use Rattle.environment.specs.Environment.{Environment, lookup, with_value}
-use Rattle.environment.specs.Changes.{Edit}
+use Rattle.environment.specs.Changes.{NewValue}
 use Rattle.environment.specs.Reasons.{EnvReason, unless}
 use Rattle.environment.proofs.EnvLemmas.{lookup-with_value}
 use Rattle.environment.proofs.EditLemmas.{not_is}
@@ -33,7 +33,7 @@ as_ok e = Ok e
 
 -- what was written, the newest first
 abbrev pub History : Type 0
-History = List Edit
+History = List NewValue
 
 abbrev pub env : History → Environment
 env [] = finite.empty

@@ -10,7 +10,7 @@ use Rattle.environment.specs.Fields.{without}
 use Rattle.environment.specs.Environment.{Environment, lookup}
 use Rattle.environment.proofs.TextLemmas.{bytes_eq-same, has-without}
 use Rattle.environment.proofs.EditLemmas.{both_true, and_both}
-use Rattle.stackstate.specs.Stacks.{Item, StackState, holds}
+use Rattle.stackstate.specs.Stacks.{OwnedValue, StackState, holds}
 use Rattle.stackstate.specs.StackRuns.{IsOwnedStart, other_pushes, standing}
 use Rattle.stackstate.specs.StackVariables.{stack_in, is_loaded_owner, IsStackInOrder, pushed_value, popped_value}
 use Rattle.stackstate.proofs.StackLemmas.{push-standing, pop-standing}
@@ -30,7 +30,7 @@ use Rattle.reversal.proofs.OneVariable.{by_test, pick, one_keeps}
 
 -- a stack in order where more modules are loaded
 
-more_owners : (few many : List Text) (items : List Item) → ((o : Text) → has o few ≡ true → has o many ≡ true) → list_all (λ item. is_loaded_owner few item.0) items ≡ true → list_all (λ item. is_loaded_owner many item.0) items ≡ true
+more_owners : (few many : List Text) (items : List OwnedValue) → ((o : Text) → has o few ≡ true → has o many ≡ true) → list_all (λ item. is_loaded_owner few item.0) items ≡ true → list_all (λ item. is_loaded_owner many item.0) items ≡ true
 more_owners few many [] h k = refl
 more_owners few many (item ∷ items) h k =
     let p = both_true (is_loaded_owner few item.0) (list_all (λ i. is_loaded_owner few i.0) items) k in

@@ -10,8 +10,8 @@ use Rattle.pathstate.specs.Paths.{PathState, IsPathState}
 use Rattle.pathstate.specs.PathVariables.{path_in}
 use Rattle.pathstate.specs.PathOrder.{IsPathInOrder}
 use Rattle.pathstate.specs.PathRuns as path_runs
-use Rattle.pathstate.proofs.PathLemmas.{Stands-add_all, Stands-drop_all}
-use Rattle.pathstate.proofs.PathOrderLemmas.{Leaves-added, Leaves-dropped}
+use Rattle.pathstate.proofs.PathLemmas.{PathStands-add_all, PathStands-drop_all}
+use Rattle.pathstate.proofs.PathOrderLemmas.{LeavesPath-added, LeavesPath-dropped}
 use Rattle.pathstate.proofs.Readable.{IsWritable-state_of}
 use Rattle.envlaws.specs.Places.{is_editable}
 use Rattle.envlaws.specs.Frames.{KeepsVariable}
@@ -113,7 +113,7 @@ unloads_fixed ways owner w k (r ∷ rs) b old new x h s f e v =
 
 pub record PathAt (b e : Environment) (w : Text) (d : ℕ) (n : Text → ℕ) : Type 0 where
   pub order : IsPathInOrder e w d
-  pub state : path_runs.Stands (path_in b w d) n (path_in e w d)
+  pub state : path_runs.PathStands (path_in b w d) n (path_in e w d)
   pub stack : lookup e (stack_name w) ≡ lookup b (stack_name w)
 
 pub path_state : (b : Environment) (w : Text) (d : ℕ) → IsPathState (path_in b w d)
@@ -125,7 +125,7 @@ path_same b e w d m n h p = subst (λ (f : Text → ℕ). PathAt b e w d f) (λ 
 pub path_kept : (b old new : Environment) (w : Text) (d : ℕ) (n : Text → ℕ) → KeepsVariable old new w → PathAt b old w d n → PathAt b new w d n
 path_kept b old new w d n k p = record {
   order = k.path_order d p.order;
-  state = subst (λ (s : PathState). path_runs.Stands (path_in b w d) n s) (sym (k.path d)) p.state;
+  state = subst (λ (s : PathState). path_runs.PathStands (path_in b w d) n s) (sym (k.path d)) p.state;
   stack = k.stack_text ∙ p.stack;
 }
 
@@ -134,10 +134,10 @@ load_path : (ways : Text → Way) (owner w : Text) (d : ℕ) (r : Record) (b old
 load_path ways owner w d r b old new n h s f e p = by_test (is_named w (variable_of r)) _
     (λ t. let u = uses_path ways w d r h s t in
     let a = sym (u.loads owner old) ∙ (effect_edits load owner r old new e).1 in
-    let l = Leaves-added old new w d u.elements u.end a in
+    let l = LeavesPath-added old new w d u.elements u.end a in
     path_same b new w d (λ x. n x + count_by (bytes_eq x) u.elements) (λ x. adds_by w x r + n x) (λ x. rw (u.by x) (omega arith)) (record {
       order = l.order;
-      state = subst (λ (z : PathState). path_runs.Stands (path_in b w d) (λ x. n x + count_by (bytes_eq x) u.elements) z) (sym l.state) (Stands-add_all (path_in b w d) (path_in old w d) n u.elements u.end (path_state b w d) p.state);
+      state = subst (λ (z : PathState). path_runs.PathStands (path_in b w d) (λ x. n x + count_by (bytes_eq x) u.elements) z) (sym l.state) (PathStands-add_all (path_in b w d) (path_in old w d) n u.elements u.end (path_state b w d) p.state);
       stack = (path_edits_variable old new w (add_edits old new w d u.elements u.end a)).1 ∙ p.stack;
     }))
     (λ t. path_same b new w d n (λ x. adds_by w x r + n x) (λ x. rw (adds_by_none w x r t) (omega arith)) (path_kept b old new w d n (one_keeps load loads ways owner w r old new s f e t) p))
@@ -155,12 +155,12 @@ unload_path : (ways : Text → Way) (owner w : Text) (d : ℕ) (r : Record) (b o
 unload_path ways owner w d r b old new n h s f e p = by_test (is_named w (variable_of r)) _
     (λ t. let u = uses_path ways w d r h s t in
     let a = sym (u.unloads owner old) ∙ (effect_edits unload owner r old new e).1 in
-    let l = Leaves-dropped old new w d u.elements a in
+    let l = LeavesPath-dropped old new w d u.elements a in
     let p2 : PathAt b old w d (λ x. count_by (bytes_eq x) u.elements + n x) = path_same b old w d (λ x. adds_by w x r + n x) _ (λ x. rw (u.by x) refl) p in
     path_same b new w d (λ x. (count_by (bytes_eq x) u.elements + n x) - count_by (bytes_eq x) u.elements) n (λ x. omega arith) (record {
       order = l.order;
-      state = subst (λ (z : PathState). path_runs.Stands (path_in b w d) (λ x. (count_by (bytes_eq x) u.elements + n x) - count_by (bytes_eq x) u.elements) z) (sym l.state)
-          (Stands-drop_all (path_in b w d) (path_in old w d) (λ x. count_by (bytes_eq x) u.elements + n x) u.elements (path_state b w d) p2.state (λ x. omega arith));
+      state = subst (λ (z : PathState). path_runs.PathStands (path_in b w d) (λ x. (count_by (bytes_eq x) u.elements + n x) - count_by (bytes_eq x) u.elements) z) (sym l.state)
+          (PathStands-drop_all (path_in b w d) (path_in old w d) (λ x. count_by (bytes_eq x) u.elements + n x) u.elements (path_state b w d) p2.state (λ x. omega arith));
       stack = (path_edits_variable old new w (drop_edits old new w d u.elements a)).1 ∙ p.stack;
     }))
     (λ t. path_same b new w d (λ x. adds_by w x r + n x) n (λ x. rw (adds_by_none w x r t) (omega arith)) (path_kept b old new w d (λ x. adds_by w x r + n x) (one_keeps unload unloads ways owner w r old new s f e t) p))

@@ -4,19 +4,19 @@ use Rattle.environment.specs.Environment.{Environment}
 use Rattle.modulerecords.specs.Moves.{Move, Lead}
 use Rattle.modulerecords.proofs.Moved.{leads_go_on}
 use Rattle.reversal.specs.Runs.{AreReversible}
-use Rattle.reversal.specs.Requests.{Outcome, accepted, refused, moves_of, all_moves, Comes, Run}
+use Rattle.reversal.specs.Requests.{RequestOutcome, accepted, refused, moves_of, all_moves, RequestLeads, RunLeads}
 use Rattle.reversal.specs.Laws.{RequestsReturn}
 use Rattle.reversal.proofs.WholeRuns.{runs_return, front_reversible}
 
-comes_by : (o : Outcome) (old new : Environment) → Comes o old new → Lead (moves_of o) old new
+comes_by : (o : RequestOutcome) (old new : Environment) → RequestLeads o old new → Lead (moves_of o) old new
 comes_by (accepted moves) old new h = h
 comes_by refused old new h = h
 
-run_by : (os : List Outcome) (old new : Environment) → Run os old new → Lead (all_moves os) old new
+run_by : (os : List RequestOutcome) (old new : Environment) → RunLeads os old new → Lead (all_moves os) old new
 run_by [] old new h = h
 run_by (o ∷ os) old new h = leads_go_on (moves_of o) (all_moves os) old h.0 new (comes_by o old h.0 h.1) (run_by os h.0 new h.2)
 
-run_parts : (done rest : List Outcome) (old new : Environment) → Run (done ++ rest) old new → (mid : Environment) × Run done old mid × Run rest mid new
+run_parts : (done rest : List RequestOutcome) (old new : Environment) → RunLeads (done ++ rest) old new → (mid : Environment) × RunLeads done old mid × RunLeads rest mid new
 run_parts [] rest old new h = (old, refl, h)
 run_parts (o ∷ done) rest old new h = let p = run_parts done rest h.0 new h.2 in (p.0, (h.0, h.1, p.1), p.2)
 
@@ -24,7 +24,7 @@ joined : (a b c : List Move) → (a ++ b) ++ c ≡ a ++ (b ++ c)
 joined [] b c = refl
 joined (m ∷ a) b c = ap (λ (l : List Move). m ∷ l) (joined a b c)
 
-moves_parts : (done rest : List Outcome) → all_moves (done ++ rest) ≡ all_moves done ++ all_moves rest
+moves_parts : (done rest : List RequestOutcome) → all_moves (done ++ rest) ≡ all_moves done ++ all_moves rest
 moves_parts [] rest = refl
 moves_parts (o ∷ done) rest = ap (λ (l : List Move). moves_of o ++ l) (moves_parts done rest) ∙ sym (joined (moves_of o) (all_moves done) (all_moves rest))
 

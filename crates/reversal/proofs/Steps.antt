@@ -11,7 +11,7 @@ use Rattle.environment.specs.Fields.{without}
 use Rattle.environment.specs.Environment.{Environment, lookup}
 use Rattle.environment.proofs.TextLemmas.{same_text, bytes_eq-same}
 use Rattle.environment.proofs.EditLemmas.{both_true}
-use Rattle.stackstate.specs.Stacks.{Item, StackState, is_owner, holds}
+use Rattle.stackstate.specs.Stacks.{OwnedValue, StackState, is_owner, holds}
 use Rattle.stackstate.specs.StackRuns.{IsOwnedStart, standing}
 use Rattle.stackstate.specs.StackVariables.{stack_in, is_loaded_owner, IsStackInOrder}
 use Rattle.stackstate.proofs.StackInOrder.{order_of_fewer}
@@ -19,7 +19,7 @@ use Rattle.loadedlist.specs.Loaded.{Entry, names_of, loaded_in, AreLoadedInOrder
 use Rattle.loadedlist.proofs.LoadedEdits.{loaded_after_add}
 use Rattle.loadedlist.proofs.LoadedOrder.{add_in_order, drop_keeps_order}
 use Rattle.envlaws.specs.Places.{place_of, is_editable}
-use Rattle.envlaws.specs.Places.Place.{Other}
+use Rattle.envlaws.specs.Places.StatePlace.{Other}
 use Rattle.envlaws.specs.Frames.{KeepsVariable, KeepsLoaded}
 use Rattle.envlaws.specs.EnvLaws.{AreSound}
 use Rattle.envlaws.proofs.FrameLemmas.{add_edits_loaded, drop_edits_loaded, loaded_keeps, loaded_rest_stays}
@@ -98,7 +98,7 @@ sound_of e xs o l = let p = list_in_order e o in subst AreSound (same_Some p.0 x
 
 -- no item of the start is of a module that isn't loaded there
 
-owners_foreign : (n : Text) (names : List Text) (items : List Item) → list_all (λ item. is_loaded_owner names item.0) items ≡ true → has n names ≡ false → holds n items ≡ false
+owners_foreign : (n : Text) (names : List Text) (items : List OwnedValue) → list_all (λ item. is_loaded_owner names item.0) items ≡ true → has n names ≡ false → holds n items ≡ false
 owners_foreign n names [] h k = refl
 owners_foreign n names (item ∷ items) h k =
     let p = both_true (is_loaded_owner names item.0) (list_all (λ i. is_loaded_owner names i.0) items) h in

@@ -9,13 +9,13 @@ use Rattle.environment.proofs.TextLemmas.{same_text}
 use Rattle.environment.proofs.EnvLemmas.{same_environment}
 use Rattle.pathstate.specs.PathVariables.{path_in}
 use Rattle.pathstate.specs.PathOrder.{IsPathInOrder}
-use Rattle.pathstate.proofs.PathLemmas.{Stands-start, Stands-restored}
+use Rattle.pathstate.proofs.PathLemmas.{PathStands-start, PathStands-restored}
 use Rattle.stackstate.specs.StackRuns.{standing}
 use Rattle.stackstate.specs.StackVariables.{stack_in, IsStackInOrder}
 use Rattle.loadedlist.specs.LoadedTexts.{names_variable, files_variable, conflicts_variable, prereqs_variable}
 use Rattle.loadedlist.specs.Loaded.{Entry, names_of, loaded_in}
-use Rattle.envlaws.specs.Places.{Place, place_of, is_editable, IsNameOf}
-use Rattle.envlaws.specs.Places.Place.{Variable, Counters, Stack, LoadedNames, LoadedFiles, LoadedConflicts, LoadedPrereqs, Other}
+use Rattle.envlaws.specs.Places.{StatePlace, place_of, is_editable, IsNameOf}
+use Rattle.envlaws.specs.Places.StatePlace.{Variable, Counters, Stack, LoadedNames, LoadedFiles, LoadedConflicts, LoadedPrereqs, Other}
 use Rattle.envlaws.proofs.PlaceLemmas.{name_of_place}
 use Rattle.envlaws.proofs.StateLemmas.{start_of, one_path, one_stack, one_list, list_in_order}
 use Rattle.modulerecords.specs.Records.{Record}
@@ -97,7 +97,7 @@ kept_start ways b xs g = record {
     go : (w : Text) → is_editable w ≡ true → (y : Way) → ways w ≡ y → Held y b w (names_of xs) [] b
     go w f Untouched q = record { value = refl; counters = refl; stack = refl }
     go w f (Fixed k) q = record { value = refl; counters = refl; stack = refl }
-    go w f (Pathed d) q = record { order = g.start.order.paths w d f q; state = Stands-start (path_in b w d) (path_state b w d); stack = refl }
+    go w f (Pathed d) q = record { order = g.start.order.paths w d f q; state = PathStands-start (path_in b w d) (path_state b w d); stack = refl }
     go w f Stacked q =
         let order = g.start.order.stacks w xs f q g.list in
         let s = start_of (names_of xs) b w g.sound.names order in
@@ -112,7 +112,7 @@ back ways b e xs g k = same_environment e b (λ n. go n (place_of n) refl (name_
     cell v f Untouched q h = h
     cell v f (Fixed y) q h = h
     cell v f (Pathed d) q h =
-        let p = one_path e b v d h.order (g.start.order.paths v d f q) (Stands-restored (path_in b v d) (path_in e v d) (live_adds v []) h.state (λ x. refl)) in
+        let p = one_path e b v d h.order (g.start.order.paths v d f q) (PathStands-restored (path_in b v d) (path_in e v d) (live_adds v []) h.state (λ x. refl)) in
         record { value = p.elements; counters = p.counters; stack = h.stack }
     cell v f Stacked q h =
         let z : h.pushes ≡ [] = order_none h.pushes [] h.order refl in
@@ -129,7 +129,7 @@ back ways b e xs g k = same_environment e b (λ n. go n (place_of n) refl (name_
     at : (n m : Text) → n ≡ m → lookup e m ≡ lookup b m → lookup e n ≡ lookup b n
     at n m q h = subst (λ (t : Text). lookup e t ≡ lookup b t) (sym q) h
 
-    go : (n : Text) (p : Place) → place_of n ≡ p → IsNameOf n (place_of n) → lookup e n ≡ lookup b n
+    go : (n : Text) (p : StatePlace) → place_of n ≡ p → IsNameOf n (place_of n) → lookup e n ≡ lookup b n
     go n (Variable v) q i = let j : IsNameOf n (Variable v) = subst (IsNameOf n) q i in at n v j.1 (texts v j.0).value
     go n (Counters v) q i = let j : IsNameOf n (Counters v) = subst (IsNameOf n) q i in at n (share_name v) j.1 (texts v j.0).counters
     go n (Stack v) q i = let j : IsNameOf n (Stack v) = subst (IsNameOf n) q i in at n (stack_name v) j.1 (texts v j.0).stack

@@ -8,7 +8,7 @@ use Rattle.modulerecords.specs.Effects.{load, effects}
 use Rattle.modulerecords.specs.Moves.{Module, Move, Loads, entry_of, moved, Lead}
 use Rattle.reversal.specs.Ways.{Way}
 use Rattle.reversal.specs.Standing.{IsInOrder, IsStart, Stands}
-use Rattle.reversal.specs.Requests.{Outcome, all_moves, Run}
+use Rattle.reversal.specs.Requests.{RequestOutcome, all_moves, RunLeads}
 use Rattle.reversal.specs.Runs.{live_after, AreFit, AreReversible}
 
 -- in order, standing over the start, and the start itself where no module is live
@@ -34,9 +34,10 @@ EachOnTheWay =
 -- So is every environment of a run of requests, some of which may have been refused.
 abbrev pub RequestsReturn : Type 0
 RequestsReturn =
-    (ways : Text → Way) (start e : Environment) (done rest : List Outcome) → IsStart ways start
-    → AreReversible ways [] (all_moves (done ++ rest)) → Run (done ++ rest) start e
-    → (mid : Environment) × Run done start mid × Run rest mid e × Holds ways start (live_after [] (all_moves done)) mid
+    (ways : Text → Way) (start e : Environment) (done rest : List RequestOutcome) → IsStart ways start
+    → AreReversible ways [] (all_moves (done ++ rest)) → RunLeads (done ++ rest) start e
+    → (mid : Environment) × RunLeads done start mid × RunLeads rest mid e
+    × Holds ways start (live_after [] (all_moves done)) mid
 
 -- The same from any environment that is in order and stands over a start, whatever led there.
 abbrev pub StepsKeep : Type 0

@@ -11,7 +11,7 @@ use Rattle.stackstate.specs.StackRuns.{standing}
 use Rattle.stackstate.specs.StackVariables.{stack_in, IsStackInOrder}
 use Rattle.loadedlist.specs.Loaded.{Entry, names_of, loaded_in, AreLoadedInOrder}
 use Rattle.envlaws.specs.Places.{place_of, is_editable}
-use Rattle.envlaws.specs.Places.Place.{Other}
+use Rattle.envlaws.specs.Places.StatePlace.{Other}
 use Rattle.modulerecords.specs.Moves.{Module}
 use Rattle.reversal.specs.Ways.{Way, Untouched, Fixed, Pathed, Stacked}
 use Rattle.reversal.specs.Live.{live_set, live_adds, live_pushes, entries_over}
@@ -37,7 +37,7 @@ pub record HasValue (start e : Environment) (v : Text) (set : Option Text) : Typ
 
 -- the path has these adds over that of the start, and the variable's stack is as in the start
 pub record HasPath (start e : Environment) (v : Text) (delim : ℕ) (live : Text → ℕ) : Type 0 where
-  pub state : path_runs.Stands (path_in start v delim) live (path_in e v delim)
+  pub state : path_runs.PathStands (path_in start v delim) live (path_in e v delim)
   pub stack : lookup e (stack_name v) ≡ lookup start (stack_name v)
 
 -- the same pushes in any order

@@ -5,15 +5,15 @@ use Rattle.std.proofs.lemmas.Bool.Decides.{nat_tests}
 use Rattle.std.proofs.lemmas.List.Folds.{list_all-append}
 use Rattle.std.specs.List.{flat_map, list_all, find}
 use Rattle.shells.specs.declared.shell.Shell.{Shell}
-use Rattle.environment.specs.Changes.{Edit}
+use Rattle.environment.specs.Changes.{NewValue}
 use Rattle.shells.specs.declared.family.Family.{Family}
 use Rattle.shells.specs.declared.family.Family.TheVariants.{Sh, Csh, Fish}
 use Rattle.shells.specs.Shells.{family_of}
-use Rattle.shelltext.specs.Reading.{is_mark, is_plain, is_unsayable, Part, plain, mark, IsPart, AreParts, part_value, part_text, inner_text, value_text, Spells, Says, AreLines, IsText}
+use Rattle.shelltext.specs.Reading.{is_mark, is_plain, is_unsayable, ValuePart, plain, mark, IsPart, AreParts, part_value, part_text, inner_text, value_text, Spells, SaysChange, AreLines, IsText}
 use Rattle.shelltext.specs.Printing.{spell, marked, quoted, is_sayable, value_is_sayable, printed_line, line_by}
 
 -- the parts of a value, behind plain bytes xs
-abbrev parts_from : Family → List ℕ → List ℕ → List Part
+abbrev parts_from : Family → List ℕ → List ℕ → List ValuePart
 parts_from family xs [] = plain xs ∷ []
 parts_from family xs (b ∷ bs) = cond (is_mark family b) (plain xs ∷ mark b ∷ parts_from family [] bs) (parts_from family (xs ++ b ∷ []) bs)
 
@@ -71,12 +71,12 @@ spells family value sayable = record {
   meant = meant family [] value;
 }
 
-says : (family : Family) (name : List ℕ) (value : Option (List ℕ)) → value_is_sayable family value ≡ true → Says family (line_by family name value) name value
+says : (family : Family) (name : List ℕ) (value : Option (List ℕ)) → value_is_sayable family value ≡ true → SaysChange family (line_by family name value) name value
 says family name None sayable = refl
 says family name (Some value) sayable = (quoted family value, spells family value sayable, refl)
 
--- what is printed of sayable settings says them
-pub text_from_sayable : (family : Family) (ss : List Edit) → list_all (is_sayable family) ss ≡ true → AreLines family (flat_map (printed_line family) ss) ss
+-- what is printed of sayable changes says them
+pub text_from_sayable : (family : Family) (ss : List NewValue) → list_all (is_sayable family) ss ≡ true → AreLines family (flat_map (printed_line family) ss) ss
 text_from_sayable family [] all = refl
 text_from_sayable family (s ∷ ss) all =
     let p = and_parts _ _ all in
@@ -98,23 +98,23 @@ plains_sayable family (b ∷ bs) e =
     let p = and_parts (is_plain family b) (list_all (is_plain family) bs) e in
     rw (plain_sayable (is_mark family b) (is_unsayable family b) p.0) (plains_sayable family bs p.1)
 
-part_sayable : (family : Family) (part : Part) → IsPart family part → list_all (λ b. not (is_unsayable family b)) (part_value part) ≡ true
+part_sayable : (family : Family) (part : ValuePart) → IsPart family part → list_all (λ b. not (is_unsayable family b)) (part_value part) ≡ true
 part_sayable family (plain bytes) is = plains_sayable family bytes is
 part_sayable family (mark b) is = rw (mark_sayable family b is) refl
 
-parts_sayable : (family : Family) (parts : List Part) → AreParts family parts → list_all (λ b. not (is_unsayable family b)) (flat_map part_value parts) ≡ true
+parts_sayable : (family : Family) (parts : List ValuePart) → AreParts family parts → list_all (λ b. not (is_unsayable family b)) (flat_map part_value parts) ≡ true
 parts_sayable family [] all = refl
 parts_sayable family (part ∷ parts) all =
     rw (list_all-append (λ b. not (is_unsayable family b)) (part_value part) (flat_map part_value parts), part_sayable family part all.0) (parts_sayable family parts all.1)
 
-sayable_from_says : (family : Family) (line name : List ℕ) (value : Option (List ℕ)) → Says family line name value → value_is_sayable family value ≡ true
+sayable_from_says : (family : Family) (line name : List ℕ) (value : Option (List ℕ)) → SaysChange family line name value → value_is_sayable family value ≡ true
 sayable_from_says family line name None h = refl
 sayable_from_says family line name (Some value) h =
     let P : List ℕ → Type 0 = λ v. list_all (λ b. not (is_unsayable family b)) v ≡ true in
     subst P h.1.meant (parts_sayable family h.1.parts h.1.proper)
 
 -- what a text says is sayable
-pub sayable_from_text : (family : Family) (text : List ℕ) (ss : List Edit) → AreLines family text ss → list_all (is_sayable family) ss ≡ true
+pub sayable_from_text : (family : Family) (text : List ℕ) (ss : List NewValue) → AreLines family text ss → list_all (is_sayable family) ss ≡ true
 sayable_from_text family text [] h = refl
 sayable_from_text family text (s ∷ ss) h =
     rw (h.2, sayable_from_says family h.0 s.0 s.1 h.3) (sayable_from_text family h.1 ss h.4)
@@ -132,7 +132,7 @@ none_found p [] e = refl
 none_found p (y ∷ ys) e = let q = and_parts (p y) (list_all p ys) e in rw q.0 (none_found p ys q.1)
 
 -- one that doesn't pass is in no text
-pub no_text : (shell : Shell) (ss : List Edit) (s : Edit) → find (λ s. not (is_sayable (family_of shell) s)) ss ≡ Some s → (text : List ℕ) → IsText shell text ss → ⊥
+pub no_text : (shell : Shell) (ss : List NewValue) (s : NewValue) → find (λ s. not (is_sayable (family_of shell) s)) ss ≡ Some s → (text : List ℕ) → IsText shell text ss → ⊥
 no_text shell ss s found text h =
     let none = none_found (is_sayable (family_of shell)) ss (sayable_from_text (family_of shell) text ss h) in
     let clash : Some s ≡ None = sym found ∙ none in

@@ -1,15 +1,15 @@
--- A reader of lines, from left to right. Where a text has lines, it finds them: so a text says at most one list of settings.
+-- A reader of lines, from left to right. Where a text has lines, it finds them: so a text says at most one list of changes.
 use Rattle.std.proofs.Common.{◌≡◌, ℕ, Bool, true, false, cond, not, ◌&&◌, ◌||◌, eqb, List, [], ◌∷◌, ◌++◌, Option, Some, None, codes, refl, sym, ap, ◌∙◌, subst, inl, inr, arith, append_assoc}
 use Rattle.std.proofs.lemmas.Bool.{cases_Bool, and_parts}
 use Rattle.std.proofs.lemmas.Bool.Decides.{nat_tests}
 use Rattle.std.specs.List.{flat_map, list_all}
 use Rattle.environment.specs.Names.{is_name_start, is_name_byte, is_variable_name}
-use Rattle.environment.specs.Changes.{Edit}
+use Rattle.environment.specs.Changes.{NewValue}
 use Rattle.shells.specs.declared.shell.Shell.{Shell}
 use Rattle.shells.specs.declared.family.Family.{Family}
 use Rattle.shells.specs.declared.family.Family.TheVariants.{Sh, Csh, Fish}
 use Rattle.shells.specs.Shells.{family_of}
-use Rattle.shelltext.specs.Reading.{is_mark, is_plain, Part, plain, mark, AreParts, part_value, part_text, inner_text, value_text, set_line, unset_line, Says, AreLines, IsText}
+use Rattle.shelltext.specs.Reading.{is_mark, is_plain, ValuePart, plain, mark, AreParts, part_value, part_text, inner_text, value_text, set_line, unset_line, SaysChange, AreLines, IsText}
 
 -- between parts, inside quotes, behind a backslash
 data Mode : Type 0 where
@@ -46,31 +46,31 @@ expect [] bs = Some bs
 expect (p ∷ ps) [] = None
 expect (p ∷ ps) (b ∷ bs) = cond (eqb p b) (expect ps bs) None
 
-abbrev ended : Edit → Option (List ℕ) → Option (Edit × List ℕ)
+abbrev ended : NewValue → Option (List ℕ) → Option (NewValue × List ℕ)
 ended s None = None
 ended s (Some rest) = Some (s, rest)
 
-abbrev valued : List ℕ → List ℕ → Option (List ℕ × List ℕ) → Option (Edit × List ℕ)
+abbrev valued : List ℕ → List ℕ → Option (List ℕ × List ℕ) → Option (NewValue × List ℕ)
 valued name tail None = None
 valued name tail (Some p) = ended (name, Some p.0) (expect tail p.1)
 
-abbrev unset_at : List ℕ → Option (Edit × List ℕ)
+abbrev unset_at : List ℕ → Option (NewValue × List ℕ)
 unset_at bs = ended ((name_at bs).0, None) (expect (59 ∷ 10 ∷ []) (name_at bs).1)
 
-abbrev sh_after : List ℕ → List ℕ → Option (Edit × List ℕ)
+abbrev sh_after : List ℕ → List ℕ → Option (NewValue × List ℕ)
 sh_after name [] = None
 sh_after name (b ∷ bs) = cond (eqb b 61) (valued name (codes "; export " ++ (name ++ 59 ∷ 10 ∷ [])) (value_at Sh outside bs)) (unset_at bs)
 
-abbrev set_after : Family → List ℕ → List ℕ → Option (Edit × List ℕ)
+abbrev set_after : Family → List ℕ → List ℕ → Option (NewValue × List ℕ)
 set_after family name [] = None
 set_after family name (b ∷ bs) = valued name (59 ∷ 10 ∷ []) (value_at family outside bs)
 
-abbrev set_or : Family → List ℕ → Option (List ℕ) → Option (List ℕ) → Option (Edit × List ℕ)
+abbrev set_or : Family → List ℕ → Option (List ℕ) → Option (List ℕ) → Option (NewValue × List ℕ)
 set_or family bs (Some rest) unset = set_after family (name_at rest).0 (name_at rest).1
 set_or family bs None None = None
 set_or family bs None (Some rest) = unset_at rest
 
-abbrev line_at : Family → List ℕ → Option (Edit × List ℕ)
+abbrev line_at : Family → List ℕ → Option (NewValue × List ℕ)
 line_at Sh bs = sh_after (name_at bs).0 (name_at bs).1
 line_at Csh bs = set_or Csh bs (expect (codes "setenv ") bs) (expect (codes "unsetenv ") bs)
 line_at Fish bs = set_or Fish bs (expect (codes "set -xg ") bs) (expect (codes "set -e ") bs)
@@ -119,21 +119,21 @@ inside_plain family (b ∷ bytes) t all =
     let p = and_parts (is_plain family b) (list_all (is_plain family) bytes) all in
     rw (no_quote family b p.0, no_backslash family b p.0, p.0) (ap (onto b) (inside_plain family bytes t p.1))
 
-quoted_value : (family : Family) → is_fish family ≡ false → (ps : List Part) → AreParts family ps → (t : List ℕ) → value_at family outside (flat_map part_text ps ++ 59 ∷ t) ≡ Some (flat_map part_value ps, 59 ∷ t)
+quoted_value : (family : Family) → is_fish family ≡ false → (ps : List ValuePart) → AreParts family ps → (t : List ℕ) → value_at family outside (flat_map part_text ps ++ 59 ∷ t) ≡ Some (flat_map part_value ps, 59 ∷ t)
 quoted_value family nf [] are t = refl
 quoted_value family nf (plain bytes ∷ ps) are t =
     rw (append_assoc bytes (39 ∷ []) (flat_map part_text ps), append_assoc bytes (39 ∷ flat_map part_text ps) (59 ∷ t), inside_plain family bytes (39 ∷ (flat_map part_text ps ++ 59 ∷ t)) are.0, nf, quoted_value family nf ps are.1 t)
     (prepended bytes (flat_map part_value ps) (59 ∷ t))
 quoted_value family nf (mark b ∷ ps) are t = rw (nf, are.0, quoted_value family nf ps are.1 t) refl
 
-inner_value : (ps : List Part) → AreParts Fish ps → (t : List ℕ) → value_at Fish inside (flat_map inner_text ps ++ 39 ∷ t) ≡ Some (flat_map part_value ps, t)
+inner_value : (ps : List ValuePart) → AreParts Fish ps → (t : List ℕ) → value_at Fish inside (flat_map inner_text ps ++ 39 ∷ t) ≡ Some (flat_map part_value ps, t)
 inner_value [] are t = refl
 inner_value (plain bytes ∷ ps) are t =
     rw (append_assoc bytes (flat_map inner_text ps) (39 ∷ t), inside_plain Fish bytes (flat_map inner_text ps ++ 39 ∷ t) are.0, inner_value ps are.1 t)
     (prepended bytes (flat_map part_value ps) t)
 inner_value (mark b ∷ ps) are t = rw (are.0, inner_value ps are.1 t) refl
 
-value_found : (family : Family) (ps : List Part) → AreParts family ps → (t : List ℕ) → value_at family outside (value_text family ps ++ 59 ∷ t) ≡ Some (flat_map part_value ps, 59 ∷ t)
+value_found : (family : Family) (ps : List ValuePart) → AreParts family ps → (t : List ℕ) → value_at family outside (value_text family ps ++ 59 ∷ t) ≡ Some (flat_map part_value ps, 59 ∷ t)
 value_found Sh ps are t = quoted_value Sh refl ps are t
 value_found Csh ps are t = quoted_value Csh refl ps are t
 value_found Fish ps are t = rw (append_assoc (flat_map inner_text ps) (39 ∷ []) (59 ∷ t)) (inner_value ps are (59 ∷ t))
@@ -155,12 +155,12 @@ sh_step n x e = rw (named n 61 x (later_all n e) refl) refl
 key_step : (family : Family) (n x : List ℕ) → is_variable_name n ≡ true → set_after family (name_at (n ++ 32 ∷ x)).0 (name_at (n ++ 32 ∷ x)).1 ≡ valued n (59 ∷ 10 ∷ []) (value_at family outside x)
 key_step family n x e = rw (named n 32 x (later_all n e) refl) refl
 
-key_found : (family : Family) (n rest : List ℕ) (ps : List Part) → is_variable_name n ≡ true → AreParts family ps
+key_found : (family : Family) (n rest : List ℕ) (ps : List ValuePart) → is_variable_name n ≡ true → AreParts family ps
     → (let y = (n ++ 32 ∷ (value_text family ps ++ 59 ∷ 10 ∷ [])) ++ rest in set_after family (name_at y).0 (name_at y).1 ≡ Some ((n, Some (flat_map part_value ps)), rest))
 key_found family n rest ps e are =
     rw (append_assoc n (32 ∷ (value_text family ps ++ 59 ∷ 10 ∷ [])) rest, append_assoc (value_text family ps) (59 ∷ 10 ∷ []) rest, key_step family n (value_text family ps ++ 59 ∷ 10 ∷ rest) e, value_found family ps are (10 ∷ rest)) refl
 
-set_line_found : (family : Family) (n rest : List ℕ) (ps : List Part) → is_variable_name n ≡ true → AreParts family ps → line_at family (set_line family n (value_text family ps) ++ rest) ≡ Some ((n, Some (flat_map part_value ps)), rest)
+set_line_found : (family : Family) (n rest : List ℕ) (ps : List ValuePart) → is_variable_name n ≡ true → AreParts family ps → line_at family (set_line family n (value_text family ps) ++ rest) ≡ Some ((n, Some (flat_map part_value ps)), rest)
 set_line_found Sh n rest ps e are =
     ap (λ l. line_at Sh l) (append_assoc n (61 ∷ (value_text Sh ps ++ sh_tail n)) rest ∙ ap (λ (l : List ℕ). n ++ 61 ∷ l) (append_assoc (value_text Sh ps) (sh_tail n) rest))
     ∙ (sh_step n (value_text Sh ps ++ (sh_tail n ++ rest)) e
@@ -169,7 +169,7 @@ set_line_found Sh n rest ps e are =
 set_line_found Csh n rest ps e are = key_found Csh n rest ps e are
 set_line_found Fish n rest ps e are = key_found Fish n rest ps e are
 
-found : (family : Family) (line rest n : List ℕ) (v : Option (List ℕ)) → is_variable_name n ≡ true → Says family line n v → line_at family (line ++ rest) ≡ Some ((n, v), rest)
+found : (family : Family) (line rest n : List ℕ) (v : Option (List ℕ)) → is_variable_name n ≡ true → SaysChange family line n v → line_at family (line ++ rest) ≡ Some ((n, v), rest)
 found family line rest n None e h = ap (λ l. line_at family (l ++ rest)) h ∙ unset_line_found family n rest e
 found family line rest n (Some v) e h =
     ap (λ l. line_at family (l ++ rest)) (h.2 ∙ ap (λ t. set_line family n t) (sym h.1.spelled))
@@ -180,28 +180,28 @@ nothing_found Sh = refl
 nothing_found Csh = refl
 nothing_found Fish = refl
 
-clash : (family : Family) (text : List ℕ) (r : Edit) (rs : List Edit) → text ≡ [] → AreLines family text (r ∷ rs) → ⊥
+clash : (family : Family) (text : List ℕ) (r : NewValue) (rs : List NewValue) → text ≡ [] → AreLines family text (r ∷ rs) → ⊥
 clash family text r rs e k =
     let some = ap (λ l. line_at family l) k.5 ∙ found family k.0 k.1 r.0 r.1 k.2 k.3 in
     let none = ap (λ l. line_at family l) e ∙ nothing_found family in
     let both = sym some ∙ none in
-    let absurd_case : ◌≡◌ {A = Option (Edit × List ℕ)} (Some (r, k.1)) None = both in cc
+    let absurd_case : ◌≡◌ {A = Option (NewValue × List ℕ)} (Some (r, k.1)) None = both in cc
 
-one_list : (family : Family) (text : List ℕ) (ss rs : List Edit) → AreLines family text ss → AreLines family text rs → ss ≡ rs
+one_list : (family : Family) (text : List ℕ) (ss rs : List NewValue) → AreLines family text ss → AreLines family text rs → ss ≡ rs
 one_list family text [] [] h k = refl
 one_list family text [] (r ∷ rs) h k = absurd (clash family text r rs h k)
 one_list family text (s ∷ ss) [] h k = absurd (clash family text s ss k h)
 one_list family text (s ∷ ss) (r ∷ rs) h k =
     let a = ap (λ l. line_at family l) h.5 ∙ found family h.0 h.1 s.0 s.1 h.2 h.3 in
     let b = ap (λ l. line_at family l) k.5 ∙ found family k.0 k.1 r.0 r.1 k.2 k.3 in
-    let both : ◌≡◌ {A = Option (Edit × List ℕ)} (Some (s, h.1)) (Some (r, k.1)) = sym a ∙ b in
-    let same : ◌≡◌ {A = Edit × List ℕ} (s, h.1) (r, k.1) = cc in
+    let both : ◌≡◌ {A = Option (NewValue × List ℕ)} (Some (s, h.1)) (Some (r, k.1)) = sym a ∙ b in
+    let same : ◌≡◌ {A = NewValue × List ℕ} (s, h.1) (r, k.1) = cc in
     let rests : h.1 ≡ k.1 = ap (λ p. p.1) same in
     let P : List ℕ → Type 0 = λ t. AreLines family t ss in
     let firsts : s ≡ r = ap (λ p. p.0) same in
     let others : ss ≡ rs = one_list family k.1 ss rs (subst P rests h.4) k.4 in
     cc
 
--- a text says at most one list of settings
-pub one : (shell : Shell) (text : List ℕ) (ss rs : List Edit) → IsText shell text ss → IsText shell text rs → ss ≡ rs
+-- a text says at most one list of changes
+pub one : (shell : Shell) (text : List ℕ) (ss rs : List NewValue) → IsText shell text ss → IsText shell text rs → ss ≡ rs
 one shell text ss rs h k = one_list (family_of shell) text ss rs h k

@@ -6,7 +6,7 @@ use Rattle.shells.specs.declared.shell.Shell.{Shell}
 use Rattle.message.specs.Messages.{around}
 use Rattle.environment.specs.Texts.{Text}
 use Rattle.environment.specs.Names.{is_variable_name}
-use Rattle.environment.specs.Changes.{Edit}
+use Rattle.environment.specs.Changes.{NewValue}
 use Rattle.shells.specs.declared.family.Family.{Family}
 use Rattle.shells.specs.declared.family.Family.TheVariants.{Sh, Csh, Fish}
 use Rattle.shells.specs.Shells.{family_of}
@@ -19,8 +19,8 @@ abbrev pub value_is_sayable : Family → Option Text → Bool
 value_is_sayable family None = true
 value_is_sayable family (Some value) = list_all (λ b. not (is_unsayable family b)) value
 
--- the setting has a line
-abbrev pub is_sayable : Family → Edit → Bool
+-- the change has a line
+abbrev pub is_sayable : Family → NewValue → Bool
 is_sayable family s = is_variable_name s.0 && value_is_sayable family s.1
 
 -- what is written for a mark: in sh and csh the quotes end before it, and begin again behind it
@@ -41,17 +41,17 @@ abbrev pub line_by : Family → Text → Option Text → Text
 line_by family name None = unset_line family name
 line_by family name (Some value) = set_line family name (quoted family value)
 
--- the line that is written for a setting
-abbrev pub printed_line : Family → Edit → Text
+-- the line that is written for a change
+abbrev pub printed_line : Family → NewValue → Text
 printed_line family s = line_by family s.0 s.1
 
--- the first setting that no line says has this name, and so no text says them all
-pub record IsUnsayable (shell : Shell) (ss : List Edit) (name : Text) : Type 0 where
+-- the first change that no line says has this name, and so no text says them all
+pub record IsUnsayable (shell : Shell) (ss : List NewValue) (name : Text) : Type 0 where
   pub first : option_map (λ s. s.0) (find (λ s. not (is_sayable (family_of shell) s)) ss) ≡ Some name
   pub no_text : (text : Text) → IsText shell text ss → ⊥
 
 -- why nothing is printed
-abbrev pub IsPrintFault : Shell → List Edit → PrintFault → Type 0
+abbrev pub IsPrintFault : Shell → List NewValue → PrintFault → Type 0
 IsPrintFault shell ss OutOfMemory = Unit {0}
 IsPrintFault shell ss (NotSayable name) = IsUnsayable shell ss (string_bytes name)
 

@@ -6,7 +6,7 @@ use Rattle.std.specs.List.{flat_map, list_all}
 use Rattle.environment.specs.Texts.{Text}
 use Rattle.environment.specs.Names.{is_variable_name}
 use Rattle.environment.specs.Environment.{Environment}
-use Rattle.environment.specs.Changes.{Edit, AreChanges, applied}
+use Rattle.environment.specs.Changes.{NewValue, AreChanges, applied}
 use Rattle.shells.specs.declared.shell.Shell.{Shell}
 use Rattle.shells.specs.declared.family.Family.{Family}
 use Rattle.shells.specs.declared.family.Family.TheVariants.{Sh, Csh, Fish}
@@ -30,35 +30,35 @@ abbrev pub is_plain : Family → ℕ → Bool
 is_plain family b = not (is_mark family b || is_unsayable family b)
 
 -- a part of a value: plain bytes, or a mark
-pub data Part : Type 0 where
-  plain : Text → Part
-  mark : ℕ → Part
+pub data ValuePart : Type 0 where
+  plain : Text → ValuePart
+  mark : ℕ → ValuePart
 
-abbrev pub IsPart : Family → Part → Type 0
+abbrev pub IsPart : Family → ValuePart → Type 0
 IsPart family (plain bytes) = list_all (is_plain family) bytes ≡ true
 IsPart family (mark b) = is_mark family b ≡ true
 
-abbrev pub AreParts : Family → List Part → Type 0
+abbrev pub AreParts : Family → List ValuePart → Type 0
 AreParts family [] = Unit {0}
 AreParts family (part ∷ parts) = IsPart family part × AreParts family parts
 
 -- what a part stands for
-abbrev pub part_value : Part → Text
+abbrev pub part_value : ValuePart → Text
 part_value (plain bytes) = bytes
 part_value (mark b) = b ∷ []
 
 -- how a part is written in sh and csh: plain bytes between single quotes, a mark behind a backslash outside of quotes
-abbrev pub part_text : Part → Text
+abbrev pub part_text : ValuePart → Text
 part_text (plain bytes) = 39 ∷ (bytes ++ 39 ∷ [])
 part_text (mark b) = 92 ∷ b ∷ []
 
 -- how a part is written inside the quotes of a value in fish: plain bytes as they are, a mark behind a backslash
-abbrev pub inner_text : Part → Text
+abbrev pub inner_text : ValuePart → Text
 inner_text (plain bytes) = bytes
 inner_text (mark b) = 92 ∷ b ∷ []
 
 -- the text of a value that consists of these parts, joined; in fish all stand in one pair of single quotes
-abbrev pub value_text : Family → List Part → Text
+abbrev pub value_text : Family → List ValuePart → Text
 value_text Sh parts = flat_map part_text parts
 value_text Csh parts = flat_map part_text parts
 value_text Fish parts = 39 ∷ (flat_map inner_text parts ++ 39 ∷ [])
@@ -77,44 +77,47 @@ unset_line Fish name = codes "set -e " ++ (name ++ 59 ∷ 10 ∷ [])
 
 -- a spelling of a value, of one part at least
 pub record Spells (family : Family) (text value : Text) : Type 0 where
-  pub parts : List Part
+  pub parts : List ValuePart
   pub some : 0 < length parts
   pub proper : AreParts family parts
   pub spelled : value_text family parts ≡ text
   pub meant : flat_map part_value parts ≡ value
 
--- a line that says the setting
-abbrev pub Says : Family → Text → Text → Option Text → Type 0
-Says family line name None = line ≡ unset_line family name
-Says family line name (Some value) = (text : Text) × Spells family text value × (line ≡ set_line family name text)
+-- a line that says the change
+abbrev pub SaysChange : Family → Text → Text → Option Text → Type 0
+SaysChange family line name None = line ≡ unset_line family name
+SaysChange family line name (Some value) = (text : Text) × Spells family text value
+    × (line ≡ set_line family name text)
 
--- The text is lines that say these settings, in order, each of a variable's name.
-abbrev pub AreLines : Family → Text → List Edit → Type 0
+-- The text is lines that say these changes, in order, each of a variable's name.
+abbrev pub AreLines : Family → Text → List NewValue → Type 0
 AreLines family text [] = text ≡ []
 AreLines family text (s ∷ ss) =
-    (line : Text) × (rest : Text) × (is_variable_name s.0 ≡ true) × Says family line s.0 s.1 × AreLines family rest ss
+    (line : Text) × (rest : Text) × (is_variable_name s.0 ≡ true) × SaysChange family line s.0 s.1
+    × AreLines family rest ss
     × (text ≡ line ++ rest)
 
--- The shell reads the text as exactly these settings, in order.
-abbrev pub IsText : Shell → Text → List Edit → Type 0
-IsText shell text settings = AreLines (family_of shell) text settings
+-- The shell reads the text as exactly these changes, in order.
+abbrev pub IsText : Shell → Text → List NewValue → Type 0
+IsText shell text changes = AreLines (family_of shell) text changes
 
--- what a shell that runs the text makes of an environment: the settings, one after the other
+-- what a shell that runs the text makes of an environment: the changes, one after the other
 pub record MakesOf (shell : Shell) (text : Text) (old new : Environment) : Type 0 where
-  pub settings : List Edit
-  pub says : IsText shell text settings
-  pub made : new ≡ applied settings old
+  pub changes : List NewValue
+  pub says : IsText shell text changes
+  pub made : new ≡ applied changes old
 
--- The shell reads the text as the difference of two environments, exactly: a setting for each variable that differs,
+-- The shell reads the text as the difference of two environments, exactly: a change for each variable that differs,
 -- once, in the order of bytes, and nothing else.
 pub record SaysDifference (shell : Shell) (text : Text) (old new : Environment) : Type 0 where
-  pub settings : List Edit
-  pub exact : AreChanges old new settings
-  pub says : IsText shell text settings
+  pub changes : List NewValue
+  pub exact : AreChanges old new changes
+  pub says : IsText shell text changes
 
--- two lists of settings that one text says are one list
+-- two lists of changes that one text says are one list
 abbrev pub OneReading : Type 0
-OneReading = (shell : Shell) (text : Text) (ss rs : List Edit) → IsText shell text ss → IsText shell text rs → ss ≡ rs
+OneReading =
+    (shell : Shell) (text : Text) (ss rs : List NewValue) → IsText shell text ss → IsText shell text rs → ss ≡ rs
 
 -- a text makes one thing of an environment
 abbrev pub OneEffect : Type 0

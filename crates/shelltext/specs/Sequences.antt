@@ -6,17 +6,17 @@ use Rattle.shells.specs.declared.shell.Shell.{Shell}
 use Rattle.shelltext.specs.Reading.{MakesOf, SaysDifference}
 
 -- a text, and the shell that runs it
-abbrev pub Run : Type 0
-Run = Shell × Text
+abbrev pub ShellRun : Type 0
+ShellRun = Shell × Text
 
 -- what the runs make of an environment, each over what the one before it left
-abbrev pub MakeOf : List Run → Environment → Environment → Type 0
+abbrev pub MakeOf : List ShellRun → Environment → Environment → Type 0
 MakeOf [] old new = new ≡ old
 MakeOf (run ∷ runs) old new =
     (between : Environment) × MakesOf run.0 run.1 old between × MakeOf runs between new
 
 -- Each text says the difference between the environment before it and the next of these.
-abbrev pub SayDifferences : List Run → Environment → List Environment → Type 0
+abbrev pub SayDifferences : List ShellRun → Environment → List Environment → Type 0
 SayDifferences [] old [] = Unit {0}
 SayDifferences [] old (new ∷ later) = ⊥
 SayDifferences (run ∷ runs) old [] = ⊥
@@ -30,10 +30,10 @@ last_of old (new ∷ later) = last_of new later
 -- runs make one thing of an environment
 abbrev pub OneEffectTogether : Type 0
 OneEffectTogether =
-    (runs : List Run) (old new other : Environment) → MakeOf runs old new → MakeOf runs old other → new ≡ other
+    (runs : List ShellRun) (old new other : Environment) → MakeOf runs old new → MakeOf runs old other → new ≡ other
 
 -- runs whose texts say the differences from each environment to the next make the last of the first
 abbrev pub DifferencesMake : Type 0
 DifferencesMake =
-    (runs : List Run) (old : Environment) (later : List Environment) → SayDifferences runs old later
+    (runs : List ShellRun) (old : Environment) (later : List Environment) → SayDifferences runs old later
     → MakeOf runs old (last_of old later)

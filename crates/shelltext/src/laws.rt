@@ -2,7 +2,7 @@
 ghost use Rattle.shelltext.specs.Reading.{OneReading, OneEffect, DifferenceMakes};
 ghost use Rattle.shelltext.specs.Sequences.{OneEffectTogether, DifferencesMake};
 
-/// A text says at most one list of settings.
+/// A text says at most one list of changes.
 pub fn one_reading()
     ensures { OneReading }
 {}

@@ -1,6 +1,6 @@
 //! Changes of an environment as a text for a shell.
 ghost use Rattle.std.specs.Prelude.{◌≡◌, ◌++◌, map, Some, IfOk, IfErr, OnOk, string_bytes};
-ghost use Rattle.environment.specs.Changes.{edit_of};
+ghost use Rattle.environment.specs.Changes.{new_value_of};
 ghost use Rattle.message.specs.Messages.{text_of};
 ghost use Rattle.shelltext.specs.Reading.{IsText};
 ghost use Rattle.shelltext.specs.Printing as printing;
@@ -70,7 +70,7 @@ impl From<AllocError> for PrintFault {
 }
 
 fn is_sayable(family: Family, change: &Change) -> bool
-    ensures { result ≡ printing.is_sayable family (edit_of change.now) }
+    ensures { result ≡ printing.is_sayable family (new_value_of change.now) }
 {
     if !is_variable_name(change.name.as_str()) {
         return false;
@@ -82,7 +82,8 @@ fn is_sayable(family: Family, change: &Change) -> bool
 }
 
 fn push_line(out: &mut String, family: Family, change: &Change) -> Result<(), AllocError>
-    ensures { OnOk result (string_bytes out.new ≡ string_bytes out.old ++ printed_line family (edit_of change.now)) }
+    ensures { OnOk result (string_bytes out.new ≡ string_bytes out.old
+        ++ printed_line family (new_value_of change.now)) }
 {
     match &change.value {
         None => push_unset(out, family, change.name.as_str()),
@@ -95,8 +96,8 @@ fn push_line(out: &mut String, family: Family, change: &Change) -> Result<(), Al
 /// Refused as `NotSayable` exactly where no text of the shell says them all: a value holds NUL, or in csh and tcsh a
 /// newline, or a name is not a letter or `_` followed by letters, digits and `_`. The variable named is the first such.
 pub fn print_changes(alloc: Global, shell: Shell, changes: &[Change]) -> Result<String, PrintFault>
-    ensures text { IfOk result (λ text. IsText shell (string_bytes text) (map edit_of changes.now)) }
-    ensures fault { IfErr result (IsPrintFault shell (map edit_of changes.now)) }
+    ensures text { IfOk result (λ text. IsText shell (string_bytes text) (map new_value_of changes.now)) }
+    ensures fault { IfErr result (IsPrintFault shell (map new_value_of changes.now)) }
 {
     let family = shell.family();
     let mut out = String::new(alloc);

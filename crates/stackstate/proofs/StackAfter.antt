@@ -9,7 +9,7 @@ use Rattle.environment.specs.Names.{stack_name, name_reason, is_plain_value}
 use Rattle.environment.specs.Environment.{Environment, lookup, with_value}
 use Rattle.environment.specs.Fields.{are_distinct}
 use Rattle.environment.specs.Reasons.{EnvReason}
-use Rattle.stackstate.specs.Stacks.{Item, StackState, is_owner, has_owner, holds, without_owner, visible, base, push, settled, on_top, pop}
+use Rattle.stackstate.specs.Stacks.{OwnedValue, StackState, is_owner, has_owner, holds, without_owner, visible, base, push, settled, on_top, pop}
 use Rattle.stackstate.specs.StackTexts.{items_in, is_nothing, bottoms_last, owners_of, is_stack, can_own, is_writable_stack, stack_text}
 use Rattle.stackstate.specs.StackVariables.{stack_from, stack_in, with_stack, push_reason, pop_reason, pushed_on, popped_from, pushed_value, popped_value}
 use Rattle.stackstate.specs.StackOrder.{IsStackWritten}
@@ -43,11 +43,11 @@ distinct_less q (x ∷ xs) h =
 abbrev others : Text → List Text → List Text
 others m owners = filter (λ n. not (bytes_eq m n)) owners
 
-owners_if : (b : Bool) (n value : Text) (items : List Item) (ns : List Text) → owners_of items ≡ ns → owners_of (cond b ((Some n, value) ∷ items) items) ≡ cond b (n ∷ ns) ns
+owners_if : (b : Bool) (n value : Text) (items : List OwnedValue) (ns : List Text) → owners_of items ≡ ns → owners_of (cond b ((Some n, value) ∷ items) items) ≡ cond b (n ∷ ns) ns
 owners_if true n value items ns e = ap (λ (l : List Text). n ∷ l) e
 owners_if false n value items ns e = e
 
-owners-without : (m : Text) (items : List Item) → owners_of (without_owner m items) ≡ others m (owners_of items)
+owners-without : (m : Text) (items : List OwnedValue) → owners_of (without_owner m items) ≡ others m (owners_of items)
 owners-without m [] = refl
 owners-without m ((None, value) ∷ items) = owners-without m items
 owners-without m ((Some n, value) ∷ items) = owners_if (not (bytes_eq m n)) n value (without_owner m items) _ (owners-without m items)
@@ -62,15 +62,15 @@ not_other m (n ∷ ns) = at (bytes_eq m n) refl (not_other m ns)
 
 -- a stack without an owner is one
 
-nothing_less : (m : Text) (items : List Item) → is_nothing items ≡ true → is_nothing (without_owner m items) ≡ true
+nothing_less : (m : Text) (items : List OwnedValue) → is_nothing items ≡ true → is_nothing (without_owner m items) ≡ true
 nothing_less m [] h = refl
 nothing_less m (i ∷ is) h = absurd (false≢true h)
 
-above : (b : Bool) (m : Text) (items : List Item) → (b || is_nothing items) ≡ true → (b || is_nothing (without_owner m items)) ≡ true
+above : (b : Bool) (m : Text) (items : List OwnedValue) → (b || is_nothing items) ≡ true → (b || is_nothing (without_owner m items)) ≡ true
 above true m items h = refl
 above false m items h = nothing_less m items h
 
-bottoms_less : (m : Text) (items : List Item) → bottoms_last items ≡ true → bottoms_last (without_owner m items) ≡ true
+bottoms_less : (m : Text) (items : List OwnedValue) → bottoms_last items ≡ true → bottoms_last (without_owner m items) ≡ true
 bottoms_less m [] h = refl
 bottoms_less m (i ∷ is) h =
     let k = both_true (has_owner i.0 || is_nothing is) (bottoms_last is) h in
@@ -80,7 +80,7 @@ bottoms_less m (i ∷ is) h =
     at true f r = and_both (has_owner i.0 || is_nothing (without_owner m is)) (bottoms_last (without_owner m is)) f r
     at false f r = r
 
-pub all_less : (p q : Item → Bool) (items : List Item) → list_all p items ≡ true → list_all p (filter q items) ≡ true
+pub all_less : (p q : OwnedValue → Bool) (items : List OwnedValue) → list_all p items ≡ true → list_all p (filter q items) ≡ true
 all_less p q [] h = refl
 all_less p q (i ∷ is) h = at (q i) (both_true (p i) (list_all p is) h).0 (all_less p q is (both_true (p i) (list_all p is) h).1)
   where
@@ -89,22 +89,22 @@ all_less p q (i ∷ is) h = at (q i) (both_true (p i) (list_all p is) h).0 (all_
     at false k r = r
 
 -- what a written stack has
-pub record Parts (items : List Item) : Type 0 where
+pub record Parts (items : List OwnedValue) : Type 0 where
   pub bottoms : bottoms_last items ≡ true
   pub distinct : are_distinct (owners_of items) ≡ true
   pub owners : list_all (λ item. can_own item.0) items ≡ true
 
-pub parted : (items : List Item) → is_writable_stack items ≡ true → Parts items
+pub parted : (items : List OwnedValue) → is_writable_stack items ≡ true → Parts items
 parted items h =
     let k = both_true (is_stack items) (list_all (λ item. can_own item.0) items) h in
     let g = both_true (bottoms_last items) (are_distinct (owners_of items)) k.0 in
     record { bottoms = g.0; distinct = g.1; owners = k.1 }
 
-pub whole : (items : List Item) → Parts items → is_writable_stack items ≡ true
+pub whole : (items : List OwnedValue) → Parts items → is_writable_stack items ≡ true
 whole items p =
     and_both (is_stack items) (list_all (λ item. can_own item.0) items) (and_both (bottoms_last items) (are_distinct (owners_of items)) p.bottoms p.distinct) p.owners
 
-parts_less : (m : Text) (items : List Item) → Parts items → Parts (without_owner m items)
+parts_less : (m : Text) (items : List OwnedValue) → Parts items → Parts (without_owner m items)
 parts_less m items p =
     record {
       bottoms = bottoms_less m items p.bottoms;
@@ -112,7 +112,7 @@ parts_less m items p =
       owners = all_less (λ item. can_own item.0) (λ item. not (is_owner m item.0)) items p.owners;
     }
 
-parts_base : (items : List Item) (value : Option Text) → Parts items → Parts (base items value)
+parts_base : (items : List OwnedValue) (value : Option Text) → Parts items → Parts (base items value)
 parts_base [] None p = p
 parts_base [] (Some v) p = record { bottoms = refl; distinct = refl; owners = refl }
 parts_base (i ∷ is) value p = p
@@ -126,7 +126,7 @@ pub name_owns : (m : Text) → is_module_name m ≡ true → can_own (Some m) �
 name_owns [] h = absurd (false≢true h)
 name_owns (b ∷ bs) h = rw (lacks_mark (b ∷ bs) (name_lacks 38 (b ∷ bs) refl h)) refl
 
-parts_push : (items : List Item) (m value : Text) → is_module_name m ≡ true → Parts items → Parts ((Some m, value) ∷ without_owner m items)
+parts_push : (items : List OwnedValue) (m value : Text) → is_module_name m ≡ true → Parts items → Parts ((Some m, value) ∷ without_owner m items)
 parts_push items m value n p =
     let l = parts_less m items p in
     record {
@@ -135,7 +135,7 @@ parts_push items m value n p =
       owners = and_both (can_own (Some m)) (list_all (λ item. can_own item.0) (without_owner m items)) (name_owns m n) l.owners;
     }
 
-parts_settled : (b : Bool) (items : List Item) → Parts items → Parts (cond b items [])
+parts_settled : (b : Bool) (items : List OwnedValue) → Parts items → Parts (cond b items [])
 parts_settled true items p = p
 parts_settled false items p = record { bottoms = refl; distinct = refl; owners = refl }
 
@@ -145,7 +145,7 @@ pub record Accepts (old new : Environment) (name : Text) (s : StackState) : Type
   pub written : new ≡ with_stack old name s
   pub parts : Parts s.items
 
-read_items : (o : Option (List Item)) (v : Option Text) (s : StackState) → stack_from o v ≡ Some s → (o ≡ Some s.items) × (v ≡ s.value)
+read_items : (o : Option (List OwnedValue)) (v : Option Text) (s : StackState) → stack_from o v ≡ Some s → (o ≡ Some s.items) × (v ≡ s.value)
 read_items None v s h = cc
 read_items (Some items) v s h =
     let e : record { items = items; value = v } ≡ s = cc in
@@ -180,7 +180,7 @@ parts_pop s m p = at (holds m s.items)
     out = record { items = settled (without_owner m s.items); value = if on_top m s.items then visible (without_owner m s.items) else s.value }
 
     at : (b : Bool) → Parts (cond b out s).items
-    at true = parts_settled (list_any (λ (i : Item). has_owner i.0) (without_owner m s.items)) (without_owner m s.items) (parts_less m s.items p)
+    at true = parts_settled (list_any (λ (i : OwnedValue). has_owner i.0) (without_owner m s.items)) (without_owner m s.items) (parts_less m s.items p)
     at false = p
 
 pub pop_accepts : (old new : Environment) (name owner : Text) (s : StackState) → stack_in old name ≡ Some s → popped_value old name owner ≡ Ok new → holds owner s.items ≡ true → Accepts old new name (pop s owner)

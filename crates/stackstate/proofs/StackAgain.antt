@@ -8,7 +8,7 @@ use Rattle.environment.specs.Texts.{Text}
 use Rattle.environment.specs.Names.{stack_name}
 use Rattle.environment.specs.Environment.{Environment, lookup, with_value}
 use Rattle.environment.specs.Fields.{joined}
-use Rattle.stackstate.specs.Stacks.{Item, StackState}
+use Rattle.stackstate.specs.Stacks.{OwnedValue, StackState}
 use Rattle.environment.specs.Escapes.{is_special, escaped, unescaped_fields}
 use Rattle.stackstate.specs.StackTexts.{with_first, cut, owner_of, owner_text, item_of, items_of_elements, is_stack, only_stack, items_in, element_text, stack_text, can_own, is_writable_stack}
 use Rattle.stackstate.specs.StackVariables.{stack_in, with_stack}
@@ -48,7 +48,7 @@ elements_all : (x : Text) (xs : List Text) → unescaped_fields (joined (map esc
 elements_all x [] = ap unescaped_fields (sym (append-nothing (escaped x))) ∙ elements_last x
 elements_all x (y ∷ xs) = elements_more x (joined (map escaped (y ∷ xs))) ∙ ap (λ (l : List Text). x ∷ l) (elements_all y xs)
 
-map-twice : (items : List Item) → map (λ item. escaped (element_text item)) items ≡ map escaped (map element_text items)
+map-twice : (items : List OwnedValue) → map (λ item. escaped (element_text item)) items ≡ map escaped (map element_text items)
 map-twice [] = refl
 map-twice (i ∷ is) = ap (λ (l : List Text). escaped (element_text i) ∷ l) (map-twice is)
 
@@ -70,16 +70,16 @@ item_again None v h = refl
 item_again (Some []) v h = absurd (false≢true h)
 item_again (Some (c ∷ o)) v h = rw (cut_plain (c ∷ o) v (not_false _ h)) refl
 
-items_again : (items : List Item) → list_all (λ item. can_own item.0) items ≡ true → items_of_elements (map element_text items) ≡ Some items
+items_again : (items : List OwnedValue) → list_all (λ item. can_own item.0) items ≡ true → items_of_elements (map element_text items) ≡ Some items
 items_again [] h = refl
 items_again (i ∷ is) h =
     let k = both_true (can_own i.0) (list_all (λ item. can_own item.0) is) h in
     rw (item_again i.0 i.1 k.0, items_again is k.1) refl
 
-stack_only : (items : List Item) → is_stack items ≡ true → only_stack items ≡ Some items
+stack_only : (items : List OwnedValue) → is_stack items ≡ true → only_stack items ≡ Some items
 stack_only items h = rw h refl
 
-pub stack_again : (items : List Item) → is_writable_stack items ≡ true → items_in (stack_text items) ≡ Some items
+pub stack_again : (items : List OwnedValue) → is_writable_stack items ≡ true → items_in (stack_text items) ≡ Some items
 stack_again [] h = refl
 stack_again (i ∷ is) h =
     let k = both_true (is_stack (i ∷ is)) (list_all (λ item. can_own item.0) (i ∷ is)) h in
@@ -126,33 +126,33 @@ owner_can : (o : Text) → list_any (λ b. nat_eq b 38) o ≡ false → can_own 
 owner_can [] h = refl
 owner_can (c ∷ cs) h = rw h refl
 
-item_can : (o : Option (Text × Text)) (item : Item) → option_map (λ p. (owner_of p.0, p.1)) o ≡ Some item → ((p : Text × Text) → o ≡ Some p → list_any (λ b. nat_eq b 38) p.0 ≡ false) → can_own item.0 ≡ true
+item_can : (o : Option (Text × Text)) (item : OwnedValue) → option_map (λ p. (owner_of p.0, p.1)) o ≡ Some item → ((p : Text × Text) → o ≡ Some p → list_any (λ b. nat_eq b 38) p.0 ≡ false) → can_own item.0 ≡ true
 item_can None item h f = cc
 item_can (Some p) item h f =
     let e : (owner_of p.0, p.1) ≡ item = cc in
-    subst (λ (i : Item). can_own i.0 ≡ true) e (owner_can p.0 (f p refl))
+    subst (λ (i : OwnedValue). can_own i.0 ≡ true) e (owner_can p.0 (f p refl))
 
-all_can : (o : Option Item) (r : Option (List Item)) (items : List Item) → option_and_then (λ item. option_map (λ is. item ∷ is) r) o ≡ Some items
-    → ((i : Item) → o ≡ Some i → can_own i.0 ≡ true) → ((is : List Item) → r ≡ Some is → list_all (λ i. can_own i.0) is ≡ true) → list_all (λ i. can_own i.0) items ≡ true
+all_can : (o : Option OwnedValue) (r : Option (List OwnedValue)) (items : List OwnedValue) → option_and_then (λ item. option_map (λ is. item ∷ is) r) o ≡ Some items
+    → ((i : OwnedValue) → o ≡ Some i → can_own i.0 ≡ true) → ((is : List OwnedValue) → r ≡ Some is → list_all (λ i. can_own i.0) is ≡ true) → list_all (λ i. can_own i.0) items ≡ true
 all_can None r items h f g = cc
 all_can (Some i) None items h f g = cc
 all_can (Some i) (Some is) items h f g =
     let e : i ∷ is ≡ items = cc in
     let k : list_all (λ j. can_own j.0) (i ∷ is) ≡ true = rw (f i refl, g is refl) refl in
-    subst (λ (l : List Item). list_all (λ j. can_own j.0) l ≡ true) e k
+    subst (λ (l : List OwnedValue). list_all (λ j. can_own j.0) l ≡ true) e k
 
-items_can : (es : List Text) (items : List Item) → items_of_elements es ≡ Some items → list_all (λ i. can_own i.0) items ≡ true
-items_can [] items h = let e : [] ≡ items = cc in subst (λ (l : List Item). list_all (λ j. can_own j.0) l ≡ true) e refl
+items_can : (es : List Text) (items : List OwnedValue) → items_of_elements es ≡ Some items → list_all (λ i. can_own i.0) items ≡ true
+items_can [] items h = let e : [] ≡ items = cc in subst (λ (l : List OwnedValue). list_all (λ j. can_own j.0) l ≡ true) e refl
 items_can (e ∷ es) items h = all_can (item_of e) (items_of_elements es) items h (λ i k. item_can (cut e) i k (cut_owner e)) (items_can es)
 
-only_can : (b : Bool) (is items : List Item) → (if b then Some is else None) ≡ Some items → list_all (λ i. can_own i.0) is ≡ true → b ≡ is_stack is → is_writable_stack items ≡ true
-only_can true is items h k e = let s : is ≡ items = cc in let w : is_writable_stack is ≡ true = rw (sym e, k) refl in subst (λ (l : List Item). is_writable_stack l ≡ true) s w
+only_can : (b : Bool) (is items : List OwnedValue) → (if b then Some is else None) ≡ Some items → list_all (λ i. can_own i.0) is ≡ true → b ≡ is_stack is → is_writable_stack items ≡ true
+only_can true is items h k e = let s : is ≡ items = cc in let w : is_writable_stack is ≡ true = rw (sym e, k) refl in subst (λ (l : List OwnedValue). is_writable_stack l ≡ true) s w
 only_can false is items h k e = cc
 
-text_can : (r : Option (List Item)) (items : List Item) → option_and_then only_stack r ≡ Some items → ((is : List Item) → r ≡ Some is → list_all (λ i. can_own i.0) is ≡ true) → is_writable_stack items ≡ true
+text_can : (r : Option (List OwnedValue)) (items : List OwnedValue) → option_and_then only_stack r ≡ Some items → ((is : List OwnedValue) → r ≡ Some is → list_all (λ i. can_own i.0) is ≡ true) → is_writable_stack items ≡ true
 text_can None items h f = cc
 text_can (Some is) items h f = only_can (is_stack is) is items h (f is refl) refl
 
-pub stack_readable : (t : Option Text) (items : List Item) → items_in t ≡ Some items → is_writable_stack items ≡ true
-stack_readable None items h = let e : [] ≡ items = cc in subst (λ (l : List Item). is_writable_stack l ≡ true) e refl
+pub stack_readable : (t : Option Text) (items : List OwnedValue) → items_in t ≡ Some items → is_writable_stack items ≡ true
+stack_readable None items h = let e : [] ≡ items = cc in subst (λ (l : List OwnedValue). is_writable_stack l ≡ true) e refl
 stack_readable (Some t) items h = text_can (items_of_elements (unescaped_fields t)) items h (items_can (unescaped_fields t))

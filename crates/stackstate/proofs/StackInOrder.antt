@@ -7,7 +7,7 @@ use Rattle.environment.specs.Texts.{Text, has}
 use Rattle.environment.specs.Fields.{without}
 use Rattle.environment.specs.Names.{stack_name}
 use Rattle.environment.specs.Environment.{Environment, lookup}
-use Rattle.stackstate.specs.Stacks.{Item, StackState, is_owner, has_owner, holds, without_owner, visible, base, push, settled, on_top, pop}
+use Rattle.stackstate.specs.Stacks.{OwnedValue, StackState, is_owner, has_owner, holds, without_owner, visible, base, push, settled, on_top, pop}
 use Rattle.stackstate.specs.StackTexts.{items_in, is_stack, can_own, is_writable_stack, stack_text}
 use Rattle.stackstate.specs.StackVariables.{stack_from, stack_in, with_stack, pushed_value, popped_value, is_loaded_owner, IsWrittenStack, IsStackInOrder}
 use Rattle.environment.proofs.TextLemmas.{bytes_eq-symmetric, has-push, has-without}
@@ -21,7 +21,7 @@ loaded_owns : (loaded : List Text) (o : Option Text) → list_all is_module_name
 loaded_owns loaded None n h = refl
 loaded_owns loaded (Some owner) n h = name_owns owner (passes_each is_module_name owner loaded n h)
 
-loaded_own : (loaded : List Text) (items : List Item) → list_all is_module_name loaded ≡ true → list_all (λ item. is_loaded_owner loaded item.0) items ≡ true → list_all (λ item. can_own item.0) items ≡ true
+loaded_own : (loaded : List Text) (items : List OwnedValue) → list_all is_module_name loaded ≡ true → list_all (λ item. is_loaded_owner loaded item.0) items ≡ true → list_all (λ item. can_own item.0) items ≡ true
 loaded_own loaded [] n h = refl
 loaded_own loaded (i ∷ is) n h =
     let k = both_true (is_loaded_owner loaded i.0) (list_all (λ item. is_loaded_owner loaded item.0) is) h in
@@ -34,9 +34,9 @@ stack_none e name h = ap (λ (t : Option Text). stack_from (items_in t) (lookup 
 stack_written : (loaded : List Text) (e : Environment) (name : Text) (w : IsWrittenStack loaded e name) → list_all is_module_name loaded ≡ true → stack_in e name ≡ Some (record { items = w.items; value = lookup e name })
 stack_written loaded e name w n =
     let k : is_writable_stack w.items ≡ true = and_both (is_stack w.items) (list_all (λ item. can_own item.0) w.items) w.valid (loaded_own loaded w.items n w.owners) in
-    ap (λ (o : Option (List Item)). stack_from o (lookup e name)) (ap items_in w.text ∙ stack_again w.items k)
+    ap (λ (o : Option (List OwnedValue)). stack_from o (lookup e name)) (ap items_in w.text ∙ stack_again w.items k)
 
-base_loaded : (loaded : List Text) (items : List Item) (value : Option Text) → list_all (λ item. is_loaded_owner loaded item.0) items ≡ true → list_all (λ item. is_loaded_owner loaded item.0) (base items value) ≡ true
+base_loaded : (loaded : List Text) (items : List OwnedValue) (value : Option Text) → list_all (λ item. is_loaded_owner loaded item.0) items ≡ true → list_all (λ item. is_loaded_owner loaded item.0) (base items value) ≡ true
 base_loaded loaded [] None h = refl
 base_loaded loaded [] (Some v) h = refl
 base_loaded loaded (i ∷ is) value h = h
@@ -64,7 +64,7 @@ push_in_order loaded old new name owner value n o (inr w) h = inr (pushed loaded
 owner_left : (loaded : List Text) (m n : Text) → bytes_eq m n ≡ false → has n loaded ≡ true → has n (without m loaded) ≡ true
 owner_left loaded m n d h = has-without loaded m n ∙ and_both (not (bytes_eq n m)) (has n loaded) (rw (bytes_eq-symmetric n m ∙ d) refl) h
 
-owners_left : (loaded : List Text) (m : Text) (items : List Item) → list_all (λ item. is_loaded_owner loaded item.0) items ≡ true → list_all (λ item. is_loaded_owner (without m loaded) item.0) (without_owner m items) ≡ true
+owners_left : (loaded : List Text) (m : Text) (items : List OwnedValue) → list_all (λ item. is_loaded_owner loaded item.0) items ≡ true → list_all (λ item. is_loaded_owner (without m loaded) item.0) (without_owner m items) ≡ true
 owners_left loaded m [] h = refl
 owners_left loaded m ((None, value) ∷ items) h = owners_left loaded m items h
 owners_left loaded m ((Some n, value) ∷ items) h =
@@ -89,12 +89,12 @@ kept loaded e name m w h =
     }
 
 -- what the variable holds: the first value that is left, whether the item was on top or below
-first_left : (m : Text) (items : List Item) (t : Bool) → on_top m items ≡ t → cond t (visible (without_owner m items)) (visible items) ≡ visible (without_owner m items)
+first_left : (m : Text) (items : List OwnedValue) (t : Bool) → on_top m items ≡ t → cond t (visible (without_owner m items)) (visible items) ≡ visible (without_owner m items)
 first_left m items true h = refl
 first_left m [] false h = refl
 first_left m (i ∷ is) false h = rw h refl
 
-value_left : (m : Text) (items : List Item) (value : Option Text) → value ≡ visible items → (if on_top m items then visible (without_owner m items) else value) ≡ visible (without_owner m items)
+value_left : (m : Text) (items : List OwnedValue) (value : Option Text) → value ≡ visible items → (if on_top m items then visible (without_owner m items) else value) ≡ visible (without_owner m items)
 value_left m items value h = ap (λ (v : Option Text). if on_top m items then visible (without_owner m items) else v) h ∙ first_left m items (on_top m items) refl
 
 popped_items : (s : StackState) (m : Text) → holds m s.items ≡ true → (pop s m).items ≡ settled (without_owner m s.items)
@@ -103,7 +103,7 @@ popped_items s m h = rw h refl
 popped_value_is : (s : StackState) (m : Text) → holds m s.items ≡ true → (pop s m).value ≡ (if on_top m s.items then visible (without_owner m s.items) else s.value)
 popped_value_is s m h = rw h refl
 
-settled_if : (b : Bool) (items : List Item) → list_any (λ item. has_owner item.0) items ≡ b → settled items ≡ cond b items []
+settled_if : (b : Bool) (items : List OwnedValue) → list_any (λ item. has_owner item.0) items ≡ b → settled items ≡ cond b items []
 settled_if b items h = ap (λ (t : Bool). cond t items []) h
 
 popped : (loaded : List Text) (old new : Environment) (name owner : Text) (w : IsWrittenStack loaded old name) → list_all is_module_name loaded ≡ true → popped_value old name owner ≡ Ok new → holds owner w.items ≡ true
@@ -156,7 +156,7 @@ owner_of_more : (loaded : List Text) (x : Text) (o : Option Text) → is_loaded_
 owner_of_more loaded x None h = refl
 owner_of_more loaded x (Some n) h = has-push loaded x n ∙ ap (λ (b : Bool). bytes_eq n x || b) h ∙ or_true (bytes_eq n x)
 
-owners_of_more : (loaded : List Text) (x : Text) (items : List Item) → list_all (λ item. is_loaded_owner loaded item.0) items ≡ true → list_all (λ item. is_loaded_owner (loaded ++ x ∷ []) item.0) items ≡ true
+owners_of_more : (loaded : List Text) (x : Text) (items : List OwnedValue) → list_all (λ item. is_loaded_owner loaded item.0) items ≡ true → list_all (λ item. is_loaded_owner (loaded ++ x ∷ []) item.0) items ≡ true
 owners_of_more loaded x [] h = refl
 owners_of_more loaded x (i ∷ is) h =
     let k = both_true (is_loaded_owner loaded i.0) (list_all (λ item. is_loaded_owner loaded item.0) is) h in
@@ -167,7 +167,7 @@ order_of_more loaded e name owner (inl x) = inl x
 order_of_more loaded e name owner (inr w) =
     inr (record { items = w.items; valid = w.valid; owned = w.owned; owners = owners_of_more loaded owner w.items w.owners; text = w.text; value = w.value })
 
-same_items : (items : List Item) (v : Option Text) (s : StackState) (o : Option StackState) → o ≡ Some (record { items = items; value = v }) → o ≡ Some s → s.items ≡ items
+same_items : (items : List OwnedValue) (v : Option Text) (s : StackState) (o : Option StackState) → o ≡ Some (record { items = items; value = v }) → o ≡ Some s → s.items ≡ items
 same_items items v s o h k =
     let e : s ≡ record { items = items; value = v } = cc in
     ap (λ (t : StackState). t.items) e

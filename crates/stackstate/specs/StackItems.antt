@@ -7,14 +7,14 @@ use Rattle.std.specs.declared.string.String.{String}
 use Rattle.std.specs.declared.alloc.Global.{Global}
 use Rattle.environment.specs.Texts.{Text}
 use Rattle.stackstate.specs.declared.stack_texts.StackItem.{StackItem}
-use Rattle.stackstate.specs.Stacks.{Item, StackState}
+use Rattle.stackstate.specs.Stacks.{OwnedValue, StackState}
 
 -- the item that a value of the code is
-abbrev pub item_in : StackItem → Item
+abbrev pub item_in : StackItem → OwnedValue
 item_in item = (option_map string_bytes item.owner, string_bytes item.value)
 
 -- the items that a vector holds
-abbrev pub items_seen : Vec StackItem Global → List Item
+abbrev pub items_seen : Vec StackItem Global → List OwnedValue
 items_seen v = map item_in v.items
 
 -- the state that items and a value of the code that was read are

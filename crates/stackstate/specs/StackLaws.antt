@@ -6,7 +6,7 @@ use Rattle.environment.specs.Texts.{Text, has}
 use Rattle.environment.specs.Names.{stack_name}
 use Rattle.environment.specs.Fields.{without}
 use Rattle.environment.specs.Environment.{Environment, lookup}
-use Rattle.stackstate.specs.Stacks.{Item, StackState, holds, push, pop}
+use Rattle.stackstate.specs.Stacks.{OwnedValue, StackState, holds, push, pop}
 use Rattle.stackstate.specs.StackRuns.{StackEdit, after, live, other_pushes, IsOwnedStart, AreStrangers, standing}
 use Rattle.stackstate.specs.StackTexts.{is_writable_stack, items_in, stack_text}
 use Rattle.stackstate.specs.StackVariables.{stack_in, with_stack, pushed_value, popped_value, IsStackInOrder}
@@ -40,12 +40,12 @@ PopStands =
 -- The text that a stack is written as says that stack.
 abbrev pub TextIsReadAgain : Type 0
 TextIsReadAgain =
-    (items : List Item) → is_writable_stack items ≡ true → items_in (stack_text items) ≡ Some items
+    (items : List OwnedValue) → is_writable_stack items ≡ true → items_in (stack_text items) ≡ Some items
 
 -- What a text says can be written.
 abbrev pub ReadIsWritable : Type 0
 ReadIsWritable =
-    (t : Option Text) (items : List Item) → items_in t ≡ Some items → is_writable_stack items ≡ true
+    (t : Option Text) (items : List OwnedValue) → items_in t ≡ Some items → is_writable_stack items ≡ true
 
 -- A stack that is written into an environment is found there.
 abbrev pub WrittenIsFound : Type 0

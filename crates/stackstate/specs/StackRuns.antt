@@ -2,7 +2,7 @@
 use Rattle.std.specs.Prelude.{◌≡◌, true, false, not, List, [], ◌∷◌, ◌++◌, filter, map, bytes_eq, Some, ◌⊎◌}
 use Rattle.std.specs.List.{list_any}
 use Rattle.environment.specs.Texts.{Text}
-use Rattle.stackstate.specs.Stacks.{Item, StackState, holds, has_owner, visible, base, push, pop}
+use Rattle.stackstate.specs.Stacks.{OwnedValue, StackState, holds, has_owner, visible, base, push, pop}
 
 -- a push or a pop of a module
 pub data StackEdit : Type 0 where
@@ -16,7 +16,7 @@ after (Push m value ∷ edits) s = after edits (push s m value)
 after (Pop m ∷ edits) s = after edits (pop s m)
 
 -- No edit is by an owner that the items hold.
-abbrev pub AreStrangers : List StackEdit → List Item → Type 0
+abbrev pub AreStrangers : List StackEdit → List OwnedValue → Type 0
 AreStrangers [] items = Unit {0}
 AreStrangers (Push m value ∷ edits) items = (holds m items ≡ false) × AreStrangers edits items
 AreStrangers (Pop m ∷ edits) items = (holds m items ≡ false) × AreStrangers edits items
@@ -40,7 +40,7 @@ abbrev pub live : List StackEdit → List (Text × Text)
 live edits = live_from [] edits
 
 -- the items of pushes
-abbrev pub items_of : List (Text × Text) → List Item
+abbrev pub items_of : List (Text × Text) → List OwnedValue
 items_of pushes = map (λ p. (Some p.0, p.1)) pushes
 
 -- What stands over a start: with no live push the start. Else an item for each above what they were pushed on,

@@ -4,7 +4,7 @@ use Rattle.std.specs.List.{list_all, list_any}
 use Rattle.std.specs.Option.{option_map, option_and_then}
 use Rattle.environment.specs.Texts.{Text}
 use Rattle.environment.specs.Fields.{are_distinct, text_of, ampersand}
-use Rattle.stackstate.specs.Stacks.{Item, has_owner}
+use Rattle.stackstate.specs.Stacks.{OwnedValue, has_owner}
 use Rattle.environment.specs.Escapes.{escaped, unescaped_fields}
 
 -- Writing: before the `&` of an element stands the owner, or nothing in a bottom.
@@ -13,11 +13,11 @@ owner_text None = []
 owner_text (Some owner) = owner
 
 -- the element of an item, without escapes
-abbrev pub element_text : Item → Text
+abbrev pub element_text : OwnedValue → Text
 element_text item = owner_text item.0 ++ ampersand ∷ item.1
 
 -- no item unsets the variable
-abbrev pub stack_text : List Item → Option Text
+abbrev pub stack_text : List OwnedValue → Option Text
 stack_text items = text_of (map (λ item. escaped (element_text item)) items)
 
 -- The text of a stack: elements `module&value`, newest first, joined by colons, with escapes.
@@ -37,41 +37,41 @@ owner_of [] = None
 owner_of (c ∷ cs) = Some (c ∷ cs)
 
 -- the item that an element says
-abbrev pub item_of : Text → Option Item
+abbrev pub item_of : Text → Option OwnedValue
 item_of element = option_map (λ p. (owner_of p.0, p.1)) (cut element)
 
 -- the items that the elements say; none where one of them says none
-abbrev pub items_of_elements : List Text → Option (List Item)
+abbrev pub items_of_elements : List Text → Option (List OwnedValue)
 items_of_elements [] = Some []
 items_of_elements (element ∷ elements) =
     option_and_then (λ item. option_map (λ items. item ∷ items) (items_of_elements elements)) (item_of element)
 
 -- whether there is no item
-abbrev pub is_nothing : List Item → Bool
+abbrev pub is_nothing : List OwnedValue → Bool
 is_nothing [] = true
 is_nothing (item ∷ items) = false
 
 -- an item without an owner stands last
-abbrev pub bottoms_last : List Item → Bool
+abbrev pub bottoms_last : List OwnedValue → Bool
 bottoms_last [] = true
 bottoms_last (item ∷ items) = (has_owner item.0 || is_nothing items) && bottoms_last items
 
 -- the owners of the items
-abbrev pub owners_of : List Item → List Text
+abbrev pub owners_of : List OwnedValue → List Text
 owners_of [] = []
 owners_of ((None, value) ∷ items) = owners_of items
 owners_of ((Some owner, value) ∷ items) = owner ∷ owners_of items
 
 -- a bottom stands last, and no owner has two items
-abbrev pub is_stack : List Item → Bool
+abbrev pub is_stack : List OwnedValue → Bool
 is_stack items = bottoms_last items && are_distinct (owners_of items)
 
 -- the items, where they are a stack
-abbrev pub only_stack : List Item → Option (List Item)
+abbrev pub only_stack : List OwnedValue → Option (List OwnedValue)
 only_stack items = if is_stack items then Some items else None
 
 -- the items that a text says; none where it is no stack
-abbrev pub items_in : Option Text → Option (List Item)
+abbrev pub items_in : Option Text → Option (List OwnedValue)
 items_in None = Some []
 items_in (Some t) = option_and_then only_stack (items_of_elements (unescaped_fields t))
 
@@ -82,5 +82,5 @@ can_own (Some []) = false
 can_own (Some (c ∷ cs)) = not (list_any (λ b. b == ampersand) (c ∷ cs))
 
 -- what a text can say
-abbrev pub is_writable_stack : List Item → Bool
+abbrev pub is_writable_stack : List OwnedValue → Bool
 is_writable_stack items = is_stack items && list_all (λ item. can_own item.0) items

@@ -5,13 +5,13 @@ use Rattle.std.specs.Option.{option_or}
 use Rattle.modulename.specs.ModuleName.{is_module_name}
 use Rattle.environment.specs.Texts.{Text, has}
 use Rattle.environment.specs.Names.{stack_name, name_reason, is_plain_value}
-use Rattle.stackstate.specs.Stacks.{Item, StackState, holds, has_owner, visible, push, pop}
+use Rattle.stackstate.specs.Stacks.{OwnedValue, StackState, holds, has_owner, visible, push, pop}
 use Rattle.stackstate.specs.StackTexts.{items_in, stack_text, is_stack}
 use Rattle.environment.specs.Environment.{Environment, lookup, with_value}
 use Rattle.environment.specs.Reasons.{EnvReason, bad_value, bad_stack, unless}
 
 -- the state of these items and of the value
-abbrev pub stack_from : Option (List Item) → Option Text → Option StackState
+abbrev pub stack_from : Option (List OwnedValue) → Option Text → Option StackState
 stack_from None value = None
 stack_from (Some items) value = Some (record { items = items; value = value })
 
@@ -58,7 +58,7 @@ is_loaded_owner loaded (Some owner) = has owner loaded
 
 -- a stack as it is written: it has an owner, all its owners are loaded, and the variable holds the first value
 pub record IsWrittenStack (loaded : List Text) (e : Environment) (name : Text) : Type 0 where
-  pub items : List Item
+  pub items : List OwnedValue
   pub valid : is_stack items ≡ true
   pub owned : list_any (λ item. has_owner item.0) items ≡ true
   pub owners : list_all (λ item. is_loaded_owner loaded item.0) items ≡ true

@@ -4,12 +4,12 @@ use Rattle.std.specs.List.{list_any}
 use Rattle.environment.specs.Texts.{Text}
 
 -- an owner, or none at the bottom, and a value
-abbrev pub Item : Type 0
-Item = Option Text × Text
+abbrev pub OwnedValue : Type 0
+OwnedValue = Option Text × Text
 
 -- the items, newest first, none where there is no stack, and the variable's value
 pub record StackState : Type 0 where
-  pub items : List Item
+  pub items : List OwnedValue
   pub value : Option Text
 
 -- whether the owner is this one
@@ -23,25 +23,25 @@ has_owner None = false
 has_owner (Some n) = true
 
 -- whether the owner has an item
-abbrev pub holds : Text → List Item → Bool
+abbrev pub holds : Text → List OwnedValue → Bool
 holds m items = list_any (λ item. is_owner m item.0) items
 
 -- the items but for the owner's
-abbrev pub without_owner : Text → List Item → List Item
+abbrev pub without_owner : Text → List OwnedValue → List OwnedValue
 without_owner m items = filter (λ item. not (is_owner m item.0)) items
 
 -- the first value
-abbrev pub visible : List Item → Option Text
+abbrev pub visible : List OwnedValue → Option Text
 visible [] = None
 visible (item ∷ items) = Some item.1
 
 -- the bottom that a value makes
-abbrev pub bottom : Option Text → List Item
+abbrev pub bottom : Option Text → List OwnedValue
 bottom None = []
 bottom (Some value) = (None, value) ∷ []
 
 -- what a push stands on: where there is no stack, the bottom
-abbrev pub base : List Item → Option Text → List Item
+abbrev pub base : List OwnedValue → Option Text → List OwnedValue
 base [] value = bottom value
 base (item ∷ items) value = item ∷ items
 
@@ -50,11 +50,11 @@ abbrev pub push : StackState → Text → Text → StackState
 push s m value = record { items = (Some m, value) ∷ without_owner m (base s.items s.value); value = Some value }
 
 -- items without any owner are no stack
-abbrev pub settled : List Item → List Item
+abbrev pub settled : List OwnedValue → List OwnedValue
 settled items = if list_any (λ item. has_owner item.0) items then items else []
 
 -- whether the first item is the owner's
-abbrev pub on_top : Text → List Item → Bool
+abbrev pub on_top : Text → List OwnedValue → Bool
 on_top m [] = false
 on_top m (item ∷ items) = is_owner m item.0
 

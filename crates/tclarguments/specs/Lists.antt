@@ -5,7 +5,7 @@ use Rattle.tcloperators.specs.Faults.{Answer, ◌>>=◌}
 use Rattle.tcloperators.specs.Elements.{elements_of}
 use Rattle.tclrules.specs.Variables.{Parameter}
 use Rattle.tclrules.specs.Plans.{Items}
-use Rattle.tclrules.specs.Rules.{named, parameters, unless_kept}
+use Rattle.tclrules.specs.Rules.{named, parameters, unless_reserved}
 
 -- these, and what is made of the rest
 abbrev pub behind : {A : Type 0} → List A → Answer (List A) → Answer (List A)
@@ -13,7 +13,7 @@ behind done more = more >>= (λ rest. Ok (done ++ rest))
 
 -- the parameters in the list of a proc of this name
 abbrev pub defined : Text → Text → Answer (List Parameter)
-defined name lists = unless_kept name (elements_of lists >>= parameters)
+defined name lists = unless_reserved name (elements_of lists >>= parameters)
 
 -- the names and the items of one list of a foreach
 abbrev pub one_loop : Text × Text → Answer Items

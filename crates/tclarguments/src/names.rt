@@ -1,7 +1,7 @@
-//! Names of commands that are fixed.
+//! Names of commands that are reserved.
 ghost use Rattle.std.specs.Prelude.{◌≡◌, map, is_some};
 ghost use Rattle.tclvalue.specs.Commands.{command_named};
-ghost use Rattle.tclrules.specs.Names.{is_among, is_kept, core_commands, left_out_commands, module_commands, left_out_module_commands};
+ghost use Rattle.tclrules.specs.Names.{is_among, is_reserved, core_commands, left_out_commands, module_commands, left_out_module_commands};
 
 /// Commands of Tcl that are left out.
 const LEFT_OUT: [&str; 57] = [
@@ -178,8 +178,8 @@ pub fn is_left_out_of_modules(name: &str) -> bool
 }
 
 /// Whether no procedure may have this name.
-pub fn is_kept(name: &str) -> bool
-    ensures { result ≡ is_kept name.now }
+pub fn is_reserved(name: &str) -> bool
+    ensures { result ≡ is_reserved name.now }
 {
     is_core(name)
         || is_of_values(name)

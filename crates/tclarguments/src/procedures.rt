@@ -7,7 +7,7 @@ ghost use Rattle.tclvariables.specs.Views.{parameter_view};
 ghost use Rattle.tclarguments.specs.Lists.{defined};
 
 use crate::messages::is_taken;
-use crate::names::is_kept;
+use crate::names::is_reserved;
 use std::alloc::Global;
 use tcloperators::{ValueFault, elements, not_a_list};
 use tclvariables::Parameter;
@@ -43,13 +43,13 @@ fn parameters_of(alloc: Global, lists: &[String]) -> Result<Vec<Parameter>, Valu
 
 /// The parameters of a procedure of this name, of which these are the lists.
 ///
-/// Errors: `TclError` (13) where the name is kept, where the text or one of its elements is no list, and where an
+/// Errors: `TclError` (13) where the name is reserved, where the text or one of its elements is no list, and where an
 /// element has no name or more than a name and a default; `Text` (12) where a list is too long; `OutOfMemory` (11). The
 /// name is judged first, and then the parameters from left to right.
 pub fn parameters(alloc: Global, name: &str, lists: &str) -> Result<Vec<Parameter>, ValueFault>
     ensures { Gives reason_of (λ ps. map parameter_view ps.items) result (defined name.now lists.now) }
 {
-    if is_kept(name) {
+    if is_reserved(name) {
         return Err(is_taken(alloc, name));
     }
     let lists = elements(alloc, lists)?;

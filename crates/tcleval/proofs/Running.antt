@@ -31,8 +31,8 @@ use Rattle.tclsteps.proofs.Leading.{sized_on, sized_stops}
 use Rattle.tclsteps.specs.Stops.{after, stopped, stop_of, text_stop}
 use Rattle.tclsteps.specs.declared.stop.Stop.{Stop}
 use Rattle.tclsteps.specs.declared.stop.Stop.TheVariants as stops
-use Rattle.tcleval.specs.Runs.{Comes, finish, sized_next, ran}
-use Rattle.tclkept.specs.Trees.{Begins}
+use Rattle.tcleval.specs.Runs.{ComesToText, finish, sized_next, ran}
+use Rattle.tclkept.specs.Trees.{BeginsWith}
 use Rattle.tclkept.specs.Kept.{Kept, BeginWith}
 use Rattle.tcleval.specs.Later.{Later}
 use Rattle.tcleval.specs.declared.evaluator.Evaluator.{Evaluator}
@@ -47,7 +47,7 @@ run_after k s (Err stops.Continued) h = run_on h
 run_after k s (Err (stops.Halted f)) h = run_halts h
 
 -- a script whose result is wanted, in what goes on with how it ended, and with its result alone
-pub run_known : {most : ℕ} {r : Job → Step} {j : Job} {x y : Point} (k : Ending → Step) (s : State) (limit : ℕ) (res : Result (String Global) Stop) → Comes true limit res (λ u. Leads most r (r j) x (after res (λ v s'. finish u s') s) y) → Leads most r (Runs j k) x (ran res k s) y
+pub run_known : {most : ℕ} {r : Job → Step} {j : Job} {x y : Point} (k : Ending → Step) (s : State) (limit : ℕ) (res : Result (String Global) Stop) → ComesToText true limit res (λ u. Leads most r (r j) x (after res (λ v s'. finish u s') s) y) → Leads most r (Runs j k) x (ran res k s) y
 run_known k s limit (Ok v) h = rw (h.1.1 refl) (run_on h.2)
 run_known k s limit (Err (stops.Raised m)) h = run_on h.2
 run_known k s limit (Err (stops.Returned u)) h = run_on h.2
@@ -55,7 +55,7 @@ run_known k s limit (Err stops.Broken) h = run_on h.2
 run_known k s limit (Err stops.Continued) h = run_on h.2
 run_known k s limit (Err (stops.Halted f)) h = run_halts h.2
 
-pub run_normal : {most : ℕ} {r : Job → Step} {j : Job} {x y : Point} (k : Next) (s : State) (limit : ℕ) (res : Result (String Global) Stop) → Comes true limit res (λ u. Leads most r (r j) x (after res (λ v s'. finish u s') s) y) → Leads most r (Runs j (on_normal k)) x (after res (λ v s'. k (string_bytes v) s') s) y
+pub run_normal : {most : ℕ} {r : Job → Step} {j : Job} {x y : Point} (k : Next) (s : State) (limit : ℕ) (res : Result (String Global) Stop) → ComesToText true limit res (λ u. Leads most r (r j) x (after res (λ v s'. finish u s') s) y) → Leads most r (Runs j (on_normal k)) x (after res (λ v s'. k (string_bytes v) s') s) y
 run_normal k s limit (Ok v) h = rw (h.1.1 refl) (run_on h.2)
 run_normal k s limit (Err (stops.Raised m)) h = run_on h.2
 run_normal k s limit (Err (stops.Returned u)) h = run_on h.2
@@ -64,7 +64,7 @@ run_normal k s limit (Err stops.Continued) h = run_on h.2
 run_normal k s limit (Err (stops.Halted f)) h = run_halts h.2
 
 -- a script whose result is that of a command
-pub run_comes : {most : ℕ} {r : Job → Step} {j : Job} {x y : Point} (wanted : Bool) (limit : ℕ) (s : State) (res : Result (String Global) Stop) → Comes wanted limit res (λ u. Leads most r (r j) x (after res (λ v s'. finish u s') s) y) → Comes wanted limit res (λ u. (k : Next) → Leads most r (Runs j (on_normal (sized_next limit k))) x (after res (λ v s'. k u s') s) y)
+pub run_comes : {most : ℕ} {r : Job → Step} {j : Job} {x y : Point} (wanted : Bool) (limit : ℕ) (s : State) (res : Result (String Global) Stop) → ComesToText wanted limit res (λ u. Leads most r (r j) x (after res (λ v s'. finish u s') s) y) → ComesToText wanted limit res (λ u. (k : Next) → Leads most r (Runs j (on_normal (sized_next limit k))) x (after res (λ v s'. k u s') s) y)
 run_comes wanted limit s (Ok v) h = (h.0, h.1, λ k. go_on (run_on h.2) (sized_on limit h.0 _ h.1.0))
 run_comes wanted limit s (Err (stops.Raised m)) h = (h.0, h.1, λ k. run_on h.2)
 run_comes wanted limit s (Err (stops.Returned u)) h = (h.0, h.1, λ k. run_on h.2)
@@ -73,7 +73,7 @@ run_comes wanted limit s (Err stops.Continued) h = (h.0, h.1, λ k. run_on h.2)
 run_comes wanted limit s (Err (stops.Halted f)) h = (h.0, h.1, λ k. run_halts h.2)
 
 -- a script whose result nobody looks at: a turn of a loop, and what stands between turns
-pub run_turn : {most : ℕ} {r : Job → Step} {j : Job} {x y : Point} (again : State → Step) (s : State) (limit : ℕ) (res : Result (String Global) Stop) → Comes false limit res (λ u. Leads most r (r j) x (after res (λ v s'. finish u s') s) y) → Leads most r (Runs j (after_turn again)) x (ran res (after_turn again) s) y
+pub run_turn : {most : ℕ} {r : Job → Step} {j : Job} {x y : Point} (again : State → Step) (s : State) (limit : ℕ) (res : Result (String Global) Stop) → ComesToText false limit res (λ u. Leads most r (r j) x (after res (λ v s'. finish u s') s) y) → Leads most r (Runs j (after_turn again)) x (ran res (after_turn again) s) y
 run_turn again s limit (Ok v) h = run_on h.2
 run_turn again s limit (Err (stops.Raised m)) h = run_on h.2
 run_turn again s limit (Err (stops.Returned u)) h = run_on h.2
@@ -81,7 +81,7 @@ run_turn again s limit (Err stops.Broken) h = run_on h.2
 run_turn again s limit (Err stops.Continued) h = run_on h.2
 run_turn again s limit (Err (stops.Halted f)) h = run_halts h.2
 
-pub run_next : {most : ℕ} {r : Job → Step} {j : Job} {x y : Point} (again : State → Step) (s : State) (limit : ℕ) (res : Result (String Global) Stop) → Comes false limit res (λ u. Leads most r (r j) x (after res (λ v s'. finish u s') s) y) → Leads most r (Runs j (after_next again)) x (ran res (after_next again) s) y
+pub run_next : {most : ℕ} {r : Job → Step} {j : Job} {x y : Point} (again : State → Step) (s : State) (limit : ℕ) (res : Result (String Global) Stop) → ComesToText false limit res (λ u. Leads most r (r j) x (after res (λ v s'. finish u s') s) y) → Leads most r (Runs j (after_next again)) x (ran res (after_next again) s) y
 run_next again s limit (Ok v) h = run_on h.2
 run_next again s limit (Err (stops.Raised m)) h = run_on h.2
 run_next again s limit (Err (stops.Returned u)) h = run_on h.2
@@ -90,16 +90,16 @@ run_next again s limit (Err stops.Continued) h = run_on h.2
 run_next again s limit (Err (stops.Halted f)) h = run_halts h.2
 
 -- a command that stops, and a script
-pub comes_stopped : {most : ℕ} {r : Job → Step} {p : Next → Step} {x y : Point} (wanted : Bool) (limit : ℕ) (s : State) (e : Stop) (res : Result (String Global) Stop) → IsErrAnd res (λ f. f ≡ e) → ((k : Next) → Leads most r (p k) x (stopped e s) y) → Comes wanted limit res (λ u. (k : Next) → Leads most r (p k) x (after res (λ v s'. k u s') s) y)
+pub comes_stopped : {most : ℕ} {r : Job → Step} {p : Next → Step} {x y : Point} (wanted : Bool) (limit : ℕ) (s : State) (e : Stop) (res : Result (String Global) Stop) → IsErrAnd res (λ f. f ≡ e) → ((k : Next) → Leads most r (p k) x (stopped e s) y) → ComesToText wanted limit res (λ u. (k : Next) → Leads most r (p k) x (after res (λ v s'. k u s') s) y)
 comes_stopped wanted limit s e (Ok v) h l = absurd h
 comes_stopped wanted limit s e (Err f) h l = ([], tt, λ k. rw h (l k))
 
-pub comes_cut : {most : ℕ} {r : Job → Step} {p : Step} {x y : Point} (wanted : Bool) (limit : ℕ) (s : State) (e : Stop) (res : Result (String Global) Stop) → IsErrAnd res (λ f. f ≡ e) → Leads most r p x (stopped e s) y → Comes wanted limit res (λ u. Leads most r p x (after res (λ v s'. finish u s') s) y)
+pub comes_cut : {most : ℕ} {r : Job → Step} {p : Step} {x y : Point} (wanted : Bool) (limit : ℕ) (s : State) (e : Stop) (res : Result (String Global) Stop) → IsErrAnd res (λ f. f ≡ e) → Leads most r p x (stopped e s) y → ComesToText wanted limit res (λ u. Leads most r p x (after res (λ v s'. finish u s') s) y)
 comes_cut wanted limit s e (Ok v) h l = absurd h
 comes_cut wanted limit s e (Err f) h l = ([], tt, rw h l)
 
 -- a result within the limit
-pub sized_comes : (wanted : Bool) (limit : ℕ) (s : State) (p : Next → Step) (res : Result (String Global) Stop) → IfOk res (λ v. length (string_bytes v) ≤ limit) → ((most : ℕ) (r : Job → Step) (k : Next) (x : Point) → Leads most r (p k) x (after res (λ v s'. k (string_bytes v) s') s) x) → Comes wanted limit res (λ u. (most : ℕ) (r : Job → Step) (k : Next) (x : Point) → Leads most r (p k) x (after res (λ v s'. k u s') s) x)
+pub sized_comes : (wanted : Bool) (limit : ℕ) (s : State) (p : Next → Step) (res : Result (String Global) Stop) → IfOk res (λ v. length (string_bytes v) ≤ limit) → ((most : ℕ) (r : Job → Step) (k : Next) (x : Point) → Leads most r (p k) x (after res (λ v s'. k (string_bytes v) s') s) x) → ComesToText wanted limit res (λ u. (most : ℕ) (r : Job → Step) (k : Next) (x : Point) → Leads most r (p k) x (after res (λ v s'. k u s') s) x)
 sized_comes wanted limit s p (Ok v) h l = (string_bytes v, (h, λ e. refl), l)
 sized_comes wanted limit s p (Err f) h l = ([], tt, l)
 
@@ -160,10 +160,10 @@ module _ {P : Type 0} (shown : P → Text) where
   word_parts w = search (rules, rust_word.the_lemmas)
 
 -- later and later
-pub begins_refl : {A : Type 0} {xs : List A} → Begins xs xs
+pub begins_refl : {A : Type 0} {xs : List A} → BeginsWith xs xs
 begins_refl {A} {xs} = ([], sym (append-nil xs))
 
-begins_on : {A : Type 0} (xs ys zs : List A) → Begins xs ys → Begins ys zs → Begins xs zs
+begins_on : {A : Type 0} (xs ys zs : List A) → BeginsWith xs ys → BeginsWith ys zs → BeginsWith xs zs
 begins_on xs ys zs a b = (a.0 ++ b.0, b.1 ∙ ap (λ l. l ++ b.0) a.1 ∙ append_assoc xs a.0 b.0)
 
 begin_with_on : (a b c : Kept) → BeginWith a b → BeginWith b c → BeginWith a c

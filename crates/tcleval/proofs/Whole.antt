@@ -14,7 +14,7 @@ use Rattle.tclrules.specs.declared.outcome.Ending.{Ending}
 use Rattle.tclrules.specs.declared.outcome.EvalFault.{EvalFault}
 use Rattle.tclrules.specs.declared.outcome.EvalFault.TheVariants as fault
 use Rattle.tclrules.proofs.Outcomes.{unstarved}
-use Rattle.tcleval.specs.Files.{cut_outcome, after_file, Answers}
+use Rattle.tcleval.specs.Files.{cut_outcome, after_file, AnswersFile}
 use Rattle.tcleval.specs.declared.file.Cut.{Cut}
 use Rattle.tcleval.specs.declared.file.Cut.TheVariants as cuts
 
@@ -37,7 +37,7 @@ fed script (fault.LeftOut name) h d = unstarved d (λ e. cc)
 fed script fault.Stopped h d = unstarved d (λ e. cc)
 fed script (fault.Host n) h d = unstarved d (λ e. cc)
 
-pub evaluated : (l : Limits) (script : Text) (globals : Variables) (oracle oracle' : Oracle) (told told' : Told) (s : State) (used : ℕ) (res : Result (String Global) Cut) (result : Result Ending EvalFault) → Leads l.commands (rule l.value_bytes) (plan_of l script globals) (point oracle told 0) (after_file res s) (point oracle' told' used) → Answers script s used res result → Evaluates l script globals oracle told result told'
+pub evaluated : (l : Limits) (script : Text) (globals : Variables) (oracle oracle' : Oracle) (told told' : Told) (s : State) (used : ℕ) (res : Result (String Global) Cut) (result : Result Ending EvalFault) → Leads l.commands (rule l.value_bytes) (plan_of l script globals) (point oracle told 0) (after_file res s) (point oracle' told' used) → AnswersFile script s used res result → Evaluates l script globals oracle told result told'
 evaluated l script globals oracle oracle' told told' s used (Ok t) (Ok end) led a = (s, rw (a.0, a.1) (unstarved (led.by _ _ ends) (λ q. cc)), a.2)
 evaluated l script globals oracle oracle' told told' s used (Ok t) (Err f) led a = rw a (Halted OutOfMemory, used, refl, led.by (Halted OutOfMemory) (record { used = used; told = told' }) (starves false refl))
 evaluated l script globals oracle oracle' told told' s used (Err cut) (Ok end) led a = absurd a

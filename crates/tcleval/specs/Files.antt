@@ -30,10 +30,10 @@ abbrev pub ReportsCut : Text → ℕ → Cut → EvalFault → Type 0
 ReportsCut script place cut f = (s : State) → s.place ≡ place → ReportsFault script f (cut_outcome cut s)
 
 -- what is answered of a file that came to an end with these variables and this count
-abbrev pub Answers : Text → State → ℕ → Result (String Global) Cut → Result Ending EvalFault → Type 0
-Answers script s used (Ok t) (Ok end) =
+abbrev pub AnswersFile : Text → State → ℕ → Result (String Global) Cut → Result Ending EvalFault → Type 0
+AnswersFile script s used (Ok t) (Ok end) =
     (string_bytes end.result ≡ string_bytes t) × (end.used_commands ≡ used)
     × (s.globals ≡ texts_of end.globals.items)
-Answers script s used (Ok t) (Err f) = f ≡ fault.OutOfMemory
-Answers script s used (Err cut) (Ok end) = ⊥
-Answers script s used (Err cut) (Err f) = ReportsFault script f (cut_outcome cut s)
+AnswersFile script s used (Ok t) (Err f) = f ≡ fault.OutOfMemory
+AnswersFile script s used (Err cut) (Ok end) = ⊥
+AnswersFile script s used (Err cut) (Err f) = ReportsFault script f (cut_outcome cut s)

@@ -37,13 +37,13 @@ abbrev pub sized_next : ℕ → Next → Next
 sized_next limit k t s = sized limit t (k t s)
 
 -- the text of a result is within the limit, and is there where it is wanted
-abbrev pub IsText : Bool → ℕ → Text → Result (String Global) Stop → Type 0
-IsText wanted limit t (Ok v) = (length t ≤ limit) × (wanted ≡ true → string_bytes v ≡ t)
-IsText wanted limit t (Err f) = Unit {0}
+abbrev pub IsTextOfResult : Bool → ℕ → Text → Result (String Global) Stop → Type 0
+IsTextOfResult wanted limit t (Ok v) = (length t ≤ limit) × (wanted ≡ true → string_bytes v ≡ t)
+IsTextOfResult wanted limit t (Err f) = Unit {0}
 
 -- it comes to a result with a text of which this holds
-abbrev pub Comes : Bool → ℕ → Result (String Global) Stop → (Text → Type 0) → Type 0
-Comes wanted limit result p = (t : Text) × IsText wanted limit t result × p t
+abbrev pub ComesToText : Bool → ℕ → Result (String Global) Stop → (Text → Type 0) → Type 0
+ComesToText wanted limit result p = (t : Text) × IsTextOfResult wanted limit t result × p t
 
 -- what is left of a plan that goes on with how a script ended
 abbrev pub ran : Result (String Global) Stop → (Ending → Step) → State → Step

@@ -18,7 +18,7 @@ ghost use Rattle.tclforms.specs.Views.{form_view, pair_texts};
 ghost use Rattle.tclsteps.specs.Machine.{shown, bounds, control_plan};
 ghost use Rattle.tclsteps.specs.Stops.{after};
 ghost use Rattle.tclexpr.specs.Owned as expression;
-ghost use Rattle.tcleval.specs.Runs.{Comes, IsTreeOf, finish, sized_next, turned, guarded, expressed, decided};
+ghost use Rattle.tcleval.specs.Runs.{ComesToText, IsTreeOf, finish, sized_next, turned, guarded, expressed, decided};
 ghost use Rattle.tcleval.specs.Later.{Later};
 
 use crate::endings::{after_call, after_catch, after_next, after_turn};
@@ -51,7 +51,8 @@ impl Evaluator {
         text: &str,
         wanted: bool,
     ) -> Result<String, Stop>
-        ensures comes { Comes wanted limits.value_bytes result (λ t. Leads limits.commands (rule limits.value_bytes)
+        ensures comes { ComesToText wanted limits.value_bytes result
+            (λ t. Leads limits.commands (rule limits.value_bytes)
             (rule limits.value_bytes (plans.Script left text.now self.old.variables))
             (point (H.oracle host.old) (H.told host.old) self.old.used)
             (after result (λ _ s. finish t s) self.new.variables)
@@ -86,7 +87,8 @@ impl Evaluator {
         parsed: &mut Option<Rc<OwnedScript>>,
     ) -> Result<String, Stop>
         requires { IsTreeOf text.now parsed.old }
-        ensures comes { Comes false limits.value_bytes result (λ t. Leads limits.commands (rule limits.value_bytes)
+        ensures comes { ComesToText false limits.value_bytes result
+            (λ t. Leads limits.commands (rule limits.value_bytes)
             (rule limits.value_bytes (plans.Script left text.now self.old.variables))
             (point (H.oracle host.old) (H.told host.old) self.old.used)
             (after result (λ _ s. finish t s) self.new.variables)
@@ -146,7 +148,8 @@ impl Evaluator {
         script: &Script<ByteRange>,
         wanted: bool,
     ) -> Result<String, Stop>
-        ensures comes { Comes wanted limits.value_bytes result (λ t. Leads limits.commands (rule limits.value_bytes)
+        ensures comes { ComesToText wanted limits.value_bytes result
+            (λ t. Leads limits.commands (rule limits.value_bytes)
             (rules.commands (bounds limits.value_bytes left) (script_view (shown source.now) script.now) []
             self.old.variables)
             (point (H.oracle host.old) (H.told host.old) self.old.used)
@@ -173,7 +176,7 @@ impl Evaluator {
         command: &Command<ByteRange>,
         wanted: bool,
     ) -> Result<String, Stop>
-        ensures comes { Comes wanted limits.value_bytes result (λ t. (k : Next)
+        ensures comes { ComesToText wanted limits.value_bytes result (λ t. (k : Next)
             → Leads limits.commands (rule limits.value_bytes)
             (Counts (pieces.words (bounds limits.value_bytes left) (command_view (shown source.now)
             command.now).words []
@@ -523,7 +526,7 @@ impl Evaluator {
         body: Option<&str>,
         wanted: bool,
     ) -> Result<String, Stop>
-        ensures comes { Comes wanted limits.value_bytes result (λ t. (k : Next)
+        ensures comes { ComesToText wanted limits.value_bytes result (λ t. (k : Next)
             → Leads limits.commands (rule limits.value_bytes)
             (rules.otherwise (bounds limits.value_bytes left) (option_map (λ t. t.now) body.entry) self.old.variables
             (sized_next limits.value_bytes k))
@@ -550,7 +553,7 @@ impl Evaluator {
         other: Option<&str>,
         wanted: bool,
     ) -> Result<String, Stop>
-        ensures comes { Comes wanted limits.value_bytes result (λ t. (k : Next)
+        ensures comes { ComesToText wanted limits.value_bytes result (λ t. (k : Next)
             → Leads limits.commands (rule limits.value_bytes)
             (rules.branches (bounds limits.value_bytes left) (pair_texts branches.now) (option_map (λ t. t.now)
             other.entry)
@@ -602,7 +605,7 @@ impl Evaluator {
         form: Form<'_>,
         wanted: bool,
     ) -> Result<String, Stop>
-        ensures comes { Comes wanted limits.value_bytes result (λ t. (k : Next)
+        ensures comes { ComesToText wanted limits.value_bytes result (λ t. (k : Next)
             → Leads limits.commands (rule limits.value_bytes)
             (rules.form (bounds limits.value_bytes left) (form_view form.entry) self.old.variables (sized_next
             limits.value_bytes k))
@@ -657,7 +660,7 @@ impl Evaluator {
         words: &[String],
         wanted: bool,
     ) -> Result<String, Stop>
-        ensures comes { Comes wanted limits.value_bytes result (λ t. (k : Next)
+        ensures comes { ComesToText wanted limits.value_bytes result (λ t. (k : Next)
             → Leads limits.commands (rule limits.value_bytes)
             (called (bounds limits.value_bytes left) (map string_bytes words.now) self.old.variables (sized_next
             limits.value_bytes k))
@@ -689,7 +692,7 @@ impl Evaluator {
         wanted: bool,
     ) -> Result<String, Stop>
         requires { map string_bytes words.now ≡ name.now ∷ map string_bytes operands.now }
-        ensures comes { Comes wanted limits.value_bytes result (λ t. (k : Next)
+        ensures comes { ComesToText wanted limits.value_bytes result (λ t. (k : Next)
             → Leads limits.commands (rule limits.value_bytes)
             (rules.core_command (bounds limits.value_bytes left) name.now (map string_bytes operands.now)
             self.old.variables (sized_next limits.value_bytes k)
@@ -719,7 +722,7 @@ impl Evaluator {
         wanted: bool,
     ) -> Result<String, Stop>
         requires { map string_bytes words.now ≡ name.now ∷ map string_bytes operands.now }
-        ensures comes { Comes wanted limits.value_bytes result (λ t. (k : Next)
+        ensures comes { ComesToText wanted limits.value_bytes result (λ t. (k : Next)
             → Leads limits.commands (rule limits.value_bytes)
             (rules.other_command (bounds limits.value_bytes left) name.now (map string_bytes operands.now)
             self.old.variables (sized_next limits.value_bytes k)

@@ -7,7 +7,7 @@ ghost use Rattle.tclrules.specs.Plans.{Job, Next, sized};
 ghost use Rattle.tclsteps.specs.Stops.{after, stopped};
 ghost use Rattle.tclexpr.specs.Owned as expression;
 ghost use Rattle.tclsteps.specs.Machine.{bounds};
-ghost use Rattle.tcleval.specs.Runs.{Comes, decided};
+ghost use Rattle.tcleval.specs.Runs.{ComesToText, decided};
 ghost use Rattle.tcloperators.specs.declared.operators.Computed.TheVariants.{Truth};
 ghost use Rattle.tclsteps.specs.declared.stop.Stop.TheVariants.{Halted};
 ghost use Rattle.tclsteps.specs.declared.stop.Halt.TheVariants.{TooManyCommands};
@@ -97,7 +97,7 @@ pub(crate) fn sized(limits: Limits, text: String) -> Result<String, Stop>
 /// How a command ended, with its result within the limit on values.
 #[tactic(none)]
 pub(crate) fn within(limits: Limits, outcome: Result<String, Stop>) -> Result<String, Stop>
-    ensures { (wanted : Bool) (s : State) → Comes wanted limits.value_bytes result (λ t. (most : ℕ) (r : Job →
+    ensures { (wanted : Bool) (s : State) → ComesToText wanted limits.value_bytes result (λ t. (most : ℕ) (r : Job →
         plans.Step)
         (k : Next) (x : Point) → Leads most r
         (after outcome (λ v s'. sized limits.value_bytes (string_bytes v) (k (string_bytes v) s')) s) x

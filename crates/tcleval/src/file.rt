@@ -15,7 +15,7 @@ ghost use Rattle.tclsteps.specs.Stops.{after, halt_of};
 ghost use Rattle.tclkept.specs.Kept.{BeginWith};
 ghost use Rattle.tcleval.specs.Later.{Later};
 ghost use Rattle.tcleval.specs.Runs.{finish, ran};
-ghost use Rattle.tcleval.specs.Files.{after_file, ReportsCut, Answers};
+ghost use Rattle.tcleval.specs.Files.{after_file, ReportsCut, AnswersFile};
 
 use crate::evaluator::Evaluator;
 use std::alloc::Global;
@@ -171,7 +171,7 @@ fn ending(
     script: &str,
     outcome: Result<String, Cut>,
 ) -> Result<Ending, EvalFault>
-    ensures { Answers script.now variables used_commands outcome result }
+    ensures { AnswersFile script.now variables used_commands outcome result }
 {
     match outcome {
         Ok(result) => {

@@ -9,7 +9,7 @@ ghost use Rattle.tclforms.specs.Views.{form_view};
 ghost use Rattle.tclsteps.specs.Machine.{bounds};
 ghost use Rattle.tclsteps.specs.Stops.{after, stopped};
 ghost use Rattle.tclcommands.specs.Does.{value_text};
-ghost use Rattle.tcleval.specs.Runs.{Comes};
+ghost use Rattle.tcleval.specs.Runs.{ComesToText};
 
 use crate::trees::left_out;
 use std::alloc::Global;
@@ -102,7 +102,8 @@ fn answer(
     wanted: bool,
     value: Value<'_>,
 ) -> Result<String, Stop>
-    ensures { Comes wanted limits.value_bytes result (λ t. (most : ℕ) (r : Job → plans.Step) (k : Next) (x : Point)
+    ensures { ComesToText wanted limits.value_bytes result
+        (λ t. (most : ℕ) (r : Job → plans.Step) (k : Next) (x : Point)
         → Leads most r (sized limits.value_bytes (value_text value.entry variables.now) (k (value_text value.entry
         variables.now) variables.now)) x (after result (λ _ s. k t s) variables.now) x) }
 {
@@ -124,7 +125,7 @@ pub(crate) fn plain<H: Host>(
     wanted: bool,
     form: Form<'_>,
 ) -> Result<String, Stop>
-    ensures { Comes wanted limits.value_bytes result (λ t. (most left used : ℕ) (r : Job → plans.Step) (k : Next)
+    ensures { ComesToText wanted limits.value_bytes result (λ t. (most left used : ℕ) (r : Job → plans.Step) (k : Next)
         → Leads most r (rules.form (bounds limits.value_bytes left) (form_view form.entry) variables.old
         (λ u s. sized limits.value_bytes u (k u s)))
         (point (H.oracle host.old) (H.told host.old) used)
@@ -147,7 +148,8 @@ pub(crate) fn unknown<H: Host>(
     words: &[String],
 ) -> Result<String, Stop>
     requires { map string_bytes words.now ≡ name.now ∷ map string_bytes operands.now }
-    ensures { Comes wanted limits.value_bytes result (λ t. (most used : ℕ) (b : Bounds) (r : Job → plans.Step) (k :
+    ensures { ComesToText wanted limits.value_bytes result
+        (λ t. (most used : ℕ) (b : Bounds) (r : Job → plans.Step) (k :
         Next)
         → Leads most r (rules.other_command b name.now (map string_bytes operands.now) variables.now
         (λ u s. sized limits.value_bytes u (k u s)) None)

@@ -1,13 +1,13 @@
-//! Evaluates scripts: one a line on standard input, as `COMMANDS DEPTH BYTES SCRIPT` with the three limits, and behind it names and
-//! values of the environment. Texts stand in hexadecimal digits, the empty one as `-`. The host keeps the words of `setenv` and what
-//! `puts` says, answers `mode`, and refuses `conflict`.
+//! Evaluates scripts: one a line on standard input, as `COMMANDS DEPTH BYTES SCRIPT` with the three limits, and behind
+//! it names and values of the environment. Texts stand in hexadecimal digits, the empty one as `-`. The host keeps the
+//! words of `setenv` and what `puts` says, answers `mode`, and refuses `conflict`.
 //!
-//! Each answer is a line: `ok RESULT COUNT` or `err NUMBER TEXT LINE`, the line only of an error; then `v NAME VALUE...` with the
-//! global variables where the script ended, `m TEXT...` with the messages, and `r WORDS...` with the records, each with its words
-//! joined by commas.
+//! Each answer is a line: `ok RESULT COUNT` or `err NUMBER TEXT LINE`, the line only of an error; then `v NAME
+//! VALUE...` with the global variables where the script ended, `m TEXT...` with the messages, and `r WORDS...` with the
+//! records, each with its words joined by commas.
 //!
-//! A line `kept SCRIPT TEXT...` evaluates a script over new lists of trees, and then asks them for the places of texts: of a script
-//! behind `s`, of an expression behind `e`.
+//! A line `kept SCRIPT TEXT...` evaluates a script over new lists of trees, and then asks them for the places of texts:
+//! of a script behind `s`, of an expression behind `e`.
 #![tactic(auto)]
 
 use std::alloc::Global;

@@ -12,7 +12,7 @@ use Rattle.tclexpr.specs.Tree.{Expr, operand, unary, choice, Token, mark}
 use Rattle.tclexpr.specs.Grammar.{level, sign_of, IsChain}
 use Rattle.tclexpr.specs.Marks.{after_white, mark_at}
 use Rattle.tclexpr.specs.Row.{IsRow, IsExprText}
-use Rattle.tclexpr.specs.Faults.{NextIsNot, MayFollow, MayFollowOr, Begins, bad_next, ExprFault, in_condition, deep_choice, in_yes, no_colon, in_no, ChainFault, in_operand, no_operand, deep_prefix, in_signed, in_open, no_close, deep_operator, in_right, ExprTextFault, inside, left_over}
+use Rattle.tclexpr.specs.Faults.{NextIsNot, MayFollow, MayFollowOr, BeginsOperand, bad_next, ExprFault, in_condition, deep_choice, in_yes, no_colon, in_no, ChainFault, in_operand, no_operand, deep_prefix, in_signed, in_open, no_close, deep_operator, in_right, ExprTextFault, inside, left_over}
 use Rattle.tclexpr.specs.Reading.{Extent, whole, chain, is_close, is_colon, is_open, expected, expect, signed_at, enclosed_at, begun_at, prefix_at, join, climb_at, chain_at, branches_at, choosing_at, whole_at, below_at, ended, expr_at}
 use Rattle.tclexpr.proofs.Rows.{row_cut}
 use Rattle.tclexpr.proofs.Sound.{open_is, close_is, colon_is}
@@ -32,7 +32,7 @@ expect_err test wanted only rest none = at_mark (mark_at (after_white rest)) ref
 ends_left : (wanted : Mark) (rest : Text) → NextIsNot (MayFollowOr wanted) rest → NextIsNot MayFollow rest
 ends_left wanted rest none = λ m more is goes. none m more is (inl goes)
 
-no_begin : (m : Mark) → (Begins m → ⊥) → (is_open m ≡ false) × (sign_of m ≡ None)
+no_begin : (m : Mark) → (BeginsOperand m → ⊥) → (is_open m ≡ false) × (sign_of m ≡ None)
 no_begin m none = (marked_false is_open marks.Open open_is m (λ e. none (inl e)) (is_open m) refl, by_sign (sign_of m) refl) where
   by_sign : (s : Option UnaryOperator) → sign_of m ≡ s → sign_of m ≡ None
   by_sign None is = is
@@ -63,7 +63,7 @@ module _ {O : Type 0} (read_operand : ℕ → Text → Read (O × ℕ)) (d : ℕ
       prefix_err n bs f (prefix_marked read_operand d below bs m after is ∙ marked_sign read_operand d below (length (after_white bs)) m u after s
       ∙ ap (read_map (λ (x : Expr O × ℕ). let made : Expr O × ℕ = (unary u x.0, suc x.1) in made)) h)
 
-  other_err : (n : ℕ) (bs : Text) (m : Mark) (after : Text) → mark_at (after_white bs) ≡ Some (m, after) → (Begins m → ⊥) → chain_at read_operand d below n bs ≡ Err (bad_next bs)
+  other_err : (n : ℕ) (bs : Text) (m : Mark) (after : Text) → mark_at (after_white bs) ≡ Some (m, after) → (BeginsOperand m → ⊥) → chain_at read_operand d below n bs ≡ Err (bad_next bs)
   other_err n bs m after is none =
       let two = no_begin m none in
       prefix_err n bs (bad_next bs) (prefix_marked read_operand d below bs m after is ∙ marked_other read_operand d below (length (after_white bs)) m after two.0

@@ -13,7 +13,7 @@ use Rattle.tclexpr.specs.Tree.{Expr, operand, unary, choice, mark}
 use Rattle.tclexpr.specs.Grammar.{level, sign_of, IsChain}
 use Rattle.tclexpr.specs.Marks.{after_white, mark_at}
 use Rattle.tclexpr.specs.Row.{IsRow}
-use Rattle.tclexpr.specs.Faults.{NextIsNot, MayFollow, MayFollowOr, Begins, bad_next, ExprFault, in_condition, deep_choice, in_yes, no_colon, in_no, ChainFault, in_operand, no_operand, deep_prefix, in_signed, in_open, no_close, deep_operator, in_right, ExprTextFault, inside, left_over}
+use Rattle.tclexpr.specs.Faults.{NextIsNot, MayFollow, MayFollowOr, BeginsOperand, bad_next, ExprFault, in_condition, deep_choice, in_yes, no_colon, in_no, ChainFault, in_operand, no_operand, deep_prefix, in_signed, in_open, no_close, deep_operator, in_right, ExprTextFault, inside, left_over}
 use Rattle.tclexpr.specs.Reading.{Extent, whole, chain, is_close, is_colon, is_question, is_open, infix_of, expected, expect, signed_at, enclosed_at, begun_at, prefix_at, join, next_at, going_at, climb_at, chain_at, branches_at, choosing_at, whole_at, below_at, ended, expr_at}
 use Rattle.tclexpr.proofs.Results.{found_once, found_none}
 use Rattle.tclexpr.proofs.Rows.{row_join, row_no_longer, after_white_no_longer, mark_shorter}
@@ -37,7 +37,7 @@ expected_err wanted left (Some p) f h = tested (wanted p.0) refl h where
 goes_or : (wanted : Mark) (test : Mark → Bool) → test wanted ≡ true → (rest : Text) → NextIsNot MayFollow rest → ((m : Mark) (after : Text) → mark_at (after_white rest) ≡ Some (m, after) → test m ≡ true → ⊥) → NextIsNot (MayFollowOr wanted) rest
 goes_or wanted test is rest ends none = λ m after found goes. elim goes [ inl g ↦ ends m after found g | inr e ↦ none m after found (ap test e ∙ is) ]
 
-no_sign : (m : Mark) → is_open m ≡ false → sign_of m ≡ None → Begins m → ⊥
+no_sign : (m : Mark) → is_open m ≡ false → sign_of m ≡ None → BeginsOperand m → ⊥
 no_sign m shut none begins = elim begins [ inl e ↦ true_false (sym (ap is_open e) ∙ shut) | inr s ↦ apart (sym s.1 ∙ none) ] where
   apart : {u : UnaryOperator} → Some u ≡ None → ⊥
   apart h = cc

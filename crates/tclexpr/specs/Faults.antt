@@ -31,8 +31,8 @@ abbrev pub MayFollowOr : Mark → Mark → Type 0
 MayFollowOr wanted m = MayFollow m ⊎ (m ≡ wanted)
 
 -- what an operand may begin with besides its own bytes: an operator before it, or a parenthesis
-abbrev pub Begins : Mark → Type 0
-Begins m = (m ≡ marks.Open) ⊎ ((u : UnaryOperator) × (sign_of m ≡ Some u))
+abbrev pub BeginsOperand : Mark → Type 0
+BeginsOperand m = (m ≡ marks.Open) ⊎ ((u : UnaryOperator) × (sign_of m ≡ Some u))
 
 -- what is left of the text from the next token on
 abbrev pub bad_next : Text → Fault
@@ -64,8 +64,9 @@ mutual
     in_operand : {d n : ℕ} {bs : Text} {f : Fault} → mark_at (after_white bs) ≡ None → OperandFault d (after_white bs) f
         → ChainFault O IsOperand OperandFault d n bs f
     no_operand : {d n : ℕ} {bs : Text} (m : Mark) (after : Text) → mark_at (after_white bs) ≡ Some (m, after)
-        → (Begins m → ⊥) → ChainFault O IsOperand OperandFault d n bs (bad_next bs)
-    deep_prefix : {n : ℕ} {bs : Text} (m : Mark) (after : Text) → mark_at (after_white bs) ≡ Some (m, after) → Begins m
+        → (BeginsOperand m → ⊥) → ChainFault O IsOperand OperandFault d n bs (bad_next bs)
+    deep_prefix : {n : ℕ} {bs : Text} (m : Mark) (after : Text) → mark_at (after_white bs) ≡ Some (m, after)
+        → BeginsOperand m
         → ChainFault O IsOperand OperandFault 0 n bs TooDeep
     in_signed : {d n : ℕ} {bs : Text} {f : Fault} (m : Mark) (u : UnaryOperator) (after : Text)
         → mark_at (after_white bs) ≡ Some (m, after) → sign_of m ≡ Some u

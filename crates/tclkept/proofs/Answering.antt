@@ -9,7 +9,7 @@ use Rattle.tclchars.specs.declared.fault.TextFault.{TextFault}
 use Rattle.tclchars.specs.declared.fault.TextFault.TheVariants.{OutOfMemory}
 use Rattle.std.specs.declared.alloc.Global.{Global}
 use Rattle.std.specs.declared.rc.Rc.{Rc}
-use Rattle.tclkept.specs.Trees.{Trees, Answers, texts_of, place_of, is_full, seen}
+use Rattle.tclkept.specs.Trees.{Trees, AnswersPlace, texts_of, place_of, is_full, seen}
 
 module _ {T U : Type 0} (view : T → U) where
   texts_seen : (es : Trees T) → texts_of (seen view es) ≡ texts_of es
@@ -27,7 +27,7 @@ module _ {T U : Type 0} (view : T → U) where
   full_seen es t = rw (texts_seen es, length_seen es) refl
 
   module _ (read : Text → Result U TextFault) (es : Trees T) (t : Text) where
-    pub there_answers : (i : ℕ) → place_of es t ≡ Some i → Answers read (seen view es) t (Ok (Some i)) (seen view es)
+    pub there_answers : (i : ℕ) → place_of es t ≡ Some i → AnswersPlace read (seen view es) t (Ok (Some i)) (seen view es)
     there_answers i h = record {
       there = λ j g. (ap Ok (sym h ∙ sym (place_seen es t) ∙ g), refl);
       full = λ g f. absurd (none_some (sym g ∙ place_seen es t ∙ h));
@@ -37,7 +37,7 @@ module _ {T U : Type 0} (view : T → U) where
         none_some : None ≡ Some i → ⊥
         none_some e = cc
 
-    pub full_answers : place_of es t ≡ None → is_full es t ≡ true → Answers read (seen view es) t (Ok None) (seen view es)
+    pub full_answers : place_of es t ≡ None → is_full es t ≡ true → AnswersPlace read (seen view es) t (Ok None) (seen view es)
     full_answers h f = record {
       there = λ j g. absurd (none_some j (sym h ∙ sym (place_seen es t) ∙ g));
       full = λ g e. (refl, refl);
@@ -57,18 +57,18 @@ module _ {T U : Type 0} (view : T → U) where
       true_false : true ≡ false → ⊥
       true_false e = cc
 
-      pub fails_answers : (fault : TextFault) → FailsWith fault (read t) → Answers read (seen view es) t (Err fault) (seen view es)
+      pub fails_answers : (fault : TextFault) → FailsWith fault (read t) → AnswersPlace read (seen view es) t (Err fault) (seen view es)
       fails_answers fault g = record {
         there = λ j p. absurd (none_some j (sym h ∙ sym (place_seen es t) ∙ p));
         full = λ p q. absurd (true_false (sym q ∙ full_seen es t ∙ f));
         added = λ p q. (g, refl);
       }
 
-      pub passed_answers : (fault : TextFault) (res : Result (Option ℕ) TextFault) → IsErrAnd res (λ f. f ≡ fault) → FailsWith fault (read t) → Answers read (seen view es) t res (seen view es)
+      pub passed_answers : (fault : TextFault) (res : Result (Option ℕ) TextFault) → IsErrAnd res (λ f. f ≡ fault) → FailsWith fault (read t) → AnswersPlace read (seen view es) t res (seen view es)
       passed_answers fault (Ok p) e g = absurd e
       passed_answers fault (Err f) e g = rw e (fails_answers fault g)
 
-      pub added_answers : (new : Trees T) (tree : T) (place : ℕ) → read t ≡ Ok (view tree) → place ≡ length es → new ≡ es ++ (t, tree) ∷ [] → Answers read (seen view es) t (Ok (Some place)) (seen view new)
+      pub added_answers : (new : Trees T) (tree : T) (place : ℕ) → read t ≡ Ok (view tree) → place ≡ length es → new ≡ es ++ (t, tree) ∷ [] → AnswersPlace read (seen view es) t (Ok (Some place)) (seen view new)
       added_answers new tree place g n e = record {
         there = λ j p. absurd (none_some j (sym h ∙ sym (place_seen es t) ∙ p));
         full = λ p q. absurd (true_false (sym q ∙ full_seen es t ∙ f));

@@ -11,7 +11,7 @@ use Rattle.tclexpr.specs.Operands.{Operand}
 use Rattle.tclexpr.specs.Text.{expr_of}
 use Rattle.tclexpr.specs.Owned as expression
 use Rattle.tclexpr.specs.declared.owned.OwnedExpr.{OwnedExpr}
-use Rattle.tclkept.specs.Trees.{Trees, AreLimited, Begins, seen}
+use Rattle.tclkept.specs.Trees.{Trees, AreLimited, BeginsWith, seen}
 
 pub record Kept : Type 0 where
   pub scripts : Trees OwnedScript
@@ -25,11 +25,11 @@ abbrev pub expressions_of : Kept → Trees (Expr Operand)
 expressions_of k = seen expression.owned_view k.expressions
 
 -- a tree of the program that is made of this text, and stands for the text's tree
-pub record IsScript (e : Text × OwnedScript) : Type 0 where
+pub record IsKeptScript (e : Text × OwnedScript) : Type 0 where
   pub text : string_bytes e.1.text ≡ e.0
   pub tree : script_of e.0 ≡ Ok (script.owned_view e.1)
 
-pub record IsExpression (e : Text × OwnedExpr) : Type 0 where
+pub record IsKeptExpression (e : Text × OwnedExpr) : Type 0 where
   pub text : string_bytes e.1.text ≡ e.0
   pub tree : expr_of e.0 ≡ Ok (expression.owned_view e.1)
 
@@ -37,8 +37,8 @@ pub record IsExpression (e : Text × OwnedExpr) : Type 0 where
 pub record AreKept (k : Kept) : Type 0 where
   pub scripts_limited : AreLimited k.scripts
   pub expressions_limited : AreLimited k.expressions
-  pub scripts_own : All IsScript k.scripts
-  pub expressions_own : All IsExpression k.expressions
+  pub scripts_own : All IsKeptScript k.scripts
+  pub expressions_own : All IsKeptExpression k.expressions
 
 abbrev pub BeginWith : Kept → Kept → Type 0
-BeginWith old new = Begins old.scripts new.scripts × Begins old.expressions new.expressions
+BeginWith old new = BeginsWith old.scripts new.scripts × BeginsWith old.expressions new.expressions

@@ -38,7 +38,7 @@ Adds read old t (Ok None) new = ⊥
 Adds read old t (Err fault) new = FailsWith fault (read t) × (new ≡ old)
 
 -- what is answered to a text, and what is kept then
-pub record Answers {T : Type 0} (read : Text → Result T TextFault) (old : Trees T) (t : Text)
+pub record AnswersPlace {T : Type 0} (read : Text → Result T TextFault) (old : Trees T) (t : Text)
     (result : Result (Option ℕ) TextFault) (new : Trees T) : Type 0 where
   -- a text that is there is answered by its place
   pub there : (place : ℕ) → place_of old t ≡ Some place → (result ≡ Ok (Some place)) × (new ≡ old)
@@ -63,5 +63,5 @@ abbrev pub seen : {T U : Type 0} → (T → U) → Trees T → Trees U
 seen view es = map (λ e. (e.0, view e.1)) es
 
 -- the second begins with the first
-abbrev pub Begins : {A : Type 0} → List A → List A → Type 0
-Begins {A} xs ys = (more : List A) × (ys ≡ xs ++ more)
+abbrev pub BeginsWith : {A : Type 0} → List A → List A → Type 0
+BeginsWith {A} xs ys = (more : List A) × (ys ≡ xs ++ more)

@@ -5,7 +5,7 @@ ghost use Rattle.tclscript.specs.Text.{script_of};
 ghost use Rattle.tclscript.specs.Owned as script;
 ghost use Rattle.tclexpr.specs.Text.{expr_of};
 ghost use Rattle.tclexpr.specs.Owned as expression;
-ghost use Rattle.tclkept.specs.Trees.{Answers, Keeps, place_of, is_full};
+ghost use Rattle.tclkept.specs.Trees.{AnswersPlace, Keeps, place_of, is_full};
 ghost use Rattle.tclkept.specs.Kept.{AreKept, BeginWith, scripts_of, expressions_of};
 
 use crate::parsed::{parsed_expr, parsed_script, shared};
@@ -81,7 +81,7 @@ impl Kept {
     ///
     /// Errors: the fault of a text that would be added (2 to 9), and want of memory (1). Then nothing changes.
     pub fn script(&mut self, text: &str) -> Result<Option<usize>, TextFault>
-        ensures answers { Answers script_of (scripts_of self.old) text.now result (scripts_of self.new) }
+        ensures answers { AnswersPlace script_of (scripts_of self.old) text.now result (scripts_of self.new) }
         ensures others { self.new.expressions ≡ self.old.expressions }
         ensures begins { BeginWith self.old self.new }
         ensures err { OnErr result (self.new ≡ self.old) }
@@ -145,7 +145,7 @@ impl Kept {
     ///
     /// Errors: the fault of a text that would be added (2 to 9), and want of memory (1). Then nothing changes.
     pub fn expr(&mut self, text: &str) -> Result<Option<usize>, TextFault>
-        ensures answers { Answers expr_of (expressions_of self.old) text.now result (expressions_of self.new) }
+        ensures answers { AnswersPlace expr_of (expressions_of self.old) text.now result (expressions_of self.new) }
         ensures others { self.new.scripts ≡ self.old.scripts }
         ensures begins { BeginWith self.old self.new }
         ensures err { OnErr result (self.new ≡ self.old) }

@@ -5,7 +5,7 @@ use Rattle.tclchars.specs.Runs.{Text}
 use Rattle.tclchars.specs.Reading.{left_of}
 use Rattle.tclchars.specs.declared.fault.Fault.{Fault}
 use Rattle.tcllist.specs.ListGrammar as grammar
-use Rattle.tcllist.specs.ListGrammar.{Piece, begins_element, IsElement, IsList, BeginsList}
+use Rattle.tcllist.specs.ListGrammar.{ElementPiece, begins_element, IsElement, IsList, BeginsList}
 use Rattle.tcllist.specs.ListFaults as faults
 use Rattle.tcllist.specs.ListFaults.{IsWrong, IsFaulty, here, behind}
 use Rattle.tcllist.proofs.Cuts.{piece_cut}
@@ -21,11 +21,11 @@ record Begins (bs : Text) (f : Fault) : Type 0 where
   pub long : length rest ≡ left_of f
   pub is : IsList (before ++ more) elements
 
-piece_through : {ends : ℕ → Bool} {bs e mid : Text} → Piece ends bs e mid → {t rest : Text} → Piece ends mid t rest → Piece ends bs (e ++ t) rest
-piece_through grammar.Piece.nothing k = k
-piece_through (grammar.Piece.plain h g m) k = grammar.Piece.plain h g (piece_through m k)
-piece_through {ends} (grammar.Piece.substituted {bs} {ts} v r h m) {t} {rest} k =
-    subst (λ (x : Text). Piece ends (backslash ∷ bs) x rest) (sym (append_assoc v ts t)) (grammar.Piece.substituted v r h (piece_through m k))
+piece_through : {ends : ℕ → Bool} {bs e mid : Text} → ElementPiece ends bs e mid → {t rest : Text} → ElementPiece ends mid t rest → ElementPiece ends bs (e ++ t) rest
+piece_through grammar.ElementPiece.nothing k = k
+piece_through (grammar.ElementPiece.plain h g m) k = grammar.ElementPiece.plain h g (piece_through m k)
+piece_through {ends} (grammar.ElementPiece.substituted {bs} {ts} v r h m) {t} {rest} k =
+    subst (λ (x : Text). ElementPiece ends (backslash ∷ bs) x rest) (sym (append_assoc v ts t)) (grammar.ElementPiece.substituted v r h (piece_through m k))
 
 only : (spaces body e : Text) → AllPass is_space spaces → IsElement body e [] → IsList (spaces ++ body) (e ∷ [])
 only spaces body e pass is = record { spaces = spaces; body = body; rest = []; whole = refl; are_spaces = pass; is_element = is; is_parted = tt; more = tt }
@@ -76,12 +76,12 @@ wrong_begins spaces pass (faults.IsWrong.joined_to_quote {bs} {e = el} {rest} m 
     behind_close spaces (34 ∷ bs) (34 ∷ (k.taken ++ 34 ∷ [])) rest el _ pass (ap (λ ys. 34 ∷ ys) (k.whole ∙ sym (append_assoc k.taken (34 ∷ []) rest))) (grammar.IsElement.in_quotes (k.again [])) refl
 wrong_begins spaces pass (faults.IsWrong.bad_in_quotes {bs} {e = el} {rest} m nothing) =
     let k = piece_cut m backslash rest refl in
-    let bell : Piece grammar.is_quote (backslash ∷ (97 ∷ (34 ∷ []))) (7 ∷ []) (34 ∷ []) = grammar.Piece.substituted (7 ∷ []) (34 ∷ []) refl grammar.Piece.nothing in
+    let bell : ElementPiece grammar.is_quote (backslash ∷ (97 ∷ (34 ∷ []))) (7 ∷ []) (34 ∷ []) = grammar.ElementPiece.substituted (7 ∷ []) (34 ∷ []) refl grammar.ElementPiece.nothing in
     in_element spaces (34 ∷ bs) (34 ∷ k.taken) (backslash ∷ rest) (backslash ∷ (97 ∷ (34 ∷ []))) (el ++ 7 ∷ []) _ pass (ap (λ ys. 34 ∷ ys) k.whole)
     (grammar.IsElement.in_quotes (piece_through (k.again (97 ∷ (34 ∷ []))) bell)) (omega arith)
 wrong_begins spaces pass (faults.IsWrong.bad_in_bare {bs} {e = el} {rest} starts m nothing) =
     let k = piece_cut m backslash rest refl in
-    let bell : Piece is_space (backslash ∷ (97 ∷ [])) (7 ∷ []) [] = grammar.Piece.substituted (7 ∷ []) [] refl grammar.Piece.nothing in
+    let bell : ElementPiece is_space (backslash ∷ (97 ∷ [])) (7 ∷ []) [] = grammar.ElementPiece.substituted (7 ∷ []) [] refl grammar.ElementPiece.nothing in
     in_element spaces bs k.taken (backslash ∷ rest) (backslash ∷ (97 ∷ [])) (el ++ 7 ∷ []) _ pass k.whole
     (grammar.IsElement.bare (same_start begins_element k.taken bs backslash rest (97 ∷ []) k.whole starts) (grammar.Bare.parted (piece_through (k.again (97 ∷ [])) bell) tt)) (omega arith)
 

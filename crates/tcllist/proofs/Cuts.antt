@@ -6,7 +6,7 @@ use Rattle.tclchars.specs.Bytes.{newline, backslash, is_continuation, MayBegin}
 use Rattle.tclchars.specs.Runs.{Text, front, back}
 use Rattle.tclchars.specs.Backslash.{after_backslash, is_octal, is_hexadecimal, character, octal_at, hexadecimal_at, code_at, wide_code_at, is_blank_or_tab, letter_value}
 use Rattle.tcllist.specs.ListGrammar as grammar
-use Rattle.tcllist.specs.ListGrammar.{Piece}
+use Rattle.tcllist.specs.ListGrammar.{ElementPiece}
 use Rattle.tcllist.proofs.Runs.{front_back, front_passes, back_fails, back_run, front_run}
 
 -- a reader f gives this value of a text, and leaves what begins with y; so it does where something else follows y
@@ -233,26 +233,26 @@ mark_cut v y (b ∷ bs) rest h = mark_cases b v y bs rest (b == newline) (is_oct
 pub record PieceCut (ends : ℕ → Bool) (bs e : Text) (y : ℕ) (rest : Text) : Type 0 where
   pub taken : Text
   pub whole : bs ≡ taken ++ y ∷ rest
-  pub again : (other : Text) → Piece ends (taken ++ y ∷ other) e (y ∷ other)
+  pub again : (other : Text) → ElementPiece ends (taken ++ y ∷ other) e (y ∷ other)
 
-joined_cut : (ends : ℕ → Bool) (bs v r ts : Text) → after_backslash bs ≡ Some (v, r) → (y : ℕ) (rest taken : Text) → r ≡ taken ++ y ∷ rest → ((other : Text) → Piece ends (taken ++ y ∷ other) ts (y ∷ other)) → PieceCut ends (backslash ∷ bs) (v ++ ts) y rest
+joined_cut : (ends : ℕ → Bool) (bs v r ts : Text) → after_backslash bs ≡ Some (v, r) → (y : ℕ) (rest taken : Text) → r ≡ taken ++ y ∷ rest → ((other : Text) → ElementPiece ends (taken ++ y ∷ other) ts (y ∷ other)) → PieceCut ends (backslash ∷ bs) (v ++ ts) y rest
 joined_cut ends bs v r ts stands y rest [] w again =
     let k = mark_cut v y bs rest (stands ∙ ap (λ xs. Some (v, xs)) w) in
-    record { taken = backslash ∷ k.taken; whole = ap (λ xs. backslash ∷ xs) k.whole; again = λ other. grammar.Piece.substituted v (y ∷ other) (k.again other) (again other) }
+    record { taken = backslash ∷ k.taken; whole = ap (λ xs. backslash ∷ xs) k.whole; again = λ other. grammar.ElementPiece.substituted v (y ∷ other) (k.again other) (again other) }
 joined_cut ends bs v r ts stands y rest (z ∷ taken) w again =
     let k = mark_cut v z bs (taken ++ y ∷ rest) (stands ∙ ap (λ xs. Some (v, xs)) w) in
     record {
       taken = backslash ∷ (k.taken ++ z ∷ taken);
       whole = ap (λ xs. backslash ∷ xs) (k.whole ∙ sym (append_assoc k.taken (z ∷ taken) (y ∷ rest)));
-      again = λ other. subst (λ xs. Piece ends (backslash ∷ xs) (v ++ ts) (y ∷ other)) (sym (append_assoc k.taken (z ∷ taken) (y ∷ other)))
-          (grammar.Piece.substituted v (z ∷ (taken ++ y ∷ other)) (k.again (taken ++ y ∷ other)) (again other));
+      again = λ other. subst (λ xs. ElementPiece ends (backslash ∷ xs) (v ++ ts) (y ∷ other)) (sym (append_assoc k.taken (z ∷ taken) (y ∷ other)))
+          (grammar.ElementPiece.substituted v (z ∷ (taken ++ y ∷ other)) (k.again (taken ++ y ∷ other)) (again other));
     }
 
-pub piece_cut : {ends : ℕ → Bool} {bs e tail : Text} → Piece ends bs e tail → (y : ℕ) (rest : Text) → tail ≡ y ∷ rest → PieceCut ends bs e y rest
-piece_cut grammar.Piece.nothing y rest e = record { taken = []; whole = e; again = λ other. grammar.Piece.nothing }
-piece_cut (grammar.Piece.plain {b} {bs} {ts} h k m) y rest e =
+pub piece_cut : {ends : ℕ → Bool} {bs e tail : Text} → ElementPiece ends bs e tail → (y : ℕ) (rest : Text) → tail ≡ y ∷ rest → PieceCut ends bs e y rest
+piece_cut grammar.ElementPiece.nothing y rest e = record { taken = []; whole = e; again = λ other. grammar.ElementPiece.nothing }
+piece_cut (grammar.ElementPiece.plain {b} {bs} {ts} h k m) y rest e =
     let more = piece_cut m y rest e in
-    record { taken = b ∷ more.taken; whole = ap (λ xs. b ∷ xs) more.whole; again = λ other. grammar.Piece.plain h k (more.again other) }
-piece_cut {ends} (grammar.Piece.substituted {bs} {ts} v r stands m) y rest e =
+    record { taken = b ∷ more.taken; whole = ap (λ xs. b ∷ xs) more.whole; again = λ other. grammar.ElementPiece.plain h k (more.again other) }
+piece_cut {ends} (grammar.ElementPiece.substituted {bs} {ts} v r stands m) y rest e =
     let more = piece_cut m y rest e in
     joined_cut ends bs v r ts stands y rest more.taken more.whole more.again

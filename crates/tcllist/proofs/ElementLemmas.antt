@@ -10,7 +10,7 @@ use Rattle.tclchars.specs.Reading.{◌>>=◌, Read, read_map}
 use Rattle.tclchars.specs.declared.fault.Fault.{Fault}
 use Rattle.tclchars.specs.declared.fault.Fault.TheVariants as marks
 use Rattle.tcllist.specs.ListGrammar as grammar
-use Rattle.tcllist.specs.ListGrammar.{Piece, Bare, is_quote, begins_element, IsElement}
+use Rattle.tcllist.specs.ListGrammar.{ElementPiece, Bare, is_quote, begins_element, IsElement}
 use Rattle.tcllist.specs.ListFaults as faults
 use Rattle.tcllist.specs.ListFaults.{IsJoined, IsLast, StandsForNothing, IsWrong}
 use Rattle.tcllist.specs.ListReading.{escaped_at, piece_at, piece_of, parted_at, parted, element_in_braces, element_in_quotes, quoted_at, element_at}
@@ -33,21 +33,21 @@ pub piece_of-gives : (ends : ℕ → Bool) → ends backslash ≡ false → (bs 
 unfolding piece_of
 piece_of-gives ends off bs = piece_gives ends off (suc (length bs)) bs (omega arith)
 
-piece_of-left : (ends : ℕ → Bool) (off : ends backslash ≡ false) {bs e rest : Text} → Piece ends bs e rest → PieceLeft ends (suc (length bs)) bs e rest
+piece_of-left : (ends : ℕ → Bool) (off : ends backslash ≡ false) {bs e rest : Text} → ElementPiece ends bs e rest → PieceLeft ends (suc (length bs)) bs e rest
 piece_of-left ends off {bs} m = piece_left ends off m (suc (length bs)) (omega arith)
 
-pub piece_of-end : (ends : ℕ → Bool) → ends backslash ≡ false → (bs e rest : Text) → Piece ends bs e rest → MayBegin ends rest → piece_of ends bs ≡ Ok (e, rest)
+pub piece_of-end : (ends : ℕ → Bool) → ends backslash ≡ false → (bs e rest : Text) → ElementPiece ends bs e rest → MayBegin ends rest → piece_of ends bs ≡ Ok (e, rest)
 piece_of-end ends off bs e [] m h = to_end ends off bs e [] [] [] (piece_of-left ends off m) (λ n. piece-none ends off n) ∙ ap (λ t. Ok (t, [])) (append-nil e)
 piece_of-end ends off bs e (b ∷ rest) m h = to_end ends off bs e (b ∷ rest) [] (b ∷ rest) (piece_of-left ends off m) (λ n. piece-end ends off n b rest h) ∙ ap (λ t. Ok (t, b ∷ rest)) (append-nil e)
 
-pub piece_of-backslash : (ends : ℕ → Bool) → ends backslash ≡ false → (bs e : Text) → Piece ends bs e (backslash ∷ []) → piece_of ends bs ≡ Ok (e ++ backslash ∷ [], [])
+pub piece_of-backslash : (ends : ℕ → Bool) → ends backslash ≡ false → (bs e : Text) → ElementPiece ends bs e (backslash ∷ []) → piece_of ends bs ≡ Ok (e ++ backslash ∷ [], [])
 piece_of-backslash ends off bs e m = to_end ends off bs e (backslash ∷ []) (backslash ∷ []) [] (piece_of-left ends off m) (λ n. piece-backslash ends off n [])
 
 nothing_mark : (more : Text → Read Text) (rest : Text) → StandsForNothing rest → escaped_at more rest (after_backslash rest) ≡ Err (marks.BadCharacter (suc (length rest)))
 nothing_mark more [] h = absurd h
 nothing_mark more (b ∷ rest) h = ap (escaped_at more (b ∷ rest)) h
 
-pub piece_of-bad : (ends : ℕ → Bool) → ends backslash ≡ false → (bs e rest : Text) → Piece ends bs e (backslash ∷ rest) → StandsForNothing rest → piece_of ends bs ≡ Err (marks.BadCharacter (suc (length rest)))
+pub piece_of-bad : (ends : ℕ → Bool) → ends backslash ≡ false → (bs e rest : Text) → ElementPiece ends bs e (backslash ∷ rest) → StandsForNothing rest → piece_of ends bs ≡ Err (marks.BadCharacter (suc (length rest)))
 unfolding piece_of
 piece_of-bad ends off bs e rest m h = go (piece_of-left ends off m) where
   go : PieceLeft ends (suc (length bs)) bs e (backslash ∷ rest) → piece_at ends (suc (length bs)) bs ≡ Err (marks.BadCharacter (suc (length rest)))
@@ -95,13 +95,13 @@ braces_give bs (Some p) e =
     after_close (123 ∷ bs) p.0 p.1 (parted_at p.1) (parts p.1) (grammar.IsElement.in_braces p.1 closed.0 closed.1) (λ joined. faults.IsWrong.joined_to_brace p.0 p.1 closed.0 closed.1 joined)
 
 -- Elements in quotes
-quote_cases : (bs e : Text) (b : ℕ) (rest : Text) (t : Bool) → is_quote b ≡ t → Piece is_quote bs e (b ∷ rest) → MayBegin is_quote (b ∷ rest) → ElementGives (34 ∷ bs) (element_in_quotes (suc (length bs)) e (b ∷ rest))
+quote_cases : (bs e : Text) (b : ℕ) (rest : Text) (t : Bool) → is_quote b ≡ t → ElementPiece is_quote bs e (b ∷ rest) → MayBegin is_quote (b ∷ rest) → ElementGives (34 ∷ bs) (element_in_quotes (suc (length bs)) e (b ∷ rest))
 quote_cases bs e b rest true t m h =
-    let closed : Piece is_quote bs e (34 ∷ rest) = subst (λ x. Piece is_quote bs e (x ∷ rest)) (is_byte b 34 t) m in
+    let closed : ElementPiece is_quote bs e (34 ∷ rest) = subst (λ x. ElementPiece is_quote bs e (x ∷ rest)) (is_byte b 34 t) m in
     rw t (after_close (34 ∷ bs) e rest (parted_at rest) (parts rest) (grammar.IsElement.in_quotes closed) (λ joined. faults.IsWrong.joined_to_quote closed joined))
 quote_cases bs e b rest false t m h = absurd (true_false (sym h ∙ t))
 
-quote_closes : (bs e rest : Text) → Piece is_quote bs e rest → MayBegin is_quote rest → ElementGives (34 ∷ bs) (element_in_quotes (suc (length bs)) e rest)
+quote_closes : (bs e rest : Text) → ElementPiece is_quote bs e rest → MayBegin is_quote rest → ElementGives (34 ∷ bs) (element_in_quotes (suc (length bs)) e rest)
 quote_closes bs e [] m h = faults.IsWrong.open_quote m (inl refl)
 quote_closes bs e (b ∷ rest) m h = quote_cases bs e b rest (is_quote b) refl m h
 
@@ -151,7 +151,7 @@ element-quote : (bs : Text) → element_at (34 ∷ bs) ≡ quoted_at bs
 unfolding element_at
 element-quote bs = refl
 
-quoted-close : (bs e rest : Text) → Piece is_quote bs e (34 ∷ rest) → quoted_at bs ≡ parted e rest
+quoted-close : (bs e rest : Text) → ElementPiece is_quote bs e (34 ∷ rest) → quoted_at bs ≡ parted e rest
 quoted-close bs e rest m = ap (λ r. r >>= (λ p. element_in_quotes (suc (length bs)) p.0 p.1)) (piece_of-end is_quote quote_off bs e (34 ∷ rest) m refl)
 
 pub element_read : {bs e rest : Text} → IsElement bs e rest → MayBegin is_space rest → element_at bs ≡ Ok (e, rest)
@@ -165,9 +165,9 @@ never_closes : (bs : Text) → ((inside rest : Text) → bs ≡ inside ++ 125 �
 never_closes bs none_closes None e = refl
 never_closes bs none_closes (Some p) e = let closed = close_sound bs false 0 p.0 p.1 e in absurd (none_closes p.0 p.1 closed.0 closed.1)
 
-quoted-open : (bs e rest : Text) → Piece is_quote bs e rest → IsLast rest → quoted_at bs ≡ Err (marks.OpenQuote (suc (length bs)))
-quoted-open bs e rest m (inl h) = ap (λ r. r >>= (λ p. element_in_quotes (suc (length bs)) p.0 p.1)) (piece_of-end is_quote quote_off bs e [] (subst (Piece is_quote bs e) h m) tt)
-quoted-open bs e rest m (inr h) = ap (λ r. r >>= (λ p. element_in_quotes (suc (length bs)) p.0 p.1)) (piece_of-backslash is_quote quote_off bs e (subst (Piece is_quote bs e) h m))
+quoted-open : (bs e rest : Text) → ElementPiece is_quote bs e rest → IsLast rest → quoted_at bs ≡ Err (marks.OpenQuote (suc (length bs)))
+quoted-open bs e rest m (inl h) = ap (λ r. r >>= (λ p. element_in_quotes (suc (length bs)) p.0 p.1)) (piece_of-end is_quote quote_off bs e [] (subst (ElementPiece is_quote bs e) h m) tt)
+quoted-open bs e rest m (inr h) = ap (λ r. r >>= (λ p. element_in_quotes (suc (length bs)) p.0 p.1)) (piece_of-backslash is_quote quote_off bs e (subst (ElementPiece is_quote bs e) h m))
 
 pub element_wrong : {bs : Text} {f : Fault} → IsWrong bs f → element_at bs ≡ Err f
 element_wrong (faults.IsWrong.open_brace {bs} none_closes) = element-brace bs ∙ ap (element_in_braces (suc (length bs))) (never_closes bs none_closes (braced_at false 0 bs) refl)

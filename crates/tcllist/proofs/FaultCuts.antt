@@ -8,7 +8,7 @@ use Rattle.tclchars.specs.declared.fault.Fault.{Fault}
 use Rattle.tclchars.specs.declared.fault.Fault.TheVariants as marks
 use Rattle.tclchars.specs.declared.fault.TextFault.TheVariants.{JoinedToClose, BadCharacter}
 use Rattle.tcllist.specs.ListGrammar as grammar
-use Rattle.tcllist.specs.ListGrammar.{Piece, Bare, is_quote, begins_element, IsElement, IsList}
+use Rattle.tcllist.specs.ListGrammar.{ElementPiece, Bare, is_quote, begins_element, IsElement, IsList}
 use Rattle.tcllist.specs.ListFaults as faults
 use Rattle.tcllist.specs.ListFaults.{IsJoined, IsWrong, IsFaulty, here, behind, IsListFault}
 use Rattle.tcllist.proofs.Cuts.{piece_cut}
@@ -42,7 +42,7 @@ element_cut (grammar.IsElement.in_quotes {bs} {e} {rest = tail} m) y rest t h =
     record {
       taken = 34 ∷ (k.taken ++ 34 ∷ []);
       whole = ap (λ xs. 34 ∷ xs) (k.whole ∙ ap (λ xs. k.taken ++ 34 ∷ xs) t ∙ sym (close_after k.taken 34 (y ∷ rest)));
-      again = λ other. grammar.IsElement.in_quotes (subst (λ xs. Piece is_quote xs e (34 ∷ (y ∷ other))) (sym (close_after k.taken 34 (y ∷ other))) (k.again (y ∷ other)));
+      again = λ other. grammar.IsElement.in_quotes (subst (λ xs. ElementPiece is_quote xs e (34 ∷ (y ∷ other))) (sym (close_after k.taken 34 (y ∷ other))) (k.again (y ∷ other)));
     }
 element_cut (grammar.IsElement.bare {bs} starts (grammar.Bare.parted {e} {rest = tail} m k)) y rest t h =
     let c = piece_cut m y rest t in
@@ -76,7 +76,7 @@ joined_braces bs inside (y ∷ rest) left w is joined e = record {
   again = λ other. (marks.JoinedToClose (length (y ∷ other)), faults.IsWrong.joined_to_brace inside (y ∷ other) (close_after inside 125 (y ∷ other)) is joined);
 }
 
-joined_quotes : (bs e rest : Text) (left : ℕ) → Piece is_quote bs e (34 ∷ rest) → IsJoined rest → length rest ≡ left → WrongCut IsWrong (34 ∷ bs) left
+joined_quotes : (bs e rest : Text) (left : ℕ) → ElementPiece is_quote bs e (34 ∷ rest) → IsJoined rest → length rest ≡ left → WrongCut IsWrong (34 ∷ bs) left
 joined_quotes bs e [] left m joined h = absurd joined
 joined_quotes bs e (y ∷ rest) left m joined h =
     let k = piece_cut m 34 (y ∷ rest) refl in
@@ -88,7 +88,7 @@ joined_quotes bs e (y ∷ rest) left m joined h =
       place = omega arith;
       again = λ other. (
         marks.JoinedToClose (length (y ∷ other)),
-        faults.IsWrong.joined_to_quote (subst (λ xs. Piece is_quote xs e (34 ∷ (y ∷ other))) (sym (close_after k.taken 34 (y ∷ other))) (k.again (y ∷ other))) joined,
+        faults.IsWrong.joined_to_quote (subst (λ xs. ElementPiece is_quote xs e (34 ∷ (y ∷ other))) (sym (close_after k.taken 34 (y ∷ other))) (k.again (y ∷ other))) joined,
       );
     }
 
@@ -163,10 +163,10 @@ begins_more : (p : ℕ → Bool) (bs more : Text) → DoesBegin p bs → DoesBeg
 begins_more p [] more h = absurd h
 begins_more p (b ∷ bs) more h = h
 
-piece_more : (ends : ℕ → Bool) (bs e rest more : Text) → Piece ends bs e (backslash ∷ rest) → Piece ends (bs ++ more) e (backslash ∷ (rest ++ more))
+piece_more : (ends : ℕ → Bool) (bs e rest more : Text) → ElementPiece ends bs e (backslash ∷ rest) → ElementPiece ends (bs ++ more) e (backslash ∷ (rest ++ more))
 piece_more ends bs e rest more m =
     let k = piece_cut m backslash rest refl in
-    subst (λ xs. Piece ends xs e (backslash ∷ (rest ++ more))) (sym (ap (λ xs. xs ++ more) k.whole ∙ append_assoc k.taken (backslash ∷ rest) more)) (k.again (rest ++ more))
+    subst (λ xs. ElementPiece ends xs e (backslash ∷ (rest ++ more))) (sym (ap (λ xs. xs ++ more) k.whole ∙ append_assoc k.taken (backslash ∷ rest) more)) (k.again (rest ++ more))
 
 abbrev StaysWrong : (Text → Fault → Type 0) → Text → Type 0
 StaysWrong Wrong bs = (f : Fault) × Wrong bs f

@@ -10,7 +10,7 @@ use Rattle.tclchars.specs.declared.fault.Fault.TheVariants as marks
 use Rattle.tcllist.specs.declared.read.End.{End}
 use Rattle.tcllist.specs.declared.read.End.TheVariants.{Space, Quote}
 use Rattle.tcllist.specs.ListGrammar as grammar
-use Rattle.tcllist.specs.ListGrammar.{Piece}
+use Rattle.tcllist.specs.ListGrammar.{ElementPiece}
 use Rattle.tcllist.specs.ListReading.{escaped_at, piece_at, piece_of}
 use Rattle.tcllist.specs.Ends.{ends_piece, is_plain_before}
 use Rattle.tcllist.proofs.Runs.{front_back, front_passes, back_fails, back_no_longer}
@@ -36,11 +36,11 @@ plain_parts true t h = cc
 plain_parts false true h = cc
 plain_parts false false h = (refl, refl)
 
-run_piece : (end : End) (run rest : Text) → AllPass (is_plain_before end) run → Piece (ends_piece end) (run ++ rest) run rest
-run_piece end [] rest h = grammar.Piece.nothing
+run_piece : (end : End) (run rest : Text) → AllPass (is_plain_before end) run → ElementPiece (ends_piece end) (run ++ rest) run rest
+run_piece end [] rest h = grammar.ElementPiece.nothing
 run_piece end (b ∷ run) rest h =
     let two = plain_parts (ends_piece end b) (b == backslash) h.0 in
-    grammar.Piece.plain two.0 two.1 (run_piece end run rest h.1)
+    grammar.ElementPiece.plain two.0 two.1 (run_piece end run rest h.1)
 
 -- a run in front is read
 so_far-run : (end : End) (bs value rest run marked : Text) → run ≡ front (is_plain_before end) rest → marked ≡ back (is_plain_before end) rest → PieceSoFar end bs value rest → PieceSoFar end bs (value ++ run) marked

@@ -7,7 +7,7 @@ use Rattle.tclchars.specs.Reading.{Read, read_map}
 use Rattle.tclchars.specs.declared.fault.Fault.{Fault}
 use Rattle.tclchars.specs.declared.fault.Fault.TheVariants as marks
 use Rattle.tcllist.specs.ListGrammar as grammar
-use Rattle.tcllist.specs.ListGrammar.{Piece}
+use Rattle.tcllist.specs.ListGrammar.{ElementPiece}
 use Rattle.tcllist.specs.ListFaults.{StandsForNothing}
 use Rattle.tcllist.specs.ListReading.{escaped_at, piece_on, piece_at, piece_of}
 use Rattle.tcllist.proofs.Runs.{is_byte}
@@ -15,11 +15,11 @@ use Rattle.tcllist.proofs.BackslashTaken.{taken_length}
 
 -- a piece that is read ends at what ends it, at the text's end, or with a backslash there
 abbrev pub PieceRead : (ℕ → Bool) → Text → Text → Text → Type 0
-PieceRead ends bs e rest = (Piece ends bs e rest × MayBegin ends rest) ⊎ ((front : Text) × Piece ends bs front (backslash ∷ []) × (e ≡ front ++ backslash ∷ []) × (rest ≡ []))
+PieceRead ends bs e rest = (ElementPiece ends bs e rest × MayBegin ends rest) ⊎ ((front : Text) × ElementPiece ends bs front (backslash ∷ []) × (e ≡ front ++ backslash ∷ []) × (rest ≡ []))
 
 -- a piece that is refused comes to a backslash that stands for nothing
 abbrev pub PieceRefused : (ℕ → Bool) → Text → Fault → Type 0
-PieceRefused ends bs f = (e : Text) × (rest : Text) × Piece ends bs e (backslash ∷ rest) × StandsForNothing rest × (f ≡ marks.BadCharacter (suc (length rest)))
+PieceRefused ends bs f = (e : Text) × (rest : Text) × ElementPiece ends bs e (backslash ∷ rest) × StandsForNothing rest × (f ≡ marks.BadCharacter (suc (length rest)))
 
 abbrev pub PieceGives : (ℕ → Bool) → Text → Read Text → Type 0
 PieceGives ends bs (Ok p) = PieceRead ends bs p.0 p.1
@@ -61,18 +61,18 @@ module _ (ends : ℕ → Bool) (backslash_on : ends backslash ≡ false) where
   piece-backslash n bs = piece-suc n (backslash ∷ bs) ∙ rw backslash_on refl
 
   -- a piece is read
-  pub piece_left : {bs e rest : Text} → Piece ends bs e rest → (n : ℕ) → length bs < n → PieceLeft ends n bs e rest
-  piece_left (grammar.Piece.nothing {rest}) n lt = record { turns = n; enough = lt; whole = read_map-none (piece_at ends n rest) }
-  piece_left (grammar.Piece.plain {b} {bs} {ts} {rest} x y m) zero lt = absurd (omega arith)
-  piece_left (grammar.Piece.plain {b} {bs} {ts} {rest} x y m) (suc n) lt =
+  pub piece_left : {bs e rest : Text} → ElementPiece ends bs e rest → (n : ℕ) → length bs < n → PieceLeft ends n bs e rest
+  piece_left (grammar.ElementPiece.nothing {rest}) n lt = record { turns = n; enough = lt; whole = read_map-none (piece_at ends n rest) }
+  piece_left (grammar.ElementPiece.plain {b} {bs} {ts} {rest} x y m) zero lt = absurd (omega arith)
+  piece_left (grammar.ElementPiece.plain {b} {bs} {ts} {rest} x y m) (suc n) lt =
       let more = piece_left m n (omega arith) in
       record {
         turns = more.turns;
         enough = more.enough;
         whole = piece-plain n b bs x y ∙ ap (read_map (λ t. b ∷ t)) more.whole ∙ read_map-cons b ts (piece_at ends more.turns rest);
       }
-  piece_left (grammar.Piece.substituted {bs} {ts} {rest} v r e m) zero lt = absurd (omega arith)
-  piece_left (grammar.Piece.substituted {bs} {ts} {rest} v r e m) (suc n) lt =
+  piece_left (grammar.ElementPiece.substituted {bs} {ts} {rest} v r e m) zero lt = absurd (omega arith)
+  piece_left (grammar.ElementPiece.substituted {bs} {ts} {rest} v r e m) (suc n) lt =
       let more = piece_left m n (omega (arith, taken_length bs v r e)) in
       record {
         turns = more.turns;
@@ -82,27 +82,27 @@ module _ (ends : ℕ → Bool) (backslash_on : ends backslash ≡ false) where
 
   -- what is read is a piece
   gives_plain : (b : ℕ) (bs : Text) → ends b ≡ false → (b == backslash) ≡ false → (r : Read Text) → PieceGives ends bs r → PieceGives ends (b ∷ bs) (read_map (λ t. b ∷ t) r)
-  gives_plain b bs h k (Ok p) (inl g) = inl (grammar.Piece.plain h k g.0, g.1)
-  gives_plain b bs h k (Ok p) (inr g) = inr (b ∷ g.0, grammar.Piece.plain h k g.1, ap (λ t. b ∷ t) g.2, g.3)
-  gives_plain b bs h k (Err f) g = (b ∷ g.0, g.1, grammar.Piece.plain h k g.2, g.3, g.4)
+  gives_plain b bs h k (Ok p) (inl g) = inl (grammar.ElementPiece.plain h k g.0, g.1)
+  gives_plain b bs h k (Ok p) (inr g) = inr (b ∷ g.0, grammar.ElementPiece.plain h k g.1, ap (λ t. b ∷ t) g.2, g.3)
+  gives_plain b bs h k (Err f) g = (b ∷ g.0, g.1, grammar.ElementPiece.plain h k g.2, g.3, g.4)
 
   gives_substituted : (bs v q : Text) → after_backslash bs ≡ Some (v, q) → (r : Read Text) → PieceGives ends q r → PieceGives ends (backslash ∷ bs) (read_map (λ t. v ++ t) r)
-  gives_substituted bs v q e (Ok p) (inl g) = inl (grammar.Piece.substituted v q e g.0, g.1)
-  gives_substituted bs v q e (Ok p) (inr g) = inr (v ++ g.0, grammar.Piece.substituted v q e g.1, ap (λ t. v ++ t) g.2 ∙ sym (append_assoc v g.0 (backslash ∷ [])), g.3)
-  gives_substituted bs v q e (Err f) g = (v ++ g.0, g.1, grammar.Piece.substituted v q e g.2, g.3, g.4)
+  gives_substituted bs v q e (Ok p) (inl g) = inl (grammar.ElementPiece.substituted v q e g.0, g.1)
+  gives_substituted bs v q e (Ok p) (inr g) = inr (v ++ g.0, grammar.ElementPiece.substituted v q e g.1, ap (λ t. v ++ t) g.2 ∙ sym (append_assoc v g.0 (backslash ∷ [])), g.3)
+  gives_substituted bs v q e (Err f) g = (v ++ g.0, g.1, grammar.ElementPiece.substituted v q e g.2, g.3, g.4)
 
   gives_mark : (more : Text → Read Text) (bs : Text) (found : Option (Text × Text)) → after_backslash bs ≡ found → ((q : Text) → length q ≤ length bs → PieceGives ends q (more q)) → PieceGives ends (backslash ∷ bs) (escaped_at more bs found)
   gives_mark more bs (Some s) e all = gives_substituted bs s.0 s.1 e (more s.1) (all s.1 (taken_length bs s.0 s.1 e))
-  gives_mark more [] None e all = inr ([], grammar.Piece.nothing, refl, refl)
-  gives_mark more (b ∷ bs) None e all = ([], b ∷ bs, grammar.Piece.nothing, e, refl)
+  gives_mark more [] None e all = inr ([], grammar.ElementPiece.nothing, refl, refl)
+  gives_mark more (b ∷ bs) None e all = ([], b ∷ bs, grammar.ElementPiece.nothing, e, refl)
 
   gives_cases : (more : Text → Read Text) (b : ℕ) (bs : Text) (t u : Bool) → ends b ≡ t → (b == backslash) ≡ u → ((q : Text) → length q ≤ length bs → PieceGives ends q (more q)) → PieceGives ends (b ∷ bs) (piece_on ends more (b ∷ bs))
-  gives_cases more b bs true u t' u' all = rw t' (inl (grammar.Piece.nothing, t'))
+  gives_cases more b bs true u t' u' all = rw t' (inl (grammar.ElementPiece.nothing, t'))
   gives_cases more b bs false true t' u' all = rw (t', u') (subst (λ x. PieceGives ends (x ∷ bs) (escaped_at more bs (after_backslash bs))) (sym (is_byte b backslash u')) (gives_mark more bs (after_backslash bs) refl all))
   gives_cases more b bs false false t' u' all = rw (t', u') (gives_plain b bs t' u' (more bs) (all bs (omega arith)))
 
   gives_on : (more : Text → Read Text) (bs : Text) → ((q : Text) → length q < length bs → PieceGives ends q (more q)) → PieceGives ends bs (piece_on ends more bs)
-  gives_on more [] all = inl (grammar.Piece.nothing, tt)
+  gives_on more [] all = inl (grammar.ElementPiece.nothing, tt)
   gives_on more (b ∷ bs) all = gives_cases more b bs (ends b) (b == backslash) refl refl (λ q le. all q (omega arith))
 
   pub piece_gives : (n : ℕ) (bs : Text) → length bs < n → PieceGives ends bs (piece_at ends n bs)

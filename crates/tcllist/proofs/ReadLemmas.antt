@@ -7,7 +7,7 @@ use Rattle.tclchars.specs.Reading.{◌>>=◌, Read, read_map, items_at, items_st
 use Rattle.tclchars.specs.declared.fault.Fault.{Fault}
 use Rattle.tclchars.proofs.Results.{ok_same, err_same, ok_err}
 use Rattle.tcllist.specs.ListGrammar as grammar
-use Rattle.tcllist.specs.ListGrammar.{Piece, begins_element, IsElement, IsList}
+use Rattle.tcllist.specs.ListGrammar.{ElementPiece, begins_element, IsElement, IsList}
 use Rattle.tcllist.specs.ListFaults.{IsFaulty, here, behind}
 use Rattle.tcllist.specs.ListReading.{element_at, text_ends, list_at}
 use Rattle.tcllist.proofs.Runs.{true_false, front_back, front_passes, back_fails, back_no_longer, back_run}
@@ -16,21 +16,21 @@ use Rattle.tcllist.proofs.Loops.{items-end, items-fail, items-more}
 use Rattle.tcllist.proofs.ElementLemmas.{ElementGives, element_gives, element_read, element_wrong, element_starts, wrong_starts}
 
 -- How much an element takes
-pub piece_length : {ends : ℕ → Bool} {bs e rest : Text} → Piece ends bs e rest → length rest ≤ length bs
-piece_length grammar.Piece.nothing = omega arith
-piece_length (grammar.Piece.plain x y m) = omega (arith, piece_length m)
-piece_length (grammar.Piece.substituted {bs} v r e m) = omega (arith, piece_length m, taken_length bs v r e)
+pub piece_length : {ends : ℕ → Bool} {bs e rest : Text} → ElementPiece ends bs e rest → length rest ≤ length bs
+piece_length grammar.ElementPiece.nothing = omega arith
+piece_length (grammar.ElementPiece.plain x y m) = omega (arith, piece_length m)
+piece_length (grammar.ElementPiece.substituted {bs} v r e m) = omega (arith, piece_length m, taken_length bs v r e)
 
 element_no_space : (b : ℕ) → begins_element b ≡ true → is_space b ≡ true → ⊥
 element_no_space b h k = grind (arith, nat_tests)
 
-bare_length : {bs e rest : Text} → DoesBegin begins_element bs → Piece is_space bs e rest → MayBegin is_space rest → length rest < length bs
-bare_length starts (grammar.Piece.nothing {rest}) h = same rest starts h where
+bare_length : {bs e rest : Text} → DoesBegin begins_element bs → ElementPiece is_space bs e rest → MayBegin is_space rest → length rest < length bs
+bare_length starts (grammar.ElementPiece.nothing {rest}) h = same rest starts h where
   same : (rest : Text) → DoesBegin begins_element rest → MayBegin is_space rest → length rest < length rest
   same [] starts h = absurd starts
   same (b ∷ rest) starts h = absurd (element_no_space b starts h)
-bare_length starts (grammar.Piece.plain x y m) h = omega (arith, piece_length m)
-bare_length starts (grammar.Piece.substituted {bs} v r e m) h = omega (arith, piece_length m, taken_length bs v r e)
+bare_length starts (grammar.ElementPiece.plain x y m) h = omega (arith, piece_length m)
+bare_length starts (grammar.ElementPiece.substituted {bs} v r e m) h = omega (arith, piece_length m, taken_length bs v r e)
 
 some_length : (p : ℕ → Bool) (bs : Text) → DoesBegin p bs → 0 < length bs
 some_length p [] h = absurd h

@@ -8,7 +8,7 @@ use Rattle.tclchars.specs.Bytes.{is_space}
 use Rattle.tclchars.specs.Backslash.{after_backslash}
 use Rattle.tclchars.specs.Braces.{Balanced, nothing, other, inner}
 use Rattle.tcllist.specs.ListGrammar as grammar
-use Rattle.tcllist.specs.ListGrammar.{Piece, Bare, begins_element, IsElement, IsList}
+use Rattle.tcllist.specs.ListGrammar.{ElementPiece, Bare, begins_element, IsElement, IsList}
 use Rattle.tcllist.specs.Lists.{is_marked, begins_bare, is_bare, closed_one, depth_after, goes_on, balances, letter_of, escape, escaped, element_text, list_rest, list_text}
 use Rattle.tcllist.proofs.Runs.{is_byte, is_no_byte, true_false}
 
@@ -103,26 +103,26 @@ letter_cases b bs false false false false false n' t' r' v' f' m = ap (λ x. aft
   same_letter : (b : ℕ) → (b == 10) ≡ false → (b == 9) ≡ false → (b == 13) ≡ false → (b == 11) ≡ false → (b == 12) ≡ false → letter_of b ≡ b
   same_letter b n t r v f = rw (n, t, r, v, f) refl
 
-escape_means : (b : ℕ) (bs ts rest : Text) → Piece is_space bs ts rest → Piece is_space (escape b ++ bs) (b ∷ ts) rest
+escape_means : (b : ℕ) (bs ts rest : Text) → ElementPiece is_space bs ts rest → ElementPiece is_space (escape b ++ bs) (b ∷ ts) rest
 escape_means b bs ts rest s = elim (marked_or_plain b (is_marked b) refl) [
-  | inl m ↦ rw m (grammar.Piece.substituted (b ∷ []) bs (letter_cases b bs (b == 10) (b == 9) (b == 13) (b == 11) (b == 12) refl refl refl refl refl m) s)
-  | inr h ↦ (let u = unmarked (is_marked b) h in let two = plain_byte b h in rw u (grammar.Piece.plain two.0 two.1 s))
+  | inl m ↦ rw m (grammar.ElementPiece.substituted (b ∷ []) bs (letter_cases b bs (b == 10) (b == 9) (b == 13) (b == 11) (b == 12) refl refl refl refl refl m) s)
+  | inr h ↦ (let u = unmarked (is_marked b) h in let two = plain_byte b h in rw u (grammar.ElementPiece.plain two.0 two.1 s))
 ]
 
-escapes_mean : (e rest : Text) → Piece is_space (flat_map escape e ++ rest) e rest
-escapes_mean [] rest = grammar.Piece.nothing
-escapes_mean (b ∷ e) rest = subst (λ x. Piece is_space x (b ∷ e) rest) (sym (append_assoc (escape b) (flat_map escape e) rest)) (escape_means b (flat_map escape e ++ rest) e rest (escapes_mean e rest))
+escapes_mean : (e rest : Text) → ElementPiece is_space (flat_map escape e ++ rest) e rest
+escapes_mean [] rest = grammar.ElementPiece.nothing
+escapes_mean (b ∷ e) rest = subst (λ x. ElementPiece is_space x (b ∷ e) rest) (sym (append_assoc (escape b) (flat_map escape e) rest)) (escape_means b (flat_map escape e ++ rest) e rest (escapes_mean e rest))
 
 both_hold : (s t : Bool) → (s && t) ≡ true → (s ≡ true) × (t ≡ true)
 both_hold true t h = (refl, h)
 both_hold false t h = cc
 
-plain_means : (e rest : Text) → list_all is_plain e ≡ true → Piece is_space (e ++ rest) e rest
-plain_means [] rest h = grammar.Piece.nothing
+plain_means : (e rest : Text) → list_all is_plain e ≡ true → ElementPiece is_space (e ++ rest) e rest
+plain_means [] rest h = grammar.ElementPiece.nothing
 plain_means (b ∷ e) rest h =
     let two = both_hold (is_plain b) (list_all is_plain e) h in
     let one = plain_byte b two.0 in
-    grammar.Piece.plain one.0 one.1 (plain_means e rest two.1)
+    grammar.ElementPiece.plain one.0 one.1 (plain_means e rest two.1)
 
 -- Elements
 plain_begins : (b : ℕ) → is_plain b ≡ true → begins_element b ≡ true
@@ -142,7 +142,7 @@ escape_begins b bs = elim (marked_or_plain b (is_marked b) refl) [
 
 escaped_cases : (b : ℕ) (e rest : Text) (t : Bool) → (b == hash) ≡ t → MayBegin is_space rest → IsElement (escaped (b ∷ e) ++ rest) (b ∷ e) rest
 escaped_cases b e rest true t k =
-    rw t (grammar.IsElement.bare refl (grammar.Bare.parted (subst (λ x. Piece is_space (backslash ∷ (hash ∷ (flat_map escape e ++ rest))) (x ∷ e) rest) (sym (is_byte b hash t)) (grammar.Piece.substituted (hash ∷ []) (flat_map escape e ++ rest) refl (escapes_mean e rest))) k))
+    rw t (grammar.IsElement.bare refl (grammar.Bare.parted (subst (λ x. ElementPiece is_space (backslash ∷ (hash ∷ (flat_map escape e ++ rest))) (x ∷ e) rest) (sym (is_byte b hash t)) (grammar.ElementPiece.substituted (hash ∷ []) (flat_map escape e ++ rest) refl (escapes_mean e rest))) k))
 escaped_cases b e rest false t k =
     rw t (grammar.IsElement.bare (subst (DoesBegin begins_element) (sym (append_assoc (escape b) (flat_map escape e) rest)) (escape_begins b (flat_map escape e ++ rest))) (grammar.Bare.parted (escapes_mean (b ∷ e) rest) k))
 

@@ -8,7 +8,7 @@ use Rattle.tclchars.specs.Whole.{IsFaultOf}
 use Rattle.tclchars.specs.declared.fault.Fault.{Fault}
 use Rattle.tclchars.specs.declared.fault.Fault.TheVariants as marks
 use Rattle.tclchars.specs.declared.fault.TextFault.{TextFault}
-use Rattle.tcllist.specs.ListGrammar.{Piece, is_quote, begins_element, IsElement}
+use Rattle.tcllist.specs.ListGrammar.{ElementPiece, is_quote, begins_element, IsElement}
 
 -- a first byte that is no white space
 abbrev pub IsJoined : Text → Type 0
@@ -30,13 +30,13 @@ pub data IsWrong : Text → Fault → Type 0 where
       → IsWrong (left_brace ∷ bs) (marks.OpenBrace (suc (length bs)))
   joined_to_brace : {bs : Text} (inside rest : Text) → bs ≡ inside ++ right_brace ∷ rest → Balanced inside
       → IsJoined rest → IsWrong (left_brace ∷ bs) (marks.JoinedToClose (length rest))
-  open_quote : {bs e rest : Text} → Piece is_quote bs e rest → IsLast rest
+  open_quote : {bs e rest : Text} → ElementPiece is_quote bs e rest → IsLast rest
       → IsWrong (quote ∷ bs) (marks.OpenQuote (suc (length bs)))
-  joined_to_quote : {bs e rest : Text} → Piece is_quote bs e (quote ∷ rest) → IsJoined rest
+  joined_to_quote : {bs e rest : Text} → ElementPiece is_quote bs e (quote ∷ rest) → IsJoined rest
       → IsWrong (quote ∷ bs) (marks.JoinedToClose (length rest))
-  bad_in_quotes : {bs e rest : Text} → Piece is_quote bs e (backslash ∷ rest) → StandsForNothing rest
+  bad_in_quotes : {bs e rest : Text} → ElementPiece is_quote bs e (backslash ∷ rest) → StandsForNothing rest
       → IsWrong (quote ∷ bs) (marks.BadCharacter (suc (length rest)))
-  bad_in_bare : {bs e rest : Text} → DoesBegin begins_element bs → Piece is_space bs e (backslash ∷ rest)
+  bad_in_bare : {bs e rest : Text} → DoesBegin begins_element bs → ElementPiece is_space bs e (backslash ∷ rest)
       → StandsForNothing rest → IsWrong bs (marks.BadCharacter (suc (length rest)))
 
 -- white space and elements, as in a list, and then an element that is wrong

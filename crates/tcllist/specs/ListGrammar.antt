@@ -8,20 +8,20 @@ use Rattle.tclchars.specs.Braces.{Balanced}
 
 -- A piece of an element that is bare or in quotes, with its value and what follows. A byte that neither ends the
 -- element nor is a backslash stands for itself, and a backslash with what is read behind it for what Tcl(n) says
-pub data Piece (ends : ℕ → Bool) : Text → Text → Text → Type 0 where
-  nothing : {rest : Text} → Piece ends rest [] rest
-  plain : {b : ℕ} {bs ts rest : Text} → ends b ≡ false → (b == backslash) ≡ false → Piece ends bs ts rest
-      → Piece ends (b ∷ bs) (b ∷ ts) rest
-  substituted : {bs ts rest : Text} (v r : Text) → after_backslash bs ≡ Some (v, r) → Piece ends r ts rest
-      → Piece ends (backslash ∷ bs) (v ++ ts) rest
+pub data ElementPiece (ends : ℕ → Bool) : Text → Text → Text → Type 0 where
+  nothing : {rest : Text} → ElementPiece ends rest [] rest
+  plain : {b : ℕ} {bs ts rest : Text} → ends b ≡ false → (b == backslash) ≡ false → ElementPiece ends bs ts rest
+      → ElementPiece ends (b ∷ bs) (b ∷ ts) rest
+  substituted : {bs ts rest : Text} (v r : Text) → after_backslash bs ≡ Some (v, r) → ElementPiece ends r ts rest
+      → ElementPiece ends (backslash ∷ bs) (v ++ ts) rest
 
 abbrev pub is_quote : ℕ → Bool
 is_quote b = b == quote
 
 -- a bare element stands in front of the text, up to white space or the end. A backslash at the text's end is itself
 pub data Bare : Text → Text → Text → Type 0 where
-  parted : {bs e rest : Text} → Piece is_space bs e rest → MayBegin is_space rest → Bare bs e rest
-  backslash_last : {bs e : Text} → Piece is_space bs e (backslash ∷ []) → Bare bs (e ++ backslash ∷ []) []
+  parted : {bs e rest : Text} → ElementPiece is_space bs e rest → MayBegin is_space rest → Bare bs e rest
+  backslash_last : {bs e : Text} → ElementPiece is_space bs e (backslash ∷ []) → Bare bs (e ++ backslash ∷ []) []
 
 -- what a bare element begins with
 abbrev pub begins_element : ℕ → Bool
@@ -31,7 +31,7 @@ begins_element b = not (is_space b || b == quote || b == left_brace)
 pub data IsElement : Text → Text → Text → Type 0 where
   in_braces : {bs e : Text} (rest : Text) → bs ≡ e ++ right_brace ∷ rest → Balanced e
       → IsElement (left_brace ∷ bs) e rest
-  in_quotes : {bs e rest : Text} → Piece is_quote bs e (quote ∷ rest) → IsElement (quote ∷ bs) e rest
+  in_quotes : {bs e rest : Text} → ElementPiece is_quote bs e (quote ∷ rest) → IsElement (quote ∷ bs) e rest
   bare : {bs e rest : Text} → DoesBegin begins_element bs → Bare bs e rest → IsElement bs e rest
 
 -- white space, an element, and then white space or the end

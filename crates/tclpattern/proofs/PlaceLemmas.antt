@@ -6,7 +6,7 @@ use Rattle.std.proofs.lemmas.Str.{chars-nil, encodes-chars}
 use Rattle.std.proofs.lemmas.Bool.Decides.{nat_tests}
 use Rattle.tclpattern.specs.Patterns.{star, IsMatch}
 use Rattle.tclpattern.specs.Search.Steps as steps
-use Rattle.tclpattern.specs.Search.Steps.{OneStep, StepsOnly, StepsNowhere, Leads}
+use Rattle.tclpattern.specs.Search.Steps.{OneStep, StepsOnly, StepsNowhere, LeadsToStar}
 use Rattle.tclpattern.proofs.PatternLemmas.{pattern_ends}
 use Rattle.tclpattern.proofs.StepLemmas.{steps_go, match_steps}
 use Rattle.tclpattern.proofs.TakeLemmas.{not_so}
@@ -41,14 +41,14 @@ run-more ps cs p ps' c cs' rest goal e k n only same =
     let goes = steps_go p c ps' rest n only cs' in
     (λ m. here.0 (goes.1 m), λ g. goes.0 (here.1 g))
 
-pub leads-more : (ps cs : List ℕ) (p : ℕ) (ps' : List ℕ) (c : ℕ) (cs' rest whole text : List ℕ) → ps ≡ p ∷ ps' → cs ≡ c ∷ cs' → OneStep p ps' c rest → ((qs ds : List ℕ) → Leads ps cs qs ds → Leads whole text qs ds)
-    → (qs ds : List ℕ) → Leads rest cs' qs ds → Leads whole text qs ds
+pub leads-more : (ps cs : List ℕ) (p : ℕ) (ps' : List ℕ) (c : ℕ) (cs' rest whole text : List ℕ) → ps ≡ p ∷ ps' → cs ≡ c ∷ cs' → OneStep p ps' c rest → ((qs ds : List ℕ) → LeadsToStar ps cs qs ds → LeadsToStar whole text qs ds)
+    → (qs ds : List ℕ) → LeadsToStar rest cs' qs ds → LeadsToStar whole text qs ds
 leads-more ps cs p ps' c cs' rest whole text e k one same qs ds l =
-    same qs ds (subst (λ x. Leads x cs qs ds) (sym e) (subst (λ x. Leads (p ∷ ps') x qs ds) (sym k) (steps.Leads.step rest one l)))
+    same qs ds (subst (λ x. LeadsToStar x cs qs ds) (sym e) (subst (λ x. LeadsToStar (p ∷ ps') x qs ds) (sym k) (steps.LeadsToStar.step rest one l)))
 
-pub leads-star : (ps cs : List ℕ) (p : ℕ) (ps' whole text : List ℕ) → ps ≡ p ∷ ps' → p ≡ star → ((qs ds : List ℕ) → Leads ps cs qs ds → Leads whole text qs ds) → Leads whole text ps' cs
+pub leads-star : (ps cs : List ℕ) (p : ℕ) (ps' whole text : List ℕ) → ps ≡ p ∷ ps' → p ≡ star → ((qs ds : List ℕ) → LeadsToStar ps cs qs ds → LeadsToStar whole text qs ds) → LeadsToStar whole text ps' cs
 leads-star ps cs p ps' whole text e k same =
-    same ps' cs (subst (λ x. Leads x cs ps' cs) (sym e) (subst (λ x. Leads (x ∷ ps') cs ps' cs) (sym k) steps.Leads.at_star))
+    same ps' cs (subst (λ x. LeadsToStar x cs ps' cs) (sym e) (subst (λ x. LeadsToStar (x ∷ ps') cs ps' cs) (sym k) steps.LeadsToStar.at_star))
 
 pub run-none : (ps cs : List ℕ) (p : ℕ) (ps' : List ℕ) (c : ℕ) (cs' : List ℕ) (goal : Type 0) → ps ≡ p ∷ ps' → cs ≡ c ∷ cs' → p ≢ star → StepsNowhere p ps' c → IsMatch ps cs ↔ goal → IsTrue false ↔ goal
 run-none ps cs p ps' c cs' goal e k n nowhere same = not_so (λ g.

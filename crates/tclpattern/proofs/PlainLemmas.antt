@@ -5,7 +5,7 @@ use Rattle.tclpattern.specs.Patterns as pattern
 use Rattle.tclpattern.specs.Patterns.{star, question, open_bracket, close_bracket, backslash, dash, behind_close, no_dash, is_ordinary, HoldsIn, IsMatch}
 use Rattle.tclpattern.specs.Search.Tails.{IsTail}
 use Rattle.tclpattern.specs.Search.Steps as steps
-use Rattle.tclpattern.specs.Search.Steps.{OneStep, Leads}
+use Rattle.tclpattern.specs.Search.Steps.{OneStep, LeadsToStar}
 use Rattle.tclpattern.specs.Search.Plain.{reading_of, is_closed, is_plain}
 use Rattle.tclpattern.specs.declared.star.Reading.{Reading}
 use Rattle.tclpattern.specs.declared.star.Reading.TheVariants.{Outside, AtItem, BehindLow, AtEnd, Open}
@@ -77,9 +77,9 @@ step_plain (steps.OneStep.set {c} {ps} {rest} s) h = subst (λ xs. is_plain xs �
 step_plain (steps.OneStep.escaped {c} {ps}) h = h
 step_plain (steps.OneStep.itself {c} {ps} o) h = let n = ordinary_tests c o in rw (n.0, n.1) at h
 
-pub lead_plain : {ps cs qs ds : List ℕ} → Leads ps cs qs ds → is_plain ps ≡ true → is_plain qs ≡ true
-lead_plain (steps.Leads.at_star {ps} {cs}) h = h
-lead_plain (steps.Leads.step rest s l) h = lead_plain l (step_plain s h)
+pub lead_plain : {ps cs qs ds : List ℕ} → LeadsToStar ps cs qs ds → is_plain ps ≡ true → is_plain qs ≡ true
+lead_plain (steps.LeadsToStar.at_star {ps} {cs}) h = h
+lead_plain (steps.LeadsToStar.step rest s l) h = lead_plain l (step_plain s h)
 
 -- A plain pattern goes on with each character in the same way
 plain_same : {p c : ℕ} {ps rest : List ℕ} → OneStep p ps c rest → is_plain (p ∷ ps) ≡ true → (d : ℕ) (other : List ℕ) → OneStep p ps d other → other ≡ rest
@@ -105,10 +105,10 @@ shorter_tail c d cs ts h = cases (tail_or_itself c cs (d ∷ ts) h) where
   cases (inr t) = tail-more cs (d ∷ ts) ts t (d ∷ [], refl)
 
 -- the first way to the next star is as good as a later one
-pub later_way : {ps cs qs ds : List ℕ} → Leads ps cs qs ds → is_plain ps ≡ true → (ts : List ℕ) → IsTail cs ts → IsMatch ps ts → IsMatch (star ∷ qs) ds
-later_way (steps.Leads.at_star {ps} {cs}) h ts tail m = subst (IsMatch (star ∷ ps)) (sym tail.1) (star_under ps tail.0 ts m)
-later_way (steps.Leads.step {p} {c} {ps} {cs} {qs} {ds} rest s l) h [] tail m = absurd (text_ends p ps (step_no_star s) m)
-later_way (steps.Leads.step {p} {c} {ps} {cs} {qs} {ds} rest s l) h (d ∷ ts) tail m =
+pub later_way : {ps cs qs ds : List ℕ} → LeadsToStar ps cs qs ds → is_plain ps ≡ true → (ts : List ℕ) → IsTail cs ts → IsMatch ps ts → IsMatch (star ∷ qs) ds
+later_way (steps.LeadsToStar.at_star {ps} {cs}) h ts tail m = subst (IsMatch (star ∷ ps)) (sym tail.1) (star_under ps tail.0 ts m)
+later_way (steps.LeadsToStar.step {p} {c} {ps} {cs} {qs} {ds} rest s l) h [] tail m = absurd (text_ends p ps (step_no_star s) m)
+later_way (steps.LeadsToStar.step {p} {c} {ps} {cs} {qs} {ds} rest s l) h (d ∷ ts) tail m =
     let t = match_steps p d ps ts (step_no_star s) m in
     later_way l (step_plain s h) ts (shorter_tail c d cs ts tail) (subst (λ xs. IsMatch xs ts) (plain_same s h d t.0 t.1.0) t.1.1)
 
@@ -124,7 +124,7 @@ star_tail ps (c ∷ cs) m = cases (star_parts c ps cs m) (λ k. star_tail ps cs 
   cases (inr k) more = further (more k)
 
 -- The turns of the search from star to star
-pub plain-next : (ps cs qs ds : List ℕ) (goal : Type 0) → is_plain ps ≡ true → Leads ps cs qs ds → IsMatch (star ∷ qs) ds ↔ IsMatch ps cs → IsMatch (star ∷ ps) cs ↔ goal → IsMatch (star ∷ qs) ds ↔ goal
+pub plain-next : (ps cs qs ds : List ℕ) (goal : Type 0) → is_plain ps ≡ true → LeadsToStar ps cs qs ds → IsMatch (star ∷ qs) ds ↔ IsMatch ps cs → IsMatch (star ∷ ps) cs ↔ goal → IsMatch (star ∷ qs) ds ↔ goal
 plain-next ps cs qs ds goal h l same whole = (
   λ m. whole.0 (pattern.IsMatch.any_text [] (same.0 m)),
   λ g. (let t = star_tail ps cs (whole.1 g) in later_way l h t.0 t.1.0 t.1.1),

@@ -2,7 +2,7 @@
 ghost use Rattle.std.specs.Prelude.{◌≡◌, ◌↔◌, true, IsTrue};
 ghost use Rattle.std.specs.Str.{chars};
 ghost use Rattle.tclpattern.specs.Search.Plain as plain;
-ghost use Rattle.tclpattern.specs.Search.Places.{StarMatches, IsText};
+ghost use Rattle.tclpattern.specs.Search.Places.{StarMatches, IsUtf8Place};
 
 use crate::halves;
 use crate::place::{Outcome, Place, read_to_star};
@@ -18,7 +18,7 @@ const LARGE: usize = 16_385;
 
 /// Whether the pattern matches from that star on.
 pub(crate) fn matches_from(star: Place<'_>) -> bool
-    requires { IsText star }
+    requires { IsUtf8Place star }
     ensures { IsTrue result ↔ StarMatches star.entry }
 {
     if is_plain(star.pattern) {
@@ -81,7 +81,7 @@ fn is_plain(pattern: &str) -> bool
 
 // In a plain pattern the first way from a star to the next is as good as any: a later one only leaves less of the text.
 fn matches_plain(first: Place<'_>) -> bool
-    requires text { IsText first }
+    requires text { IsUtf8Place first }
     requires plain { plain.is_plain (chars first.pattern.now) ≡ true }
     ensures { IsTrue result ↔ StarMatches first.entry }
 {

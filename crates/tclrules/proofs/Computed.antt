@@ -24,7 +24,7 @@ use Rattle.tclrules.specs.Forms.{core_form}
 use Rattle.tclrules.specs.Playing.{Played}
 use Rattle.tclrules.specs.Plans.{Ending}
 use Rattle.tclrules.specs.Meaning.{Setting, play_file}
-use Rattle.tclrules.specs.Shown.{Shown, Result, Halts, Fails, standard, with_commands, with_depth, with_bytes, within, recorded, from_globals, seen, left_by, told_to, setting}
+use Rattle.tclrules.specs.Shown.{Shown, Result, Halts, Fails, standard, with_commands, with_depth, with_bytes, within, recorded, from_globals, seen, left_by, told_to, setenv_words}
 
 -- what a view shows of a playing
 abbrev pub viewed : {A : Type 0} → (Outcome Ending → World → A) → Played Ending → Option A
@@ -1006,23 +1006,23 @@ pub command_before_its_bracket_row : sees (within (with_commands 1) (codes "list
 unfolding computed
 command_before_its_bracket_row = refl
 
-pub kept_record_row : computed (recorded standard (codes "setenv ME x")) told_to 300 ≡ Some (record { records = (setting (codes "ME") (codes "x") ∷ []); messages = []; asked = false })
+pub kept_record_row : computed (recorded standard (codes "setenv ME x")) told_to 300 ≡ Some (record { records = (setenv_words (codes "ME") (codes "x") ∷ []); messages = []; asked = false })
 unfolding computed
 kept_record_row = refl
 
-pub kept_before_an_error_row : computed (recorded standard (codes "catch {setenv A 1; error x}; setenv B 2")) told_to 300 ≡ Some (record { records = (setting (codes "A") (codes "1") ∷ setting (codes "B") (codes "2") ∷ []); messages = []; asked = false })
+pub kept_before_an_error_row : computed (recorded standard (codes "catch {setenv A 1; error x}; setenv B 2")) told_to 300 ≡ Some (record { records = (setenv_words (codes "A") (codes "1") ∷ setenv_words (codes "B") (codes "2") ∷ []); messages = []; asked = false })
 unfolding computed
 kept_before_an_error_row = refl
 
-pub kept_before_a_fault_row : computed (recorded standard (codes "catch {setenv A 1} a(b)")) told_to 300 ≡ Some (record { records = (setting (codes "A") (codes "1") ∷ []); messages = []; asked = false })
+pub kept_before_a_fault_row : computed (recorded standard (codes "catch {setenv A 1} a(b)")) told_to 300 ≡ Some (record { records = (setenv_words (codes "A") (codes "1") ∷ []); messages = []; asked = false })
 unfolding computed
 kept_before_a_fault_row = refl
 
-pub kept_before_a_refusal_row : computed (recorded standard (codes "setenv A 1; catch {conflict b}; setenv B 2")) told_to 300 ≡ Some (record { records = (setting (codes "A") (codes "1") ∷ []); messages = []; asked = false })
+pub kept_before_a_refusal_row : computed (recorded standard (codes "setenv A 1; catch {conflict b}; setenv B 2")) told_to 300 ≡ Some (record { records = (setenv_words (codes "A") (codes "1") ∷ []); messages = []; asked = false })
 unfolding computed
 kept_before_a_refusal_row = refl
 
-pub asked_mode_row : computed (recorded standard (codes "if {[mode] eq \"unload\"} {setenv A 1}")) told_to 300 ≡ Some (record { records = (setting (codes "A") (codes "1") ∷ []); messages = []; asked = true })
+pub asked_mode_row : computed (recorded standard (codes "if {[mode] eq \"unload\"} {setenv A 1}")) told_to 300 ≡ Some (record { records = (setenv_words (codes "A") (codes "1") ∷ []); messages = []; asked = true })
 unfolding computed
 asked_mode_row = refl
 
@@ -1050,7 +1050,7 @@ pub said_row : computed (recorded standard (codes "puts stderr hi; puts -nonewli
 unfolding computed
 said_row = refl
 
-pub said_in_catch_row : computed (recorded standard (codes "catch {puts stderr x; error y}; setenv A 1")) told_to 300 ≡ Some (record { records = (setting (codes "A") (codes "1") ∷ []); messages = ((codes "x\n") ∷ []); asked = false })
+pub said_in_catch_row : computed (recorded standard (codes "catch {puts stderr x; error y}; setenv A 1")) told_to 300 ≡ Some (record { records = (setenv_words (codes "A") (codes "1") ∷ []); messages = ((codes "x\n") ∷ []); asked = false })
 unfolding computed
 said_in_catch_row = refl
 

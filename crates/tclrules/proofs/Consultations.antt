@@ -1,7 +1,7 @@
 -- What is asked and told on the way, for every table of rules.
 use Rattle.std.proofs.Common.{◌≡◌, ℕ, Bool, true, false, ◌||◌, List, ◌⊎◌, ⊎_elim, inl, inr, refl, ap}
 use Rattle.tclchars.specs.Runs.{Text}
-use Rattle.tclrules.specs.Oracle.{Record, Answer, Done, Unknown, LeftOut, Refused, Oracle, records_with, addition, is_question, is_refusal}
+use Rattle.tclrules.specs.Oracle.{CommandWords, OracleAnswer, Done, Unknown, LeftOut, Refused, Oracle, records_with, addition, is_question, is_refusal}
 use Rattle.tclrules.specs.Derivation.{ByHost, Outcome, Halted, Reply, Plan, World, replied, Eval, ends, counts, over, consults, reads, runs, halts, starves, hear, Throughout, AnswersOrRefuses, AgreesUnasked, IsUnrefused, asks, Grows, none, more}
 
 -- a second oracle that answers as the first does or refuses gives the same outcome, or a refusal
@@ -59,7 +59,7 @@ unasked (halts d) h = unasked d h
 unasked (starves a g) h = tt
 
 -- an evaluation that the host didn't refuse had no refused consultation
-answer_unrefused : {J R : Type 0} {oracle : Oracle} {most : ℕ} {rule : J → Plan J R} {v w : World} {o : Outcome R} (k : Reply → Plan J R) (a : Answer) → Eval false oracle most rule (replied k a) v o w → ((n : ℕ) → ¬ (o ≡ Halted (ByHost n))) → is_refusal a ≡ false
+answer_unrefused : {J R : Type 0} {oracle : Oracle} {most : ℕ} {rule : J → Plan J R} {v w : World} {o : Outcome R} (k : Reply → Plan J R) (a : OracleAnswer) → Eval false oracle most rule (replied k a) v o w → ((n : ℕ) → ¬ (o ≡ Halted (ByHost n))) → is_refusal a ≡ false
 answer_unrefused k (Done text adds asks) d h = refl
 answer_unrefused k (Unknown asks) d h = refl
 answer_unrefused k (LeftOut name asks) d h = refl
@@ -89,7 +89,7 @@ agree second h (halts d) t u = agree second h d t u
 agree second h (starves a g) t u = tt
 
 -- records grow by answers
-pub then : {oracle : Oracle} {rs qs ps : List Record} → Grows oracle rs qs → Grows oracle qs ps → Grows oracle rs ps
+pub then : {oracle : Oracle} {rs qs ps : List CommandWords} → Grows oracle rs qs → Grows oracle qs ps → Grows oracle rs ps
 then none g = g
 then (more words f) g = more words (then f g)
 
@@ -104,6 +104,6 @@ grown (halts d) = grown d
 grown (starves a g) = none
 
 -- and what each answer keeps is kept
-pub kept : {oracle : Oracle} {rs qs : List Record} (holds : List Record → Bool) → Grows oracle rs qs → holds rs ≡ true → ((rs : List Record) (words : List Text) → holds rs ≡ true → holds (records_with rs (addition (oracle.command rs words))) ≡ true) → holds qs ≡ true
+pub kept : {oracle : Oracle} {rs qs : List CommandWords} (holds : List CommandWords → Bool) → Grows oracle rs qs → holds rs ≡ true → ((rs : List CommandWords) (words : List Text) → holds rs ≡ true → holds (records_with rs (addition (oracle.command rs words))) ≡ true) → holds qs ≡ true
 kept holds none h keeps = h
 kept holds (more {rs = rs} words g) h keeps = kept holds g (keeps rs words h) keeps

@@ -1,7 +1,7 @@
 -- How a derivation is built by a program, from the front: each lemma leads from one plan to what comes after it, for every table of rules.
 use Rattle.std.proofs.Common.{◌≡◌, ℕ, ◌+◌, ◌<◌, ◌≤◌, Bool, true, false, List, Option, refl, ◌∙◌}
 use Rattle.tclchars.specs.Runs.{Text}
-use Rattle.tclrules.specs.Oracle.{Oracle, Told, Answer, tell}
+use Rattle.tclrules.specs.Oracle.{Oracle, Told, OracleAnswer, tell}
 use Rattle.tclrules.specs.Derivation.{Halt, TooManyCommands, OutOfMemory, Outcome, Ended, Halted, Reply, Plan, Ends, Counts, Consults, Reads, Runs, World, Eval, ends, counts, over, consults, reads, runs, halts, starves, replied, ask_told, perhaps_asked, perhaps_ask}
 use Rattle.tclrules.specs.Leads.{Point, point, Leads}
 
@@ -36,7 +36,7 @@ pub count_over : {J R : Type 0} {most : ℕ} {rule : J → Plan J R} {p : Plan J
 count_over h = record { same = refl; by = λ o w d. over_by h d }
 
 -- the host is asked, and a variable of the environment is read
-pub hear_on : {J R : Type 0} {most : ℕ} {rule : J → Plan J R} {words : List Text} {k : Reply → Plan J R} {oracle oracle' : Oracle} {told : Told} {n : ℕ} {a : Answer} → oracle.command told.records words ≡ a → oracle' ≡ oracle
+pub hear_on : {J R : Type 0} {most : ℕ} {rule : J → Plan J R} {words : List Text} {k : Reply → Plan J R} {oracle oracle' : Oracle} {told : Told} {n : ℕ} {a : OracleAnswer} → oracle.command told.records words ≡ a → oracle' ≡ oracle
     → Leads most rule (Consults words k) (point oracle told n) (replied k a) (point oracle' (tell told a) n)
 hear_on e s = record { same = s; by = λ o w d. consults (rw e (rw s at d)) }
 

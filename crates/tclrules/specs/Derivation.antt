@@ -4,7 +4,7 @@ use Rattle.std.specs.Prelude.{◌≡◌, ℕ, ◌+◌, ◌<◌, ◌≤◌, ◌�
 use Rattle.tclchars.specs.Runs.{Text}
 use Rattle.tclchars.specs.declared.fault.TextFault.{TextFault}
 use Rattle.tclrules.specs.Oracle as host
-use Rattle.tclrules.specs.Oracle.{Record, Told, Answer, Done, Unknown, Refused, Oracle, tell, is_question, is_refusal, records_with, addition}
+use Rattle.tclrules.specs.Oracle.{CommandWords, Told, OracleAnswer, Done, Unknown, Refused, Oracle, tell, is_question, is_refusal, records_with, addition}
 
 -- what nothing catches
 pub data Halt : Type 0 where
@@ -48,7 +48,7 @@ pub record World : Type 0 where
 abbrev pub count : World → World
 count w = record { used = w.used + 1; told = w.told }
 
-abbrev pub hear : World → Answer → World
+abbrev pub hear : World → OracleAnswer → World
 hear w a = record { used = w.used; told = tell w.told a }
 
 -- reading the environment is a question
@@ -66,7 +66,7 @@ abbrev pub perhaps_ask : Bool → World → World
 perhaps_ask asked w = record { used = w.used; told = perhaps_asked asked w.told }
 
 -- what is left to do after an answer
-abbrev pub replied : {J R : Type 0} → (Reply → Plan J R) → Answer → Plan J R
+abbrev pub replied : {J R : Type 0} → (Reply → Plan J R) → OracleAnswer → Plan J R
 replied k (Done text adds asks) = k (Says text)
 replied k (Unknown asks) = k NotKnown
 replied k (host.LeftOut name asks) = Ends (Halted (LeftOut name))
@@ -102,7 +102,7 @@ pub data Query : Type 0 where
 
 -- this holds of each consultation of a derivation, with the records so far
 abbrev pub Throughout : {J R : Type 0} {starving : Bool} {oracle : Oracle} {most : ℕ} {rule : J → Plan J R}
-    {p : Plan J R} {w : World} {o : Outcome R} {w' : World} → (List Record → Query → Type 0)
+    {p : Plan J R} {w : World} {o : Outcome R} {w' : World} → (List CommandWords → Query → Type 0)
     → Eval starving oracle most rule p w o w' → Type 0
 Throughout Holds ends = Unit {0}
 Throughout Holds (counts h d) = Throughout Holds d
@@ -114,30 +114,30 @@ Throughout Holds (halts d) = Throughout Holds d
 Throughout Holds (starves asked h) = Unit {0}
 
 -- the second oracle answers as the first does, or refuses
-abbrev pub AnswersOrRefuses : Oracle → Oracle → List Record → Query → Type 0
+abbrev pub AnswersOrRefuses : Oracle → Oracle → List CommandWords → Query → Type 0
 AnswersOrRefuses first second records (Command words) = (second.command records words ≡ first.command records words)
     ⊎ ((n : ℕ) × (asks : Bool) × (second.command records words ≡ Refused n asks))
 AnswersOrRefuses first second records (Variable name) = second.variable records name ≡ first.variable records name
 
 -- a consultation that isn't refused
-abbrev pub IsUnrefused : Oracle → List Record → Query → Type 0
+abbrev pub IsUnrefused : Oracle → List CommandWords → Query → Type 0
 IsUnrefused oracle records (Command words) = is_refusal (oracle.command records words) ≡ false
 IsUnrefused oracle records (Variable name) = Unit {0}
 
 -- whether a consultation is a question
-abbrev pub asks : Oracle → List Record → Query → Bool
+abbrev pub asks : Oracle → List CommandWords → Query → Bool
 asks oracle records (Command words) = is_question (oracle.command records words)
 asks oracle records (Variable name) = true
 
 -- where the first oracle is asked no question and doesn't refuse, the second answers as it does, or refuses
 abbrev pub AgreesUnasked : Oracle → Oracle → Type 0
 AgreesUnasked first second =
-    (records : List Record) (words : List Text) → is_question (first.command records words) ≡ false
+    (records : List CommandWords) (words : List Text) → is_question (first.command records words) ≡ false
     → is_refusal (first.command records words) ≡ false
     → AnswersOrRefuses first second records (Command words)
 
 -- records that the oracle's answers to commands make of others
-pub data Grows (oracle : Oracle) : List Record → List Record → Type 0 where
-  none : {rs : List Record} → Grows oracle rs rs
-  more : {rs qs : List Record} (words : List Text)
+pub data Grows (oracle : Oracle) : List CommandWords → List CommandWords → Type 0 where
+  none : {rs : List CommandWords} → Grows oracle rs rs
+  more : {rs qs : List CommandWords} (words : List Text)
       → Grows oracle (records_with rs (addition (oracle.command rs words))) qs → Grows oracle rs qs

@@ -4,17 +4,17 @@ use Rattle.std.specs.declared.alloc.Global.{Global}
 use Rattle.std.specs.declared.alloc.AllocError.{AllocError}
 use Rattle.tclchars.specs.Runs.{Text}
 use Rattle.tclrules.specs.Oracle as host
-use Rattle.tclrules.specs.Oracle.{Addition, Oracle, Told, Answer, tell}
+use Rattle.tclrules.specs.Oracle.{Addition, Oracle, Told, OracleAnswer, tell}
 use Rattle.tclrules.specs.Derivation.{ask_told, perhaps_asked}
 use Rattle.tclrules.specs.declared.host.HostAnswer.{HostAnswer}
 use Rattle.tclrules.specs.declared.host.HostAnswer.TheVariants.{Done, Unknown, LeftOut, Refused, OutOfMemory}
 
 -- the oracle's answer is this one, and it is told
-abbrev pub IsTold : Answer → Answer → Told → Told → Type 0
+abbrev pub IsTold : OracleAnswer → OracleAnswer → Told → Told → Type 0
 IsTold answer given old new = (answer ≡ given) × (new ≡ tell old answer)
 
 -- an answer to the words of a command. Want of memory leaves the records and messages, and the mark may be set
-abbrev pub Answers : Oracle → host.Record → HostAnswer → Told → Told → Type 0
+abbrev pub Answers : Oracle → host.CommandWords → HostAnswer → Told → Told → Type 0
 Answers oracle words (Done t) old new = (adds : Addition) × (asks : Bool)
     × IsTold (oracle.command old.records words) (host.Done (string_bytes t) adds asks) old new
 Answers oracle words Unknown old new = (asks : Bool)
@@ -26,7 +26,7 @@ Answers oracle words (Refused n) old new = (asks : Bool)
 Answers oracle words OutOfMemory old new = (asked : Bool) × (new ≡ perhaps_asked asked old)
 
 -- the value of an environment variable
-abbrev pub Reads : Oracle → Text → Result (Option (String Global)) AllocError → Told → Told → Type 0
-Reads oracle name (Ok value) old new = (oracle.variable old.records name ≡ option_map string_bytes value)
+abbrev pub ReadsVariable : Oracle → Text → Result (Option (String Global)) AllocError → Told → Told → Type 0
+ReadsVariable oracle name (Ok value) old new = (oracle.variable old.records name ≡ option_map string_bytes value)
     × (new ≡ ask_told old)
-Reads oracle name (Err e) old new = (asked : Bool) × (new ≡ perhaps_asked asked old)
+ReadsVariable oracle name (Err e) old new = (asked : Bool) × (new ≡ perhaps_asked asked old)

@@ -1,7 +1,7 @@
 -- What an evaluation of a script comes to.
 use Rattle.std.specs.Prelude.{◌≡◌, ℕ, ◌+◌, ◌==◌, ◌<◌, ◌⊎◌, Bool, true, false, List, min, count_by, take}
 use Rattle.tclchars.specs.Runs.{Text}
-use Rattle.tclrules.specs.Oracle.{Record, Oracle, Told, records_with, addition}
+use Rattle.tclrules.specs.Oracle.{CommandWords, Oracle, Told, records_with, addition}
 use Rattle.tclrules.specs.Derivation.{ByHost, Outcome, Halted, World, Eval}
 use Rattle.tclrules.specs.Playing.{Played, play}
 use Rattle.tclrules.specs.Variables.{Variables, start}
@@ -55,8 +55,8 @@ abbrev pub IsSameOrRefused : Outcome Ending → World → Outcome Ending → Wor
 IsSameOrRefused o w o2 w2 = ((o2 ≡ o) × (w2 ≡ w)) ⊎ ((n : ℕ) × (o2 ≡ Halted (ByHost n)))
 
 -- what holds of records holds with what an answer adds
-abbrev pub Keeps : Oracle → (List Record → Bool) → Type 0
-Keeps oracle holds = (rs : List Record) (words : List Text) → holds rs ≡ true
+abbrev pub KeepsRecords : Oracle → (List CommandWords → Bool) → Type 0
+KeepsRecords oracle holds = (rs : List CommandWords) (words : List Text) → holds rs ≡ true
     → holds (records_with rs (addition (oracle.command rs words))) ≡ true
 
 -- a script played, in so many steps of the longest way

@@ -3,27 +3,27 @@ use Rattle.std.specs.Prelude.{false, true, List, [], ◌∷◌, ◌++◌, if◌t
 use Rattle.std.specs.declared.vec.Vec.{Vec}
 use Rattle.std.specs.declared.alloc.Global.{Global}
 use Rattle.tclchars.specs.Runs.{Text}
-use Rattle.tclrules.specs.Oracle.{Record, Nothing, Kept, Message, Answer, Done, Unknown, Refused}
+use Rattle.tclrules.specs.Oracle.{CommandWords, Nothing, Kept, Message, OracleAnswer, Done, Unknown, Refused}
 use Rattle.tclrules.specs.Variables.{Variables, lookup}
 
-abbrev pub record_texts : Vec (String Global) Global → Record
+abbrev pub record_texts : Vec (String Global) Global → CommandWords
 record_texts r = map string_bytes r.items
 
 abbrev pub pair_texts : List (String Global × String Global) → Variables
 pair_texts vs = map (λ v. (string_bytes v.0, string_bytes v.1)) vs
 
 -- puts ?-nonewline? stderr t: the message is t, with a newline behind it unless there is an option
-abbrev pub message_in : Record → Option Text
+abbrev pub message_in : CommandWords → Option Text
 message_in (name ∷ channel ∷ t ∷ []) = Some (t ++ codes "\n")
 message_in (name ∷ option ∷ channel ∷ t ∷ []) = Some t
 message_in words = None
 
-abbrev pub said : Option Text → Answer
+abbrev pub said : Option Text → OracleAnswer
 said (Some t) = Done [] (Message t) false
 said None = Unknown false
 
 -- setenv is kept, puts is said, the mode is a question, conflict is refused, and nothing else is known
-abbrev pub named_answer : Text → Text → Record → Answer
+abbrev pub named_answer : Text → Text → CommandWords → OracleAnswer
 named_answer mode name words =
     if bytes_eq name (codes "setenv") then Done [] (Kept words) false
     else if bytes_eq name (codes "puts") then said (message_in words)
@@ -31,10 +31,10 @@ named_answer mode name words =
     else if bytes_eq name (codes "conflict") then Refused 51 false
     else Unknown false
 
-abbrev pub answer_of : Text → List Record → List Text → Answer
+abbrev pub answer_of : Text → List CommandWords → List Text → OracleAnswer
 answer_of mode records [] = Unknown false
 answer_of mode records (name ∷ words) = named_answer mode name (name ∷ words)
 
 -- the environment stays as it is
-abbrev pub value_in : Variables → List Record → Text → Option Text
+abbrev pub value_in : Variables → List CommandWords → Text → Option Text
 value_in environment records name = lookup environment name

@@ -19,7 +19,7 @@ use Rattle.tclvalue.specs.Globs.{glob}
 use Rattle.tclvalue.specs.Commands.{command_value}
 use Rattle.tclrules.specs.Derivation.{BadText, LeftOut, Stopped, Counts, Consults, Reads, Runs, Reply, Says, NotKnown}
 use Rattle.tclrules.specs.Messages.{no_command, not_to_unset, outside_loop, no_loop_variable, is_taken}
-use Rattle.tclrules.specs.Names.{is_among, left_out_commands, is_kept}
+use Rattle.tclrules.specs.Names.{is_among, left_out_commands, is_reserved}
 use Rattle.tclrules.specs.Variables.{Place, Plain, Element, Parameter, Procedure, Frame, State, in_frame, lookup, store, env, place_named, writable, value_at, with_value, without_value, sharable, shared_in}
 use Rattle.tclrules.specs.Forms.{Form, Get, Set, Unset, Append, ListAppend, Increase, Express, If, While, For, Foreach, Switch, Define, Return, Break, Continue, Exit, Error, Catch, Exists, Global, Put, increase_of, core_form}
 use Rattle.tclrules.specs.Plans as job
@@ -212,8 +212,8 @@ abbrev pub parameters : List Text → Answer (List Parameter)
 parameters [] = Ok []
 parameters (p ∷ ps) = elements_of p >>= parameter >>= (λ q. parameters ps >>= (λ qs. Ok (q ∷ qs)))
 
-abbrev pub unless_kept : Text → Answer (List Parameter) → Answer (List Parameter)
-unless_kept name ps = if is_kept name then Err (error (is_taken name)) else ps
+abbrev pub unless_reserved : Text → Answer (List Parameter) → Answer (List Parameter)
+unless_reserved name ps = if is_reserved name then Err (error (is_taken name)) else ps
 
 abbrev pub with_procedure : State → Text → Procedure → State
 with_procedure s name p = record s { procedures = store s.procedures name p }
@@ -274,7 +274,7 @@ form b (While c t) s k = Runs (job.While b.left c t s) (on_normal k)
 form b (For t c n u) s k = body b t s (on_normal (λ v s'. Runs (job.For b.left c n u s') (on_normal k)))
 form b (Foreach ps t) s k = given (loops ps) s (λ ls. Runs (job.Foreach b.left ls t s) (on_normal k))
 form b (Switch by_glob t ps) s k = otherwise b (chosen by_glob t ps) s k
-form b (Define name args t) s k = given (unless_kept name (elements_of args >>= parameters)) s
+form b (Define name args t) s k = given (unless_reserved name (elements_of args >>= parameters)) s
     (λ ps. k [] (with_procedure s name (record { parameters = ps; body = t })))
 form b (Return t) s k = ended (Returned t s)
 form b Break s k = ended (Broken s)

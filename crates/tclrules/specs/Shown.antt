@@ -1,7 +1,7 @@
 -- What shows of small scripts, for rows.
 use Rattle.std.specs.Prelude.{◌≡◌, ℕ, Bool, false, List, [], ◌∷◌, Option, Some, None, codes}
 use Rattle.tclchars.specs.Runs.{Text}
-use Rattle.tclrules.specs.Oracle.{Record, Oracle, Told, Unknown}
+use Rattle.tclrules.specs.Oracle.{CommandWords, Oracle, Told, Unknown}
 use Rattle.tclrules.specs.Derivation.{Halt, Outcome, Ended, Halted, World}
 use Rattle.tclrules.specs.Recording.{answer_of, value_in}
 use Rattle.tclrules.specs.Variables.{Variables}
@@ -88,8 +88,8 @@ abbrev pub Stops : Limits → Text → Halt → Type 0
 Stops l script h = Sees (within l script) (Halts h)
 
 -- from these variables it leaves those
-abbrev pub Leaves : Variables → Text → Variables → Type 0
-Leaves globals script left = Shows (from_globals globals script) left_by (Some left)
+abbrev pub LeavesVariables : Variables → Text → Variables → Type 0
+LeavesVariables globals script left = Shows (from_globals globals script) left_by (Some left)
 
 -- The same with the example host
 
@@ -100,10 +100,10 @@ abbrev pub HostStops : Limits → Text → Halt → Type 0
 HostStops l script h = Sees (recorded l script) (Halts h)
 
 -- it is told these records and messages, and is asked or not
-abbrev pub HostIsTold : Text → List Record → List Text → Bool → Type 0
+abbrev pub HostIsTold : Text → List CommandWords → List Text → Bool → Type 0
 HostIsTold script records messages asked = Shows (recorded standard script) told_to
     (record { records = records; messages = messages; asked = asked })
 
 -- the words of a setenv
-abbrev pub setting : Text → Text → Record
-setting name value = codes "setenv" ∷ name ∷ value ∷ []
+abbrev pub setenv_words : Text → Text → CommandWords
+setenv_words name value = codes "setenv" ∷ name ∷ value ∷ []

@@ -2,10 +2,10 @@
 
 ghost use Rattle.std.specs.Prelude.{◌≡◌, ℕ, ◌≤◌, ◌<◌, ◌⊎◌, Bool, true, false, List, Some};
 ghost use Rattle.tclchars.specs.Runs.{Text};
-ghost use Rattle.tclrules.specs.Oracle.{Record, Oracle, records_with, addition};
+ghost use Rattle.tclrules.specs.Oracle.{CommandWords, Oracle, records_with, addition};
 ghost use Rattle.tclrules.specs.Derivation.{Outcome, Halted, TooManyCommands, ByHost, World, Throughout, AnswersOrRefuses, AgreesUnasked, IsUnrefused, asks, Grows};
 ghost use Rattle.tclrules.specs.Plans.{Ending};
-ghost use Rattle.tclrules.specs.Meaning.{Setting, ComesTo, limited_to, with_oracle, HasNoEnd, Keeps, IsSameOrRefused, play_file};
+ghost use Rattle.tclrules.specs.Meaning.{Setting, ComesTo, limited_to, with_oracle, HasNoEnd, KeepsRecords, IsSameOrRefused, play_file};
 
 /// A script has one outcome.
 pub fn one_outcome()
@@ -63,8 +63,8 @@ pub fn unrefused()
 pub fn grown()
     ensures grows { (s : Setting) (o : Outcome Ending) (w : World)
         → ComesTo s o w → Grows s.oracle s.told.records w.told.records }
-    ensures kept { (s : Setting) (o : Outcome Ending) (w : World) (holds : List Record → Bool)
-        → ComesTo s o w → holds s.told.records ≡ true → Keeps s.oracle holds → holds w.told.records ≡ true }
+    ensures kept { (s : Setting) (o : Outcome Ending) (w : World) (holds : List CommandWords → Bool)
+        → ComesTo s o w → holds s.told.records ≡ true → KeepsRecords s.oracle holds → holds w.told.records ≡ true }
 {}
 
 /// What playing a script gives is its outcome, and in enough steps it gives it.

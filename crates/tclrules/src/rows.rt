@@ -4,7 +4,7 @@ ghost use Rattle.std.specs.Prelude.{[], ◌∷◌, ◌++◌, true, false, codes}
 ghost use Rattle.std.specs.List.{repeat};
 ghost use Rattle.tclchars.specs.declared.fault.TextFault.TheVariants as text;
 ghost use Rattle.tclrules.specs.Derivation.{BadText, TooManyCommands, TooDeep, ValueTooLong, NumberTooLarge, FractionOperand, LeftOut, Stopped, ByHost};
-ghost use Rattle.tclrules.specs.Shown.{standard, with_commands, with_depth, with_bytes, setting, Results, Raises, RaisesOn, Stops, Leaves, HostResults, HostStops, HostIsTold};
+ghost use Rattle.tclrules.specs.Shown.{standard, with_commands, with_depth, with_bytes, setenv_words, Results, Raises, RaisesOn, Stops, LeavesVariables, HostResults, HostStops, HostIsTold};
 
 /// The worked rows of the profile, with their counts.
 pub fn profile_rows()
@@ -302,15 +302,15 @@ pub fn limit_rows()
 
 /// What the example host is told, and whether it was asked.
 pub fn told_rows()
-    ensures kept_record { HostIsTold (codes "setenv ME x") (setting (codes "ME") (codes "x") ∷ []) [] false }
+    ensures kept_record { HostIsTold (codes "setenv ME x") (setenv_words (codes "ME") (codes "x") ∷ []) [] false }
     ensures kept_before_an_error { HostIsTold (codes "catch {setenv A 1; error x}; setenv B 2")
-        (setting (codes "A") (codes "1") ∷ setting (codes "B") (codes "2") ∷ []) [] false }
+        (setenv_words (codes "A") (codes "1") ∷ setenv_words (codes "B") (codes "2") ∷ []) [] false }
     ensures kept_before_a_fault { HostIsTold (codes "catch {setenv A 1} a(b)")
-        (setting (codes "A") (codes "1") ∷ []) [] false }
+        (setenv_words (codes "A") (codes "1") ∷ []) [] false }
     ensures kept_before_a_refusal { HostIsTold (codes "setenv A 1; catch {conflict b}; setenv B 2")
-        (setting (codes "A") (codes "1") ∷ []) [] false }
+        (setenv_words (codes "A") (codes "1") ∷ []) [] false }
     ensures asked_mode { HostIsTold (codes "if {[mode] eq \"unload\"} {setenv A 1}")
-        (setting (codes "A") (codes "1") ∷ []) [] true }
+        (setenv_words (codes "A") (codes "1") ∷ []) [] true }
     ensures asked_environment { HostIsTold
         (codes "proc p {} {return [info exists ::env(PATH)]}; if {[p]} {setenv X 1}") [] [] true }
     ensures environment_out_of_sight { HostIsTold
@@ -322,7 +322,7 @@ pub fn told_rows()
     ensures said { HostIsTold (codes "puts stderr hi; puts -nonewline stderr {a b}") []
         ((codes "hi\n") ∷ (codes "a b") ∷ []) false }
     ensures said_in_catch { HostIsTold (codes "catch {puts stderr x; error y}; setenv A 1")
-        (setting (codes "A") (codes "1") ∷ []) ((codes "x\n") ∷ []) false }
+        (setenv_words (codes "A") (codes "1") ∷ []) ((codes "x\n") ∷ []) false }
     ensures not_said { HostIsTold (codes "catch {puts stdout x}") [] [] false }
 {}
 
@@ -345,17 +345,17 @@ pub fn host_rows()
 
 /// Variables that a script is given, and those that it leaves.
 pub fn variable_rows()
-    ensures made_in_order { Leaves [] (codes "set b 1; set a 2; set b 3")
+    ensures made_in_order { LeavesVariables [] (codes "set b 1; set a 2; set b 3")
         (((codes "b"), (codes "3")) ∷ ((codes "a"), (codes "2")) ∷ []) }
-    ensures given_in_order { Leaves
+    ensures given_in_order { LeavesVariables
         (((codes "x"), (codes "1")) ∷ ((codes "y"), (codes "2")) ∷ ((codes "x"), (codes "3")) ∷ []) (codes "set z $x")
         (((codes "x"), (codes "3")) ∷ ((codes "y"), (codes "2")) ∷ ((codes "z"), (codes "3")) ∷ []) }
-    ensures made_again { Leaves (((codes "x"), (codes "1")) ∷ ((codes "y"), (codes "2")) ∷ [])
+    ensures made_again { LeavesVariables (((codes "x"), (codes "1")) ∷ ((codes "y"), (codes "2")) ∷ [])
         (codes "unset x; set x 3") (((codes "y"), (codes "2")) ∷ ((codes "x"), (codes "3")) ∷ []) }
-    ensures made_by_a_procedure { Leaves [] (codes "proc f {a} {global c; set b $a; set c $b; set ::d 4}; f 1")
+    ensures made_by_a_procedure { LeavesVariables [] (codes "proc f {a} {global c; set b $a; set c $b; set ::d 4}; f 1")
         (((codes "c"), (codes "1")) ∷ ((codes "d"), (codes "4")) ∷ []) }
-    ensures left_by_return { Leaves [] (codes "set a 1; return; set b 2") (((codes "a"), (codes "1")) ∷ []) }
-    ensures left_by_a_loop { Leaves [] (codes "foreach {x y} {1 2 3} {}")
+    ensures left_by_return { LeavesVariables [] (codes "set a 1; return; set b 2") (((codes "a"), (codes "1")) ∷ []) }
+    ensures left_by_a_loop { LeavesVariables [] (codes "foreach {x y} {1 2 3} {}")
         (((codes "x"), (codes "3")) ∷ ((codes "y"), (codes "")) ∷ []) }
 {}
 

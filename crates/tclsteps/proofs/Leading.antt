@@ -11,7 +11,7 @@ use Rattle.tclrules.specs.Variables.{State}
 use Rattle.tclrules.specs.Plans.{Job, Step, Next, halt, raise, on_normal, given, sized}
 use Rattle.tclrules.specs.Leads.{Point, Leads}
 use Rattle.tclrules.proofs.Leading.{stay, go_on, starve, run_on, run_halts}
-use Rattle.tclsteps.specs.Stops.{stopped, after, stop_of, Raises}
+use Rattle.tclsteps.specs.Stops.{stopped, after, stop_of, IsRaised}
 use Rattle.tclsteps.specs.declared.stop.Stop.{Stop}
 use Rattle.tclsteps.specs.declared.stop.Stop.TheVariants as stops
 use Rattle.tclsteps.specs.declared.stop.Halt.TheVariants as halts
@@ -74,7 +74,7 @@ run_stops s stops.Continued l = run_on l
 run_stops s (stops.Halted h) l = run_halts l
 
 -- an error that is made
-pub raised : {most : ℕ} {r : Job → Step} {x : Point} (t : Text) (stop : Stop) (s : State) → Raises t stop → Leads most r (raise t s) x (stopped stop s) x
+pub raised : {most : ℕ} {r : Job → Step} {x : Point} (t : Text) (stop : Stop) (s : State) → IsRaised t stop → Leads most r (raise t s) x (stopped stop s) x
 raised t (stops.Raised m) s h = rw h stay
 raised t (stops.Returned u) s h = absurd h
 raised t stops.Broken s h = absurd h

@@ -54,10 +54,10 @@ text_stop texts.OutOfMemory = stops.Halted halts.OutOfMemory
 text_stop f = stops.Halted (halts.Text f)
 
 -- the error with this message, or want of memory for it
-abbrev pub Raises : Text → Stop → Type 0
-Raises t (stops.Raised m) = string_bytes m ≡ t
-Raises t (stops.Returned u) = ⊥
-Raises t stops.Broken = ⊥
-Raises t stops.Continued = ⊥
-Raises t (stops.Halted halts.OutOfMemory) = Unit {0}
-Raises t (stops.Halted h) = ⊥
+abbrev pub IsRaised : Text → Stop → Type 0
+IsRaised t (stops.Raised m) = string_bytes m ≡ t
+IsRaised t (stops.Returned u) = ⊥
+IsRaised t stops.Broken = ⊥
+IsRaised t stops.Continued = ⊥
+IsRaised t (stops.Halted halts.OutOfMemory) = Unit {0}
+IsRaised t (stops.Halted h) = ⊥

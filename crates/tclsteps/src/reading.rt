@@ -7,7 +7,7 @@ ghost use Rattle.tclrules.specs.Plans as plans;
 ghost use Rattle.tclrules.specs.Plans.{Job, Next};
 ghost use Rattle.tclrules.specs.Words.{found, read, read_element, read_place, read_plain};
 ghost use Rattle.tclrules.specs.Messages.{in_quotes, is_array, no_variable};
-ghost use Rattle.tclsteps.specs.Stops.{after, Raises};
+ghost use Rattle.tclsteps.specs.Stops.{after, IsRaised};
 ghost use Rattle.tclvariables.specs.Places.{place_view};
 
 use crate::stop::Stop;
@@ -39,7 +39,7 @@ fn is_array(alloc: Global, name: &str) -> Result<String, AllocError>
 
 // The error with the message that a variable has no value.
 fn missing(alloc: Global, name: &str) -> Stop
-    ensures { Raises (no_variable name.now) result }
+    ensures { IsRaised (no_variable name.now) result }
 {
     match no_variable(alloc, name) {
         Ok(message) => Stop::Raised(message),
@@ -49,7 +49,7 @@ fn missing(alloc: Global, name: &str) -> Stop
 
 // The error with the message that `env` is an array.
 fn whole_array(alloc: Global, name: &str) -> Stop
-    ensures { Raises (is_array name.now) result }
+    ensures { IsRaised (is_array name.now) result }
 {
     match is_array(alloc, name) {
         Ok(message) => Stop::Raised(message),

@@ -19,8 +19,8 @@ use Rattle.tclvalue.specs.Globs.{glob}
 use Rattle.tclvalue.specs.Characters.{trimmed, trimmed_left, trimmed_right, characters_between, parts, joined, concatenated}
 use Rattle.tclvalue.specs.Characters.{white_space, split_space}
 
-abbrev pub Command : Type 0
-Command = List Text → Answer Text
+abbrev pub ValueFunction : Type 0
+ValueFunction = List Text → Answer Text
 
 -- a wrong number of words
 abbrev pub wrong_number : Text → Answer Text
@@ -41,57 +41,57 @@ abbrev pub sought_place : (Text → Text → Option ℕ) → Text → Text → O
 sought_place find sought t = if is_nil sought then None else find (chars sought) (chars t)
 
 -- the subcommands of string
-abbrev pub string_length : Command
+abbrev pub string_length : ValueFunction
 string_length (t ∷ []) = Ok (decimal (length (chars t)))
 string_length words = wrong_number (codes "string")
 
-abbrev pub string_index : Command
+abbrev pub string_index : ValueFunction
 string_index (t ∷ i ∷ []) = index_of i >>= (λ i. Ok (characters_between i i t))
 string_index words = wrong_number (codes "string")
 
-abbrev pub string_range : Command
+abbrev pub string_range : ValueFunction
 string_range (t ∷ i ∷ j ∷ []) = index_of i >>= (λ i. index_of j >>= (λ j. Ok (characters_between i j t)))
 string_range words = wrong_number (codes "string")
 
-abbrev pub string_equal : Command
+abbrev pub string_equal : ValueFunction
 string_equal (a ∷ b ∷ []) = Ok (truth_text (bytes_eq a b))
 string_equal words = wrong_number (codes "string")
 
-abbrev pub string_compare : Command
+abbrev pub string_compare : ValueFunction
 string_compare (a ∷ b ∷ []) = Ok (order_text (text_order a b))
 string_compare words = wrong_number (codes "string")
 
-abbrev pub string_match : Command
+abbrev pub string_match : ValueFunction
 string_match (pattern ∷ t ∷ []) = Ok (truth_text (glob pattern t))
 string_match words = wrong_number (codes "string")
 
-abbrev pub string_first : Command
+abbrev pub string_first : ValueFunction
 string_first (sought ∷ t ∷ []) = Ok (place_text (sought_place first_place sought t))
 string_first words = wrong_number (codes "string")
 
-abbrev pub string_last : Command
+abbrev pub string_last : ValueFunction
 string_last (sought ∷ t ∷ []) = Ok (place_text (sought_place last_place sought t))
 string_last words = wrong_number (codes "string")
 
-abbrev pub string_map : Command
+abbrev pub string_map : ValueFunction
 string_map (l ∷ t ∷ []) = elements_of l >>= (λ es. pairs_of es >>= (λ ps. Ok (mapped ps 0 (chars t))))
 string_map words = wrong_number (codes "string")
 
-abbrev pub string_repeat : Command
+abbrev pub string_repeat : ValueFunction
 string_repeat (t ∷ n ∷ []) = count_of n >>= (λ n. Ok (repeat (at_least_0 n) t))
 string_repeat words = wrong_number (codes "string")
 
-abbrev pub string_trim : Command
+abbrev pub string_trim : ValueFunction
 string_trim (t ∷ []) = Ok (trimmed white_space t)
 string_trim (t ∷ set ∷ []) = Ok (trimmed set t)
 string_trim words = wrong_number (codes "string")
 
-abbrev pub string_trimleft : Command
+abbrev pub string_trimleft : ValueFunction
 string_trimleft (t ∷ []) = Ok (trimmed_left white_space t)
 string_trimleft (t ∷ set ∷ []) = Ok (trimmed_left set t)
 string_trimleft words = wrong_number (codes "string")
 
-abbrev pub string_trimright : Command
+abbrev pub string_trimright : ValueFunction
 string_trimright (t ∷ []) = Ok (trimmed_right white_space t)
 string_trimright (t ∷ set ∷ []) = Ok (trimmed_right set t)
 string_trimright words = wrong_number (codes "string")
@@ -109,11 +109,11 @@ abbrev pub unless_option : Option Text → Answer Text → Answer Text
 unless_option None answer = answer
 unless_option (Some word) answer = Err (left_out (codes "string " ++ word))
 
-abbrev pub with_options : Command → Command
+abbrev pub with_options : ValueFunction → ValueFunction
 with_options command words = unless_option (option_in words) (command words)
 
 -- the subcommand of string of this name
-abbrev pub subcommand_named : Text → Option Command
+abbrev pub subcommand_named : Text → Option ValueFunction
 subcommand_named name =
     if bytes_eq name (codes "length") then Some string_length
     else if bytes_eq name (codes "index") then Some string_index
@@ -130,7 +130,7 @@ subcommand_named name =
     else if bytes_eq name (codes "trimright") then Some string_trimright
     else None
 
-abbrev pub subcommand_value : Text → List Text → Option Command → Answer Text
+abbrev pub subcommand_value : Text → List Text → Option ValueFunction → Answer Text
 subcommand_value name words None = Err (left_out (codes "string " ++ name))
 subcommand_value name words (Some command) = command words
 
@@ -142,42 +142,42 @@ abbrev pub elements_between : Index → Index → List Text → List Text
 elements_between i j es = items_between (place (length es) i) (place (length es) j) es
 
 -- the commands
-abbrev pub list_command : Command
+abbrev pub list_command : ValueFunction
 list_command elements = Ok (list_text elements)
 
-abbrev pub llength_command : Command
+abbrev pub llength_command : ValueFunction
 llength_command (l ∷ []) = elements_of l >>= (λ es. Ok (decimal (length es)))
 llength_command words = wrong_number (codes "llength")
 
-abbrev pub lindex_command : Command
+abbrev pub lindex_command : ValueFunction
 lindex_command (l ∷ []) = Ok l
 lindex_command (l ∷ i ∷ []) = elements_of l >>= (λ es. index_of i >>= (λ i. Ok (element_at i es)))
 lindex_command words = wrong_number (codes "lindex")
 
-abbrev pub lrange_command : Command
+abbrev pub lrange_command : ValueFunction
 lrange_command (l ∷ i ∷ j ∷ []) =
     elements_of l >>= (λ es. index_of i >>= (λ i. index_of j >>= (λ j. Ok (list_text (elements_between i j es)))))
 lrange_command words = wrong_number (codes "lrange")
 
-abbrev pub split_command : Command
+abbrev pub split_command : ValueFunction
 split_command (t ∷ []) = Ok (list_text (parts split_space t))
 split_command (t ∷ set ∷ []) = Ok (list_text (parts set t))
 split_command words = wrong_number (codes "split")
 
-abbrev pub join_command : Command
+abbrev pub join_command : ValueFunction
 join_command (l ∷ []) = elements_of l >>= (λ es. Ok (joined (codes " ") es))
 join_command (l ∷ separator ∷ []) = elements_of l >>= (λ es. Ok (joined separator es))
 join_command words = wrong_number (codes "join")
 
-abbrev pub concat_command : Command
+abbrev pub concat_command : ValueFunction
 concat_command ts = Ok (concatenated ts)
 
-abbrev pub string_command : Command
+abbrev pub string_command : ValueFunction
 string_command (name ∷ words) = subcommand_value name words (subcommand_named name)
 string_command [] = wrong_number (codes "string")
 
 -- the command of this name
-abbrev pub command_named : Text → Option Command
+abbrev pub command_named : Text → Option ValueFunction
 command_named name =
     if bytes_eq name (codes "list") then Some list_command
     else if bytes_eq name (codes "llength") then Some llength_command
@@ -190,7 +190,7 @@ command_named name =
     else None
 
 -- the answer of a command of values, within a limit on its bytes; None where the words are no such command
-abbrev pub called : ℕ → List Text → Option Command → Answer (Option Text)
+abbrev pub called : ℕ → List Text → Option ValueFunction → Answer (Option Text)
 called limit words None = Ok None
 called limit words (Some command) = command words >>= limited limit >>= (λ t. Ok (Some t))
 

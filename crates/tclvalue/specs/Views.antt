@@ -15,7 +15,7 @@ use Rattle.tclvalue.specs.declared.texts.Ends.{Ends}
 use Rattle.tclvalue.specs.declared.texts.Ends.TheVariants.{Both, Start, End}
 use Rattle.tclvalue.specs.declared.searches.Replacement.{Replacement}
 
-abbrev pub command_view : ValueCommand → value.Command
+abbrev pub command_view : ValueCommand → value.ValueFunction
 command_view commands.List = value.list_command
 command_view commands.Llength = value.llength_command
 command_view commands.Lindex = value.lindex_command
@@ -26,7 +26,7 @@ command_view commands.Concat = value.concat_command
 command_view commands.String = value.string_command
 
 -- a subcommand of string without its options, whether it takes some, and with them
-abbrev pub operation : Subcommand → value.Command
+abbrev pub operation : Subcommand → value.ValueFunction
 operation subcommands.Length = value.string_length
 operation subcommands.Index = value.string_index
 operation subcommands.Range = value.string_range
@@ -51,7 +51,7 @@ takes_options command = false
 abbrev pub option_of : Subcommand → List Text → Option Text
 option_of command words = if takes_options command then value.option_in words else None
 
-abbrev pub subcommand_view : Subcommand → value.Command
+abbrev pub subcommand_view : Subcommand → value.ValueFunction
 subcommand_view command words = value.unless_option (option_of command words) (operation command words)
 
 abbrev pub index_view : rust_index.Index → Index

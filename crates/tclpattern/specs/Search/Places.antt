@@ -2,7 +2,7 @@
 use Rattle.std.specs.Prelude.{ℕ, ◌+◌, ◌<◌, List, ◌∷◌, length, IsTrue}
 use Rattle.std.specs.Str.{chars, IsUtf8}
 use Rattle.tclpattern.specs.Patterns.{star, IsMatch}
-use Rattle.tclpattern.specs.Search.Steps.{Leads}
+use Rattle.tclpattern.specs.Search.Steps.{LeadsToStar}
 use Rattle.tclpattern.specs.declared.place.Place.{Place}
 use Rattle.tclpattern.specs.declared.place.Outcome.{Outcome}
 use Rattle.tclpattern.specs.declared.place.Outcome.TheVariants.{Ended, Star}
@@ -11,8 +11,8 @@ use Rattle.tclpattern.specs.declared.place.Outcome.TheVariants.{Ended, Star}
 abbrev pub StarMatches : Place → Type 0
 StarMatches p = IsMatch (star ∷ chars p.pattern.now) (chars p.text.now)
 
-abbrev pub IsText : Place → Type 0
-IsText p = IsUtf8 p.pattern.now × IsUtf8 p.text.now
+abbrev pub IsUtf8Place : Place → Type 0
+IsUtf8Place p = IsUtf8 p.pattern.now × IsUtf8 p.text.now
 
 abbrev pub OutcomeMatches : Outcome → Type 0
 OutcomeMatches (Ended matches) = IsTrue matches
@@ -20,12 +20,12 @@ OutcomeMatches (Star p) = StarMatches p
 
 abbrev pub OutcomeIsText : Outcome → Type 0
 OutcomeIsText (Ended matches) = Unit {0}
-OutcomeIsText (Star p) = IsText p
+OutcomeIsText (Star p) = IsUtf8Place p
 
 -- the pattern and the text come to the star
 abbrev pub LeadsAs : List ℕ → List ℕ → Outcome → Type 0
 LeadsAs ps cs (Ended matches) = Unit {0}
-LeadsAs ps cs (Star p) = Leads ps cs (chars p.pattern.now) (chars p.text.now)
+LeadsAs ps cs (Star p) = LeadsToStar ps cs (chars p.pattern.now) (chars p.text.now)
 
 -- fewer bytes than that are left
 abbrev pub OutcomeIsBelow : ℕ → Outcome → Type 0

@@ -16,10 +16,10 @@ abbrev pub StepsOnly : ℕ → List ℕ → ℕ → List ℕ → Type 0
 StepsOnly p ps c rest = OneStep p ps c rest × ((other : List ℕ) → OneStep p ps c other → other ≡ rest)
 
 -- a pattern and a text come to a star, with what is left behind it and of the text
-pub data Leads : List ℕ → List ℕ → List ℕ → List ℕ → Type 0 where
-  at_star : {ps cs : List ℕ} → Leads (star ∷ ps) cs ps cs
-  step : {p c : ℕ} {ps cs qs ds : List ℕ} (rest : List ℕ) → OneStep p ps c rest → Leads rest cs qs ds
-      → Leads (p ∷ ps) (c ∷ cs) qs ds
+pub data LeadsToStar : List ℕ → List ℕ → List ℕ → List ℕ → Type 0 where
+  at_star : {ps cs : List ℕ} → LeadsToStar (star ∷ ps) cs ps cs
+  step : {p c : ℕ} {ps cs qs ds : List ℕ} (rest : List ℕ) → OneStep p ps c rest → LeadsToStar rest cs qs ds
+      → LeadsToStar (p ∷ ps) (c ∷ cs) qs ds
 
 -- a pattern that has read the text comes to that pattern
 pub data Run : List ℕ → List ℕ → List ℕ → Type 0 where

@@ -1,6 +1,6 @@
 use Rattle.std.proofs.Common.{◌<◌, map, string_bytes, String, inr}
 use Rattle.std.specs.declared.alloc.Global.{Global}
-use Rattle.modulecmd.specs.Command.{Does}
+use Rattle.modulecmd.specs.Command.{CommandDoes}
 use Rattle.modulecmd.proofs.OutputLemmas.{answered}
 use Rattle.modulecmd.proofs.WriterLemmas.{keeps_same}
 use Rattle.modulecmd.proofs.command.run_command.Goals as goal
@@ -8,7 +8,7 @@ use Rattle.modulecmd.proofs.command.run_command.Goals as goal
 pub returns-in-Ok-clause-ended : goal.returns-in-Ok-clause-ended
 returns-in-Ok-clause-ended g c =
     answered c.finish.result (g.T.Tree.agrees c.answer_of.new.tree) (g.T.Tree.failures c.args.tree.now < g.T.Tree.failures c.answer_of.new.tree)
-    c.args.env (Does (map (λ (s : String Global). string_bytes s) c.args.args.now) c.args.env) c.in-Ok.answer _ _ _ _ c.in-Ok.ensures.answered c.finish.ensures
+    c.args.env (CommandDoes (map (λ (s : String Global). string_bytes s) c.args.args.now) c.args.env) c.in-Ok.answer _ _ _ _ c.in-Ok.ensures.answered c.finish.ensures
 
 pub returns-clause-ended : goal.returns-clause-ended
 returns-clause-ended g c = inr (c.in-Err.fault, c.in-Err.ensures.refused, (keeps_same _, c.tell.ensures))

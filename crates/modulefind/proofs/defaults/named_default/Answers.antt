@@ -1,6 +1,6 @@
 use Rattle.std.proofs.Common.{subst}
 use Rattle.std.proofs.lemmas.Result.{IfOk-weaker}
-use Rattle.lookup.specs.Agreement.{Shows}
+use Rattle.lookup.specs.Agreement.{InEachPair}
 use Rattle.modulesearch.specs.Found.{NamedDefault}
 use Rattle.modulefind.specs.Sayings.{named_view, NamedBy}
 use Rattle.modulefind.specs.declared.sayings.DefaultFile.TheVariants.{Modulerc, Version}
@@ -14,8 +14,8 @@ returns-in-Nothing-clause-answer g c =
     let name = c.args.name.now in
     let agrees = g.T.Tree.agrees c.named_by-in-Nothing.new.tree in
     IfOk-weaker c.named_by-in-Nothing.result
-    (λ n. Shows agrees (λ files listings. NamedBy leaves files listings dir name Version (named_view n)))
-    (λ n. Shows agrees (λ files listings. NamedDefault leaves files listings dir name (named_view n)))
+    (λ n. InEachPair agrees (λ files listings. NamedBy leaves files listings dir name Version (named_view n)))
+    (λ n. InEachPair agrees (λ files listings. NamedDefault leaves files listings dir name (named_view n)))
     (λ n h files listings agree. named_second leaves files listings dir name (named_view n)
     (subst (λ m. NamedBy leaves files listings dir name Modulerc (named_view m)) c.in-Nothing.is (c.in_ok-named.ensures.answer files listings (c.named_by-in-Nothing.ensures.before files listings agree)))
     (h files listings agree))

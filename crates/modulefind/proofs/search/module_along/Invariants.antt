@@ -1,13 +1,13 @@
 use Rattle.std.proofs.Common.{◌≤◌, Result, length, map}
-use Rattle.lookup.specs.Agreement.{Shows}
+use Rattle.lookup.specs.Agreement.{InEachPair}
 use Rattle.modulesearch.specs.Reasons.{Reason}
-use Rattle.modulesearch.specs.Found.{Module, FoundAlong}
+use Rattle.modulesearch.specs.Found.{FoundModule, FoundAlong}
 use Rattle.modulefind.proofs.search.module_along.Given as goal
 
 abbrev pub invariant-loop-rest : goal.invariant-loop-rest
 invariant-loop-rest g l = record {
-  before : Shows (g.T.Tree.agrees l.tree) (λ files listings. g.T.Tree.agrees l.initial.tree files listings);
-  none_yet : Shows (g.T.Tree.agrees l.tree) (λ files listings. (o : Result Module Reason)
+  before : InEachPair (g.T.Tree.agrees l.tree) (λ files listings. g.T.Tree.agrees l.initial.tree files listings);
+  none_yet : InEachPair (g.T.Tree.agrees l.tree) (λ files listings. (o : Result FoundModule Reason)
       → FoundAlong (g.D.DefaultFiles.leaves l.default_files) files listings l.name (map (λ dir. dir.now) l.rest) o
       → FoundAlong (g.D.DefaultFiles.leaves l.default_files) files listings l.name (map (λ dir. dir.now) l.dirs) o);
   later : g.T.Tree.failures l.initial.tree ≤ g.T.Tree.failures l.tree;

@@ -1,12 +1,12 @@
 use Rattle.std.proofs.Common.{◌≡◌, ◌≤◌, length, map, find}
-use Rattle.lookup.specs.Agreement.{Shows}
+use Rattle.lookup.specs.Agreement.{InEachPair}
 use Rattle.modulefind.specs.Versions.{is_module_in}
 use Rattle.modulefind.proofs.versions.first_module.Given as goal
 
 abbrev pub invariant-loop-rest : goal.invariant-loop-rest
 invariant-loop-rest g l = record {
-  before : Shows (g.T.Tree.agrees l.tree) (λ files listings. g.T.Tree.agrees l.initial.tree files listings);
-  none_yet : Shows (g.T.Tree.agrees l.tree) (λ files listings.
+  before : InEachPair (g.T.Tree.agrees l.tree) (λ files listings. g.T.Tree.agrees l.initial.tree files listings);
+  none_yet : InEachPair (g.T.Tree.agrees l.tree) (λ files listings.
       find (is_module_in files l.dir l.name) (map (λ v. v.now) l.versions) ≡ find (is_module_in files l.dir l.name) (map (λ v. v.now) l.rest));
   later : g.T.Tree.failures l.initial.tree ≤ g.T.Tree.failures l.tree;
 }

@@ -1,6 +1,6 @@
 use Rattle.std.proofs.Common.{◌≡◌, map, find, string_bytes, option_map, ap, ◌∙◌}
 use Rattle.std.proofs.lemmas.Result.{IfOk-weaker}
-use Rattle.lookup.specs.Agreement.{Shows}
+use Rattle.lookup.specs.Agreement.{InEachPair}
 use Rattle.modulefind.specs.Candidates.{version_of}
 use Rattle.modulefind.specs.Versions.{is_module_in, IsGreatestOf}
 use Rattle.modulefind.proofs.VersionLemmas.{greatest_is}
@@ -12,8 +12,8 @@ returns-clause-answer g c =
     let name = c.args.name.now in
     let agrees = g.T.Tree.agrees c.first_module.new.tree in
     IfOk-weaker c.first_module.result
-    (λ r. Shows agrees (λ files listings. option_map version_of r ≡ find (is_module_in files dir name) (map (λ v. v.now) c.deref.result.now)))
-    (λ r. Shows agrees (λ files listings. IsGreatestOf files listings dir name (option_map version_of r)))
+    (λ r. InEachPair agrees (λ files listings. option_map version_of r ≡ find (is_module_in files dir name) (map (λ v. v.now) c.deref.result.now)))
+    (λ r. InEachPair agrees (λ files listings. IsGreatestOf files listings dir name (option_map version_of r)))
     (λ r h files listings agree.
     greatest_is files listings dir name (map string_bytes c.args.entries.now) (c.requires files listings (c.first_module.ensures.before files listings agree))
     (λ v. v.now) c.in_ok-versions.versions.items c.sort_down.new.versions.items c.in_ok-versions.ensures c.in_ok-sort_down.ensures.same c.in_ok-sort_down.ensures.sorted (option_map version_of r)

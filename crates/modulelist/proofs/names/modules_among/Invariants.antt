@@ -1,12 +1,12 @@
 use Rattle.std.proofs.Common.{◌≡◌, ◌≤◌, ◌++◌, length, filter, map, string_bytes}
-use Rattle.lookup.specs.Agreement.{Shows}
+use Rattle.lookup.specs.Agreement.{InEachPair}
 use Rattle.modulelist.specs.Below.{is_module_below}
 use Rattle.modulelist.proofs.names.modules_among.Given as goal
 
 abbrev pub invariant-loop-rest : goal.invariant-loop-rest
 invariant-loop-rest g l = record {
-  before : Shows (g.T.Tree.agrees l.tree) (λ files folders. g.T.Tree.agrees l.initial.tree files folders);
-  so_far : Shows (g.T.Tree.agrees l.tree) (λ files folders.
+  before : InEachPair (g.T.Tree.agrees l.tree) (λ files folders. g.T.Tree.agrees l.initial.tree files folders);
+  so_far : InEachPair (g.T.Tree.agrees l.tree) (λ files folders.
       filter (is_module_below files l.dir) (map string_bytes l.names) ≡ map (λ m. m.now) l.modules.items ++ filter (is_module_below files l.dir) (map string_bytes l.rest));
   later : g.T.Tree.failures l.initial.tree ≤ g.T.Tree.failures l.tree;
 }

@@ -1,8 +1,8 @@
 use Rattle.std.proofs.Common.{Ok, subst, ◌∙◌}
 use Rattle.environment.specs.Environment.{Environment}
-use Rattle.environment.specs.Changes.{edits_in}
+use Rattle.environment.specs.Changes.{new_values_in}
 use Rattle.requests.specs.RequestViews.{asked_view}
-use Rattle.requests.specs.Steps.{Step}
+use Rattle.requests.specs.Steps.{RequestStep}
 use Rattle.modulesteps.specs.Views.{done_view}
 use Rattle.modules.specs.Replies.{site_in}
 use Rattle.modules.proofs.RunLemmas.{left_of, exact_of}
@@ -13,11 +13,11 @@ returns-clause-answer g c =
     λ files listings agreed.
     let site = site_in c.args.limits c.args.request.now.shell files listings in
     let asked = asked_view c.args.request.now.action in
-    let From : Environment → Type 0 = λ x. Step site x asked (Ok (done_view c.in_ok-done.done c.step.new.env.new)) in
-    let To : Environment → Type 0 = λ x. Step site c.args.env.now asked (Ok (done_view c.in_ok-done.done x)) in
-    let made = left_of c.changes.ensures c.args.env.now c.step.new.env.old c.step.new.env.new (edits_in c.in_ok-changes.changes) (c.step.ensures.under ∙ c.over-working.ensures.old) c.in_ok-changes.ensures.ok in
+    let From : Environment → Type 0 = λ x. RequestStep site x asked (Ok (done_view c.in_ok-done.done c.step.new.env.new)) in
+    let To : Environment → Type 0 = λ x. RequestStep site c.args.env.now asked (Ok (done_view c.in_ok-done.done x)) in
+    let made = left_of c.changes.ensures c.args.env.now c.step.new.env.old c.step.new.env.new (new_values_in c.in_ok-changes.changes) (c.step.ensures.under ∙ c.over-working.ensures.old) c.in_ok-changes.ensures.ok in
     subst To made (subst From c.over-working.ensures.new (c.in_ok-done.ensures.told files listings agreed))
 
 pub returns-clause-exact : goal.returns-clause-exact
 returns-clause-exact g c =
-    exact_of c.changes.ensures c.args.env.now c.step.new.env.old c.step.new.env.new (edits_in c.in_ok-changes.changes) (c.step.ensures.under ∙ c.over-working.ensures.old) c.in_ok-changes.ensures.ok
+    exact_of c.changes.ensures c.args.env.now c.step.new.env.old c.step.new.env.new (new_values_in c.in_ok-changes.changes) (c.step.ensures.under ∙ c.over-working.ensures.old) c.in_ok-changes.ensures.ok

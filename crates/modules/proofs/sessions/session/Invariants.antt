@@ -1,5 +1,5 @@
 use Rattle.std.proofs.Common.{◌≡◌, ◌≤◌, ◌+◌, ◌++◌, List, length, map}
-use Rattle.lookup.specs.Agreement.{Shows}
+use Rattle.lookup.specs.Agreement.{InEachPair}
 use Rattle.shells.specs.declared.shell.Shell.{Shell}
 use Rattle.requests.specs.RequestViews.{request_view}
 use Rattle.requests.specs.Sessions.{Response, Session, left_by}
@@ -9,10 +9,10 @@ use Rattle.modules.proofs.sessions.session.Given as goal
 
 abbrev pub invariant-loop-rest : goal.invariant-loop-rest
 invariant-loop-rest g l = record {
-  before : Shows (g.T.Tree.agrees l.tree) (λ files listings. g.T.Tree.agrees l.initial.tree files listings);
+  before : InEachPair (g.T.Tree.agrees l.tree) (λ files listings. g.T.Tree.agrees l.initial.tree files listings);
   failures : g.T.Tree.failures l.initial.tree + count_failed l.outcomes.items ≤ g.T.Tree.failures l.tree;
-  left : Shows (g.T.Tree.agrees l.tree) (λ files listings. l.after ≡ left_by l.initial.after (responses l.initial.after l.outcomes.items));
-  ran : Shows (g.T.Tree.agrees l.tree) (λ files listings. (shell : Shell) (os : List Response)
+  left : InEachPair (g.T.Tree.agrees l.tree) (λ files listings. l.after ≡ left_by l.initial.after (responses l.initial.after l.outcomes.items));
+  ran : InEachPair (g.T.Tree.agrees l.tree) (λ files listings. (shell : Shell) (os : List Response)
       → Session (site_in l.limits shell files listings) l.after (map request_view l.rest) os
       → Session (site_in l.limits shell files listings) l.initial.after (map request_view l.requests) (responses l.initial.after l.outcomes.items ++ os));
 }

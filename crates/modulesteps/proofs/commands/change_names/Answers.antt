@@ -5,10 +5,10 @@ use Rattle.loadedlist.specs.LoadedEntries.{entry_of}
 use Rattle.relations.specs.Relations.{Is, Then}
 use Rattle.requests.specs.Requests as asked
 use Rattle.requests.specs.Steps as steps
-use Rattle.requests.specs.Steps.{begun, entries_of, Each, Ends, Named, Changes}
+use Rattle.requests.specs.Steps.{begun, entries_of, Each, EndsRequest, Named, Changes}
 use Rattle.modulesteps.specs.declared.done.Done.{Done}
 use Rattle.modulesteps.specs.Views.{site_of, done_view}
-use Rattle.modulesteps.specs.Parts.{Does, entries_view}
+use Rattle.modulesteps.specs.Parts.{DoesForName, entries_view}
 use Rattle.modulesteps.proofs.StepLemmas.{tells_same, gives_refused}
 use Rattle.modulesteps.proofs.EachLemmas.{named_some}
 use Rattle.modulesteps.proofs.commands.change_names.Goals as goal
@@ -19,8 +19,8 @@ returns-in_err-before-clause-told g c =
     let e = g.V.Vars.vars c.args.env.now in
     let names = map (λ (s : String Global). string_bytes s) c.args.names.now in
     rw (p.1, p.2) (gives_refused (g.T.Tree.agrees c.args.tree.now) (g.T.Tree.failures c.args.tree.now < g.T.Tree.failures c.args.tree.now) entries_view (λ (x : Done). begun e) c.in_err-before.field-0.0
-    (Is (entries_of e)) (λ files listings. Named names (Changes e (λ before. Each (Does c.args.doing (site_of c.args.terms files listings)) names)))
-    (λ files listings r a h. named_some c.args.names.now c.is_empty.result c.is_empty.ensures c.if-is_empty.false (Changes e (λ before. Each (Does c.args.doing (site_of c.args.terms files listings)) names)) (Err r) (Err r, h, refl))
+    (Is (entries_of e)) (λ files listings. Named names (Changes e (λ before. Each (DoesForName c.args.doing (site_of c.args.terms files listings)) names)))
+    (λ files listings r a h. named_some c.args.names.now c.is_empty.result c.is_empty.ensures c.if-is_empty.false (Changes e (λ before. Each (DoesForName c.args.doing (site_of c.args.terms files listings)) names)) (Err r) (Err r, h, refl))
     c.in_err-before.ensures)
 
 pub returns-clause-told : goal.returns-clause-told
@@ -31,7 +31,7 @@ returns-clause-told g c =
     let rose = g.T.Tree.failures c.args.tree.now < g.T.Tree.failures c.change_each.new.tree in
     let told = rw c.as_slice.ensures.value at c.change_each.ensures.told in
     tells_same (g.T.Tree.agrees c.change_each.new.tree) rose rose (λ (x : Done). done_view x (g.V.Vars.vars c.change_each.new.env)) c.change_each.result
-    (λ files listings. Then (Each (Does c.args.doing (site_of c.args.terms files listings)) names (begun e)) (Ends xs))
-    (λ files listings. Named names (Changes e (λ before. Each (Does c.args.doing (site_of c.args.terms files listings)) names))) (λ q. q)
-    (λ files listings o a h. named_some c.args.names.now c.is_empty.result c.is_empty.ensures c.if-is_empty.false (Changes e (λ before. Each (Does c.args.doing (site_of c.args.terms files listings)) names)) o (Ok xs, c.in_ok-before.ensures, h))
+    (λ files listings. Then (Each (DoesForName c.args.doing (site_of c.args.terms files listings)) names (begun e)) (EndsRequest xs))
+    (λ files listings. Named names (Changes e (λ before. Each (DoesForName c.args.doing (site_of c.args.terms files listings)) names))) (λ q. q)
+    (λ files listings o a h. named_some c.args.names.now c.is_empty.result c.is_empty.ensures c.if-is_empty.false (Changes e (λ before. Each (DoesForName c.args.doing (site_of c.args.terms files listings)) names)) o (Ok xs, c.in_ok-before.ensures, h))
     told

@@ -5,7 +5,7 @@ use Rattle.environment.specs.Texts.{Text}
 use Rattle.requests.specs.Steps as steps
 use Rattle.requests.specs.Steps.{Each}
 use Rattle.modulesteps.specs.Views.{site_of, done_view}
-use Rattle.modulesteps.specs.Parts.{Does}
+use Rattle.modulesteps.specs.Parts.{DoesForName}
 use Rattle.modulesteps.proofs.StepLemmas.{tells_refused}
 use Rattle.modulesteps.proofs.EachLemmas.{each_refused, each_on}
 use Rattle.modulesteps.proofs.commands.do_each.Goals as goal
@@ -17,9 +17,9 @@ returns-in_err-do_name-clause-told g c =
     let first = done_view c.args.done.now (g.V.Vars.vars c.args.env.now) in
     rw (p.1, p.2) (tells_refused (g.T.Tree.agrees c.do_name.new.tree) (g.T.Tree.failures c.loop-rest.tree < g.T.Tree.failures c.do_name.new.tree) (g.T.Tree.failures c.args.tree.now < g.T.Tree.failures c.do_name.new.tree)
     (λ (u : Unit {0}). d) (λ (u : Unit {0}). d) c.in_err-do_name.field-0.0
-    (λ files listings. Does c.args.doing (site_of c.args.terms files listings) c.as_str.result.now d)
-    (λ files listings. Each (Does c.args.doing (site_of c.args.terms files listings)) (map (λ (s : String Global). string_bytes s) c.args.names.now) first) (λ q. omega arith)
-    (λ files listings r a h. let D = Does c.args.doing (site_of c.args.terms files listings) in
+    (λ files listings. DoesForName c.args.doing (site_of c.args.terms files listings) c.as_str.result.now d)
+    (λ files listings. Each (DoesForName c.args.doing (site_of c.args.terms files listings)) (map (λ (s : String Global). string_bytes s) c.args.names.now) first) (λ q. omega arith)
+    (λ files listings r a h. let D = DoesForName c.args.doing (site_of c.args.terms files listings) in
     c.loop-rest.invariant.done_so files listings (c.do_name.ensures.before files listings a) (Err r)
     (each_refused (λ (s : String Global). string_bytes s) D c.name-item.result c.loop-rest.rest.now c.in-len1-up.len_at_least c.name-item.is d r (subst (λ (n : Text). D n d (Err r)) c.as_str.ensures.value h)))
     c.in_err-do_name.ensures.told)
@@ -30,7 +30,7 @@ loop-rest-preserved g c = record {
   done_so = λ files listings a o k.
       let d = done_view c.loop-rest.done (g.V.Vars.vars c.loop-rest.env) in
       let mid = done_view c.do_name.new.done (g.V.Vars.vars c.do_name.new.env) in
-      let D = Does c.args.doing (site_of c.args.terms files listings) in
+      let D = DoesForName c.args.doing (site_of c.args.terms files listings) in
       c.loop-rest.invariant.done_so files listings (c.do_name.ensures.before files listings a) o
       (each_on (λ (s : String Global). string_bytes s) D c.name-item.result c.loop-rest.rest.now c.in-len1-up.len_at_least c.name-item.is d mid
       (subst (λ (n : Text). D n d (Ok mid)) c.as_str.ensures.value (c.in_ok-do_name.ensures.told files listings a)) o k);

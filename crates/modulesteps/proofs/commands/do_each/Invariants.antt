@@ -1,18 +1,18 @@
 use Rattle.std.proofs.Common.{◌≡◌, ◌≤◌, Result, length, map, string_bytes}
-use Rattle.lookup.specs.Agreement.{Shows, Narrows}
+use Rattle.lookup.specs.Agreement.{InEachPair, Narrows}
 use Rattle.requests.specs.Reasons.{RequestReason}
 use Rattle.requests.specs.Steps as steps
 use Rattle.requests.specs.Steps.{Each}
 use Rattle.modulesteps.specs.Views.{site_of, done_view}
-use Rattle.modulesteps.specs.Parts.{Does}
+use Rattle.modulesteps.specs.Parts.{DoesForName}
 use Rattle.modulesteps.proofs.commands.do_each.Given as goal
 
 abbrev pub invariant-loop-rest : goal.invariant-loop-rest
 invariant-loop-rest g l = record {
   before : Narrows (g.T.Tree.agrees l.initial.tree) (g.T.Tree.agrees l.tree);
-  done_so : Shows (g.T.Tree.agrees l.tree) (λ files listings. (o : Result steps.Done RequestReason)
-      → Each (Does l.doing (site_of l.terms files listings)) (map string_bytes l.rest) (done_view l.done (g.V.Vars.vars l.env)) o
-      → Each (Does l.doing (site_of l.terms files listings)) (map string_bytes l.names) (done_view l.initial.done (g.V.Vars.vars l.initial.env)) o);
+  done_so : InEachPair (g.T.Tree.agrees l.tree) (λ files listings. (o : Result steps.Done RequestReason)
+      → Each (DoesForName l.doing (site_of l.terms files listings)) (map string_bytes l.rest) (done_view l.done (g.V.Vars.vars l.env)) o
+      → Each (DoesForName l.doing (site_of l.terms files listings)) (map string_bytes l.names) (done_view l.initial.done (g.V.Vars.vars l.initial.env)) o);
   later : g.T.Tree.failures l.initial.tree ≤ g.T.Tree.failures l.tree;
   under : g.V.Vars.under l.env ≡ g.V.Vars.under l.initial.env;
 }

@@ -18,8 +18,8 @@ returns-in_err-entries_of-clause-told g c =
     let e = g.V.Vars.vars c.args.env.now in
     let names = map (λ (s : String Global). string_bytes s) c.args.names.now in
     rw (p.1, p.2) (gives_refused (g.T.Tree.agrees c.args.tree.now) (g.T.Tree.failures c.args.tree.now < g.T.Tree.failures c.args.tree.now) entries_view (λ (x : Done). begun e) c.in_err-entries_of.field-0.0
-    (Is (entries_of e)) (λ files listings. Named names (steps.Shows (site_of c.args.terms files listings) (topic_mode c.args.topic) (topic_text c.args.topic) e names))
-    (λ files listings r a h. named_some c.args.names.now c.is_empty.result c.is_empty.ensures c.if-is_empty.false (steps.Shows (site_of c.args.terms files listings) (topic_mode c.args.topic) (topic_text c.args.topic) e names) (Err r) (Err r, h, refl))
+    (Is (entries_of e)) (λ files listings. Named names (steps.ShowsNames (site_of c.args.terms files listings) (topic_mode c.args.topic) (topic_text c.args.topic) e names))
+    (λ files listings r a h. named_some c.args.names.now c.is_empty.result c.is_empty.ensures c.if-is_empty.false (steps.ShowsNames (site_of c.args.terms files listings) (topic_mode c.args.topic) (topic_text c.args.topic) e names) (Err r) (Err r, h, refl))
     c.in_err-entries_of.ensures)
 
 pub returns-in_err-do_each-clause-told : goal.returns-in_err-do_each-clause-told
@@ -31,8 +31,8 @@ returns-in_err-do_each-clause-told g c =
     let rose = g.T.Tree.failures c.args.tree.now < g.T.Tree.failures c.do_each.new.tree in
     rw (p.1, p.2) (tells_refused (g.T.Tree.agrees c.do_each.new.tree) rose rose (λ (u : Unit {0}). d) (λ (x : Done). d) c.in_err-do_each.field-0.0
     (λ files listings. Each (steps.ShowsName (site_of c.args.terms files listings) (topic_mode c.args.topic) (topic_text c.args.topic)) names d)
-    (λ files listings. Named names (steps.Shows (site_of c.args.terms files listings) (topic_mode c.args.topic) (topic_text c.args.topic) e names)) (λ q. q)
-    (λ files listings r a h. named_some c.args.names.now c.is_empty.result c.is_empty.ensures c.if-is_empty.false (steps.Shows (site_of c.args.terms files listings) (topic_mode c.args.topic) (topic_text c.args.topic) e names) (Err r)
+    (λ files listings. Named names (steps.ShowsNames (site_of c.args.terms files listings) (topic_mode c.args.topic) (topic_text c.args.topic) e names)) (λ q. q)
+    (λ files listings r a h. named_some c.args.names.now c.is_empty.result c.is_empty.ensures c.if-is_empty.false (steps.ShowsNames (site_of c.args.terms files listings) (topic_mode c.args.topic) (topic_text c.args.topic) e names) (Err r)
     (Ok (map entry_of c.in_ok-entries_of.field-0.items), c.in_ok-entries_of.ensures, subst (λ x. Each (steps.ShowsName (site_of c.args.terms files listings) (topic_mode c.args.topic) (topic_text c.args.topic)) names x (Err r)) (c.new-done.ensures e) h))
     c.in_err-do_each.ensures.told)
 
@@ -41,5 +41,5 @@ returns-clause-told g c = λ files listings a.
     let e = g.V.Vars.vars c.args.env.now in
     let names = map (λ (s : String Global). string_bytes s) c.args.names.now in
     let d = done_view c.do_each.new.done (g.V.Vars.vars c.do_each.new.env) in
-    named_some c.args.names.now c.is_empty.result c.is_empty.ensures c.if-is_empty.false (steps.Shows (site_of c.args.terms files listings) (topic_mode c.args.topic) (topic_text c.args.topic) e names) (Ok d)
+    named_some c.args.names.now c.is_empty.result c.is_empty.ensures c.if-is_empty.false (steps.ShowsNames (site_of c.args.terms files listings) (topic_mode c.args.topic) (topic_text c.args.topic) e names) (Ok d)
     (Ok (map entry_of c.in_ok-entries_of.field-0.items), c.in_ok-entries_of.ensures, subst (λ x. Each (steps.ShowsName (site_of c.args.terms files listings) (topic_mode c.args.topic) (topic_text c.args.topic)) names x (Ok d)) (c.new-done.ensures e) (c.in_ok-do_each.ensures.told files listings a))

@@ -6,7 +6,7 @@ use Rattle.loadedlist.specs.LoadedEntries.{entry_of}
 use Rattle.loadedlist.specs.declared.entry.Loaded.{Loaded}
 use Rattle.modulerecords.specs.Effects as modes
 use Rattle.modulefile.specs.RecordViews.{mode_view}
-use Rattle.modulefile.specs.Files.{Runs}
+use Rattle.modulefile.specs.Files.{RunsFile}
 use Rattle.modulerun.specs.Running.{ran_view, stop_of}
 use Rattle.requests.specs.Steps as steps
 use Rattle.modulesteps.specs.Parts.{context_among, file_context}
@@ -21,8 +21,8 @@ returns-in_err-run_file-clause-given g c =
     let e = g.V.Vars.vars c.args.env.now in
     let fault = c.in_err-run_file.field-0.0 in
     let same : map string_bytes c.as_slice.result.now ≡ names_of (map entry_of c.args.entries.now) = ap (map string_bytes) c.as_slice.ensures.value ∙ c.in_ok-loaded.ensures in
-    rw (p.1, p.2) (run_refused (stop_of fault) (Runs a.terms.limits (file_context a (mode_view c.args.mode) file.name.now file.path.now (map entry_of c.args.entries.now) e) file.text.now)
-    (subst (λ (names : List Text). IfSome (stop_of fault) (λ stop. Runs a.terms.limits (context_among a (mode_view c.args.mode) file.name.now file.path.now names e) file.text.now (Err stop))) same c.in_err-run_file.ensures.runs.1))
+    rw (p.1, p.2) (run_refused (stop_of fault) (RunsFile a.terms.limits (file_context a (mode_view c.args.mode) file.name.now file.path.now (map entry_of c.args.entries.now) e) file.text.now)
+    (subst (λ (names : List Text). IfSome (stop_of fault) (λ stop. RunsFile a.terms.limits (context_among a (mode_view c.args.mode) file.name.now file.path.now names e) file.text.now (Err stop))) same c.in_err-run_file.ensures.runs.1))
 
 pub returns-clause-given : goal.returns-clause-given
 returns-clause-given g c =
@@ -31,4 +31,4 @@ returns-clause-given g c =
     let e = g.V.Vars.vars c.args.env.now in
     let ran = ran_view c.in_ok-run_file.field-0 (g.V.Vars.vars c.run_file.new.env) in
     let same : map string_bytes c.as_slice.result.now ≡ names_of (map entry_of c.args.entries.now) = ap (map string_bytes) c.as_slice.ensures.value ∙ c.in_ok-loaded.ensures in
-    (Ok ran, subst (λ (names : List Text). Runs a.terms.limits (context_among a (mode_view c.args.mode) file.name.now file.path.now names e) file.text.now (Ok ran)) same c.in_ok-run_file.ensures.runs, refl)
+    (Ok ran, subst (λ (names : List Text). RunsFile a.terms.limits (context_among a (mode_view c.args.mode) file.name.now file.path.now names e) file.text.now (Ok ran)) same c.in_ok-run_file.ensures.runs, refl)

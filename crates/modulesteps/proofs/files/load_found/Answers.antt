@@ -5,7 +5,7 @@ use Rattle.loadedlist.specs.Loaded.{names_of}
 use Rattle.loadedlist.specs.LoadedEntries.{entry_of}
 use Rattle.loadedlist.specs.declared.entry.Loaded.{Loaded}
 use Rattle.modulerecords.specs.Effects as modes
-use Rattle.modulefile.specs.Files.{Runs}
+use Rattle.modulefile.specs.Files.{RunsFile}
 use Rattle.modulefind.specs.Answers.{found_view}
 use Rattle.modulerun.specs.Running.{ran_view}
 use Rattle.requests.specs.Reasons.{stopped}
@@ -28,7 +28,7 @@ returns-in_err-ran-clause-given g c = λ files listings.
     let m = found_view c.args.found in
     let no : has m.name (names_of xs) ≡ false = ap (λ (n : Text). has n (names_of xs)) (sym c.as_str.ensures.value) ∙ (sym c.is_loaded.ensures ∙ c.if-is_loaded.false) in
     let given = rw (c.as_str-2.ensures.value, c.as_str-3.ensures.value, c.as_str-4.ensures.value) at c.in_err-ran.ensures.given in
-    rw (p.1, p.2) (stands_as (cause_of c.in_err-ran.field-0.0) ⊥ ⊥ (λ r. RefusedAs stopped (Runs a.terms.limits (file_context a modes.load m.name m.path xs d.env) m.text) (Err r))
+    rw (p.1, p.2) (stands_as (cause_of c.in_err-ran.field-0.0) ⊥ ⊥ (λ r. RefusedAs stopped (RunsFile a.terms.limits (file_context a modes.load m.name m.path xs d.env) m.text) (Err r))
     (λ r. LoadsFound (site_of a.terms files listings) a.in_switch a.typed.now d xs m (Err r)) (λ q. q)
     (λ r h. found_stopped (site_of a.terms files listings) a.in_switch a.typed.now d xs m no r h) given)
 

@@ -4,7 +4,7 @@ use Rattle.environment.specs.Texts.{Text}
 use Rattle.environment.specs.Environment.{Environment}
 use Rattle.loadedlist.specs.LoadedEntries.{entry_of}
 use Rattle.modulerecords.specs.Effects as modes
-use Rattle.modulefile.specs.Files.{Runs}
+use Rattle.modulefile.specs.Files.{RunsFile}
 use Rattle.modulefind.specs.Answers.{found_view}
 use Rattle.modulerun.specs.Running.{ran_view}
 use Rattle.requests.specs.Reasons.{stopped}
@@ -25,7 +25,7 @@ returns-in_err-ran-clause-given g c =
     let d = done_view c.args.done.now (g.V.Vars.vars c.args.env.now) in
     let xs = map entry_of c.args.entries.now in
     let given = rw (c.mode_for.ensures, c.as_str.ensures.value, c.as_str-2.ensures.value, c.as_str-3.ensures.value) at c.in_err-ran.ensures.given in
-    rw (p.1, p.2) (stands_as (cause_of c.in_err-ran.field-0.0) ⊥ ⊥ (λ r. RefusedAs stopped (Runs a.terms.limits (file_context a (topic_mode c.args.topic) m.name m.path xs d.env) m.text) (Err r))
+    rw (p.1, p.2) (stands_as (cause_of c.in_err-ran.field-0.0) ⊥ ⊥ (λ r. RefusedAs stopped (RunsFile a.terms.limits (file_context a (topic_mode c.args.topic) m.name m.path xs d.env) m.text) (Err r))
     (λ r. ReportsFound a c.args.topic m xs d (Err r)) (λ q. q) (λ r h. (Err r, h, refl)) given)
 
 pub returns-clause-given : goal.returns-clause-given

@@ -5,7 +5,7 @@ use Rattle.loadedlist.specs.Loaded.{dropped_loaded}
 use Rattle.loadedlist.specs.LoadedEntries.{entry_of}
 use Rattle.loadedlist.specs.declared.entry.Loaded.{Loaded}
 use Rattle.modulerecords.specs.Effects as modes
-use Rattle.modulefile.specs.Files.{Runs}
+use Rattle.modulefile.specs.Files.{RunsFile}
 use Rattle.modulerun.specs.Running.{ran_view}
 use Rattle.requests.specs.Reasons.{stopped}
 use Rattle.requests.specs.Refusals.{RefusedAs}
@@ -24,7 +24,7 @@ returns-in_err-ran-clause-given g c =
     let file = c.args.file in
     let d = done_view c.args.done.now (g.V.Vars.vars c.args.env.now) in
     let xs = map entry_of c.args.entries.now in
-    rw (p.1, p.2) (stands_as (cause_of c.in_err-ran.field-0.0) ⊥ ⊥ (λ r. RefusedAs stopped (Runs a.terms.limits (file_context a modes.unload file.name.now file.path.now xs d.env) file.text.now) (Err r))
+    rw (p.1, p.2) (stands_as (cause_of c.in_err-ran.field-0.0) ⊥ ⊥ (λ r. RefusedAs stopped (RunsFile a.terms.limits (file_context a modes.unload file.name.now file.path.now xs d.env) file.text.now) (Err r))
     (λ r. UnloadsBy a file.name.now file.path.now file.text.now xs d (Err r)) (λ q. q) (λ r h. (Err r, h, refl)) c.in_err-ran.ensures.given)
 
 pub returns-in_err-drop_loaded-clause-given : goal.returns-in_err-drop_loaded-clause-given

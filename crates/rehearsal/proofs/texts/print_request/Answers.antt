@@ -1,6 +1,6 @@
 use Rattle.std.proofs.Common.{None, string_bytes, sym, subst}
 use Rattle.environment.specs.Environment.{Environment}
-use Rattle.environment.specs.Changes.{edits_in}
+use Rattle.environment.specs.Changes.{new_values_in}
 use Rattle.requests.specs.RequestViews.{request_view}
 use Rattle.modules.specs.Replies.{changed_view}
 use Rattle.rehearsal.specs.Parts.{Came}
@@ -18,7 +18,7 @@ returns-in_default-print_changes-clause-came g c =
     let changed = c.in-Ok.changed in
     unsaid_came (g.T.Tree.agrees c.run_changes.new.tree) c.args.limits (request_view c.args.request.now) c.args.env.now
     (g.T.Tree.failures c.args.tree.now) (g.T.Tree.failures c.run_changes.new.tree) c.run_changes.ensures.later
-    (changed_view c.args.env.now changed) (edits_in changed.changes) c.in-Ok.ensures.answer c.in-Ok.ensures.exact
+    (changed_view c.args.env.now changed) (new_values_in changed.changes) c.in-Ok.ensures.answer c.in-Ok.ensures.exact
     c.in_default-print_changes.field-0 (rw c.as_slice.ensures.value at c.in_default-print_changes.ensures.fault)
 
 pub returns-in-Ok-apply-clause-came : goal.returns-in-Ok-apply-clause-came
@@ -26,7 +26,7 @@ returns-in-Ok-apply-clause-came g c =
     let changed = c.in-Ok.changed in
     accepted_came (g.T.Tree.agrees c.run_changes.new.tree) c.args.limits (request_view c.args.request.now) c.args.env.now
     (g.T.Tree.failures c.args.tree.now) (g.T.Tree.failures c.run_changes.new.tree) c.run_changes.ensures.later
-    (changed_view c.args.env.now changed) (edits_in changed.changes) c.in-Ok.ensures.answer c.in-Ok.ensures.exact
+    (changed_view c.args.env.now changed) (new_values_in changed.changes) c.in-Ok.ensures.answer c.in-Ok.ensures.exact
     c.apply.new.self (string_bytes c.in-Ok-print_changes.text) (rw c.as_slice.ensures.value at c.in-Ok-print_changes.ensures.text) c.in-Ok-apply.ensures.ok
 
 pub returns-clause-came : goal.returns-clause-came

@@ -3,7 +3,7 @@ use Rattle.shelltext.proofs.laws.difference_makes.Goals as goal
 
 pub returns : goal.returns
 returns c shell text old new difference = record {
-  settings = difference.settings;
+  changes = difference.changes;
   says = difference.says;
-  made = sym (c.changes.ensures old new difference.settings difference.exact);
+  made = sym (c.changes.ensures old new difference.changes difference.exact);
 }

@@ -5,4 +5,4 @@ use Rattle.shelltext.proofs.laws.one_effect.Goals as goal
 
 pub returns : goal.returns
 returns c shell text old new other h k =
-    h.made ∙ (ap (λ ss. applied ss old) (one shell text h.settings k.settings h.says k.says) ∙ sym k.made)
+    h.made ∙ (ap (λ ss. applied ss old) (one shell text h.changes k.changes h.says k.says) ∙ sym k.made)

@@ -1,15 +1,15 @@
 use Rattle.std.proofs.Common.{◌+◌, ◌≤◌, ◌↔◌, ℕ, List, length}
 use Rattle.std.specs.Str.{chars}
 use Rattle.tclpattern.specs.Patterns.{IsMatch}
-use Rattle.tclpattern.specs.Search.Steps.{Leads}
-use Rattle.tclpattern.specs.Search.Places.{IsText}
+use Rattle.tclpattern.specs.Search.Steps.{LeadsToStar}
+use Rattle.tclpattern.specs.Search.Places.{IsUtf8Place}
 use Rattle.tclpattern.proofs.place.read_to_star.Given as goal
 
 abbrev pub invariant-loop-first : goal.invariant-loop-first
 invariant-loop-first l = record {
-  text : IsText l.place;
+  text : IsUtf8Place l.place;
   same : IsMatch (chars l.place.pattern.now) (chars l.place.text.now) ↔ IsMatch (chars l.pattern) (chars l.text);
-  leads : (qs ds : List ℕ) → Leads (chars l.place.pattern.now) (chars l.place.text.now) qs ds → Leads (chars l.pattern) (chars l.text) qs ds;
+  leads : (qs ds : List ℕ) → LeadsToStar (chars l.place.pattern.now) (chars l.place.text.now) qs ds → LeadsToStar (chars l.pattern) (chars l.text) qs ds;
   no_longer : length l.place.pattern.now + length l.place.text.now ≤ length l.pattern + length l.text;
 }
 

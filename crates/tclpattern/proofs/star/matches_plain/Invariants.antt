@@ -1,12 +1,12 @@
 use Rattle.std.proofs.Common.{◌≡◌, ◌↔◌, ◌+◌, true, length}
 use Rattle.std.specs.Str.{chars}
 use Rattle.tclpattern.specs.Search.Plain.{is_plain}
-use Rattle.tclpattern.specs.Search.Places.{StarMatches, IsText}
+use Rattle.tclpattern.specs.Search.Places.{StarMatches, IsUtf8Place}
 use Rattle.tclpattern.proofs.star.matches_plain.Given as goal
 
 abbrev pub invariant-loop-star : goal.invariant-loop-star
 invariant-loop-star l = record {
-  text : IsText l.star;
+  text : IsUtf8Place l.star;
   plain : is_plain (chars l.star.pattern.now) ≡ true;
   same : StarMatches l.star ↔ StarMatches l.first;
 }

@@ -1,5 +1,5 @@
 use Rattle.std.proofs.Common.{◌≡◌, ◌++◌, ◌≤◌, List, length, map, string_bytes}
-use Rattle.lookup.specs.Agreement.{Shows}
+use Rattle.lookup.specs.Agreement.{InEachPair}
 use Rattle.modulename.specs.ModuleName.{Text}
 use Rattle.modulesearch.specs.Listed as listed
 use Rattle.modulelist.specs.Rows.{row_view}
@@ -11,9 +11,9 @@ decreases-list_folder g l = l.levels
 
 abbrev pub invariant-loop-rest : goal.invariant-loop-rest
 invariant-loop-rest g l = record {
-  before : Shows (g.T.Tree.agrees l.tree) (λ files folders. g.T.Tree.agrees l.initial.tree files folders);
+  before : InEachPair (g.T.Tree.agrees l.tree) (λ files folders. g.T.Tree.agrees l.initial.tree files folders);
   walked : (done : List Text) × (map string_bytes l.initial.rest ≡ done ++ map string_bytes l.rest)
-      × Shows (g.T.Tree.agrees l.tree) (λ files folders. (more : List listed.Row)
+      × InEachPair (g.T.Tree.agrees l.tree) (λ files folders. (more : List listed.Row)
       × (map row_view l.rows.items ≡ map row_view l.fn.rows.items ++ more)
       × AreRows (g.D.DefaultFiles.leaves l.self.default_files.now) files folders l.self.dir.now
       (IsInside files folders l.self.dir.now (map string_bytes l.initial.rest) done) more);

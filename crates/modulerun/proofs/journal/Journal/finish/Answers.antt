@@ -1,5 +1,5 @@
 use Rattle.std.proofs.Common.{◌≡◌, Ok, map, ap, sym, subst, ◌∙◌}
-use Rattle.environment.specs.Changes.{applied, edits_in}
+use Rattle.environment.specs.Changes.{applied, new_values_in}
 use Rattle.modulerecords.specs.Effects.{effects}
 use Rattle.modulefile.specs.RecordViews.{mode_view, record_view}
 use Rattle.modulefile.specs.Answers.{records_in}
@@ -14,6 +14,6 @@ returns-clause-records g c =
 
 pub returns-clause-changes : goal.returns-clause-changes
 returns-clause-changes g c =
-    subst (λ (s : SoFar). effects (mode_view s.mode) s.owner (map record_view c.in_ok-records.records.items) s.start ≡ Ok (applied (edits_in c.in_ok-changes.changes) s.start)) c.self.view_is
-    (made_by c.self.inside.mode c.self.inside.owner.now c.self.inside.working.old c.self.inside.working.new c.self.inside.entries.items c.in_ok-records.records.items (edits_in c.in_ok-changes.changes)
+    subst (λ (s : SoFar). effects (mode_view s.mode) s.owner (map record_view c.in_ok-records.records.items) s.start ≡ Ok (applied (new_values_in c.in_ok-changes.changes) s.start)) c.self.view_is
+    (made_by c.self.inside.mode c.self.inside.owner.now c.self.inside.working.old c.self.inside.working.new c.self.inside.entries.items c.in_ok-records.records.items (new_values_in c.in_ok-changes.changes)
     c.self.invariant c.in_ok-records.ensures c.in_ok-changes.ensures.ok)

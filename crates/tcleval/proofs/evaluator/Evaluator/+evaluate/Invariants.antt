@@ -14,7 +14,7 @@ use Rattle.tclrules.specs.Plans.{Next, on_normal}
 use Rattle.tclrules.specs.Rules.{rule}
 use Rattle.tclforms.specs.Views.{pair_texts}
 use Rattle.tclsteps.specs.Machine.{shown, bounds, control_plan, behind_all, control_weight, frames_weight}
-use Rattle.tcleval.specs.Runs.{Comes, IsTreeOf}
+use Rattle.tcleval.specs.Runs.{ComesToText, IsTreeOf}
 use Rattle.tcleval.specs.Later.{Later}
 use Rattle.tcleval.proofs.evaluator.Evaluator.+evaluate.Given as goal
 
@@ -117,7 +117,7 @@ invariant-commands-loop-command g l =
     let b = bounds l.limits.value_bytes l.left in
     let view = map (command_view (shown l.source)) in
     record {
-      comes : Comes l.wanted l.limits.value_bytes (Ok l.last) (λ u. Leads l.limits.commands (rule l.limits.value_bytes) (rules.commands b (script_view (shown l.source) l.script) [] l.fn.self.variables) (point (o l.fn.host) (t l.fn.host) l.fn.self.used) (rules.commands b (commands_of (view (drop l.command-index (out-Script ByteRange l.script).commands.items))) u l.self.variables) (point (o l.host) (t l.host) l.self.used));
+      comes : ComesToText l.wanted l.limits.value_bytes (Ok l.last) (λ u. Leads l.limits.commands (rule l.limits.value_bytes) (rules.commands b (script_view (shown l.source) l.script) [] l.fn.self.variables) (point (o l.fn.host) (t l.fn.host) l.fn.self.used) (rules.commands b (commands_of (view (drop l.command-index (out-Script ByteRange l.script).commands.items))) u l.self.variables) (point (o l.host) (t l.host) l.self.used));
       later : Later l.fn.self l.self;
     }
 
