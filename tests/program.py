@@ -300,6 +300,17 @@ def a_modulepath_that_is_not_utf8(folder):
     folder.refuses(["sh", "load", "foo/1.0"], "Unable to locate a modulefile for 'foo/1.0'", env=env)
 
 
+@case
+def a_variable_that_is_not_utf8(folder):
+    """It is read as unset, so a module that names it writes over it, and an unload leaves it unset."""
+    folder.module("foo/1", "prepend-path P /x\n")
+    lists = new_lists(folder, "foo/1")
+    start = folder.environment(P=b"\xff/a")
+    folder.accepts(["sh", "load", "foo/1"], lists[0] + b"P='/x'; export P;\n" + lists[1], env=start)
+    out = b"unset LOADEDMODULES;\nunset P;\nunset _LMFILES_;\n"
+    folder.accepts(["sh", "unload", "foo/1"], out, env=loaded(folder, "foo/1", P="/x"))
+
+
 # Unloading.
 
 

@@ -126,10 +126,10 @@ def install_refuses_a_prefix_that_shells_would_misread(folder):
 
 @case
 def the_usage_tells_what_the_program_does(folder):
-    """Each sub-command is known, and none is missing."""
+    """Each subcommand is known, and none is missing."""
     usage = ["sh", os.path.join(TOP, "libexec", "usage")]
     text = subprocess.run(usage, capture_output=True, check=True).stdout.decode()
-    names = [name for found in SUBCOMMAND.findall(text.split("Sub-commands:\n")[1]) for name in found.split(", ")]
+    names = [name for found in SUBCOMMAND.findall(text.split("Subcommands:\n")[1]) for name in found.split(", ")]
     same(sorted(names), sorted([*SUBCOMMANDS, "del", "remove"]), "the names of the usage")
     for name in SUBCOMMANDS:
         done = folder.run("sh", name, "a b")
