@@ -107,7 +107,7 @@ abbrev pub LoadsFound : Site → Bool → Text → Done → List Entry → searc
 LoadsFound s in_switch typed d xs m =
     If (has m.name (names_of xs)) (Is (Ok d)) (
     RefusedAs stopped (RunsFile s.limits (context_of s modes.load in_switch typed m.name m.path xs d.env) m.text) >>
-        (λ ran.
+    (λ ran.
     Is (joins d xs (module_of m.name m.path ran) ran.messages)))
 
 -- A name that is exactly a loaded module's changes nothing. Another is searched for.
@@ -131,7 +131,7 @@ abbrev pub UnloadsEntry : Site → Bool → Text → Done → List Entry → Ent
 UnloadsEntry s in_switch typed d xs x =
     Is (script_at x.path (modulefile (s.files x.path))) >> (λ text.
     RefusedAs stopped (RunsFile s.limits (context_of s modes.unload in_switch typed x.name x.path xs d.env) text) >>
-        (λ ran.
+    (λ ran.
     Is (went d (Unloads (module_of x.name x.path ran)) ran.messages)))
 
 -- where there is no such module nothing changes
