@@ -95,6 +95,10 @@ def main():
         passed, failed = gate()
     spent = {"rt ci": children_seconds() - start}
     for script, program, *words in SUITES:
+        if program and not os.path.exists(os.path.join(BUILT, program)):
+            print(f"FAILED: {script} needs {program}, which the gate didn't build")
+            failed += 1
+            continue
         before = children_seconds()
         more = counted([sys.executable, "-B", os.path.join(HERE, script), os.path.join(BUILT, program), *words])
         spent[" ".join([script, *words])] = children_seconds() - before
