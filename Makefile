@@ -1,24 +1,36 @@
 # Builds, shows and tests the program modulecmd.
 #
-#   make build   proves the crates and leaves the program at build/bin/modulecmd
+#   make build   proves the crates that the program stands on, side by side, and leaves it at build/bin/modulecmd;
+#                JOBS=N says how many processors may be used
+#   make check   proves every crate as `make build` does, without the gate; with CRATE=name that crate and those below
 #   make install PREFIX=/opt/modulecmd DESTDIR=
 #                lays out the program, the init files, completion and the pages below a prefix, and `make uninstall`
 #                takes them away
 #   make demo    installs it below build/demo, and shows loads, a switch and unloads in a POSIX shell
-#   make test    the merge gate `rt ci`, the tests over real folders and real shells, and what each part took
+#   make test    the merge gate `rt ci`, the tests over real folders and real shells, and what each part took; with
+#                ONLY="NAME..." those suites alone, over the programs in build/bin
 #   make bench   a table of ratios beside a native program, Environment Modules and Lmod, and instructions where
 #                something grows (some minutes)
+#   make deps    installs by apt-get what demo, test and bench need; each of them does so where something is missing
 
 PREFIX ?= /opt/modulecmd
 DESTDIR ?=
+CRATE ?=
+ONLY ?=
 
-.PHONY: build install uninstall demo test bench clean
+.PHONY: build check deps install uninstall demo test bench clean
 
 build:
-	sh tools/build.sh
+	python3 -B tools/build.py
+
+check:
+	python3 -B tools/build.py --check $(CRATE)
+
+deps:
+	sh tools/deps.sh
 
 build/bin/modulecmd:
-	sh tools/build.sh
+	python3 -B tools/build.py
 
 install: build/bin/modulecmd
 	sh tools/product.sh install '$(DESTDIR)' '$(PREFIX)' build/bin/modulecmd
@@ -27,18 +39,18 @@ uninstall:
 	sh tools/product.sh uninstall '$(DESTDIR)' '$(PREFIX)'
 
 demo:
-	sh tools/install.sh demo
-	sh tools/build.sh
+	sh tools/deps.sh demo
+	python3 -B tools/build.py
 	sh tools/product.sh install '' '$(CURDIR)/build/demo' build/bin/modulecmd
 	sh demo/demo.sh build/demo
 
 test:
-	sh tools/install.sh shells
-	python3 -B tests/run.py
+	sh tools/deps.sh test
+	python3 -B tests/run.py $(if $(ONLY),--only $(ONLY))
 
 bench:
-	sh tools/install.sh bench
-	sh tools/build.sh
+	sh tools/deps.sh bench
+	python3 -B tools/build.py
 	python3 -B bench/run.py build/bin/modulecmd
 
 clean:

@@ -1,5 +1,10 @@
 """Runs the merge gate, and then the tests outside it over the programs that the gate proved and built.
 
+    run.py [--only NAME...]
+
+With names, as `program`, `tcl/scripts.py` or `sentence`, the gate isn't run, and of the suites only these, over the
+programs that stand in build/bin.
+
 At the end stands a table of the processor time of each part. The last line counts what passed and what failed.
 """
 
@@ -89,25 +94,44 @@ def gate():
     return counts
 
 
-def main():
-    start = children_seconds()
-    with Sampler(os.getpid()) as sampler:
-        passed, failed = gate()
-    spent = {"rt ci": children_seconds() - start}
-    for script, program, *words in SUITES:
-        if program and not os.path.exists(os.path.join(BUILT, program)):
-            print(f"FAILED: {script} needs {program}, which the gate didn't build")
-            failed += 1
-            continue
-        before = children_seconds()
-        more = counted([sys.executable, "-B", os.path.join(HERE, script), os.path.join(BUILT, program), *words])
-        spent[" ".join([script, *words])] = children_seconds() - before
-        passed += more[0]
-        failed += more[1]
-    print(table(sampler.crates(), spent))
+def suite(script, program, words):
+    """Runs one suite, and gives what passed, what failed and its processor seconds."""
+    if program and not os.path.exists(os.path.join(BUILT, program)):
+        crate = PROGRAMS[program][0]
+        print(f"FAILED: {script} needs build/bin/{program}: `python3 tools/build.py {crate}` builds it")
+        return 0, 1, 0.0
+    before = children_seconds()
+    counts = counted([sys.executable, "-B", os.path.join(HERE, script), os.path.join(BUILT, program), *words])
+    return *counts, children_seconds() - before
+
+
+def chosen(names):
+    """The suites of these names, each with or without `.py`; all where none is named."""
+    scripts = {name if name.endswith(".py") else f"{name}.py" for name in names}
+    unknown = scripts - {script for script, *_ in SUITES}
+    if unknown:
+        known = " ".join(dict.fromkeys(script for script, *_ in SUITES))
+        sys.exit(f"no suite is called {' '.join(sorted(unknown))}; there are: {known}")
+    return [it for it in SUITES if not names or it[0] in scripts]
+
+
+def main(words):
+    if words[:1] not in ([], ["--only"]) or words == ["--only"]:
+        sys.exit("run.py [--only NAME...]")
+    suites, start, passed, failed, spent, crates = chosen(words[1:]), children_seconds(), 0, 0, {}, {}
+    if not words:
+        with Sampler(os.getpid()) as sampler:
+            passed, failed = gate()
+        spent["rt ci"], crates = children_seconds() - start, sampler.crates()
+    for script, program, *more in suites:
+        suite_passed, suite_failed, seconds = suite(script, program, more)
+        spent[" ".join([script, *more])] = seconds
+        passed += suite_passed
+        failed += suite_failed
+    print(table(crates, spent))
     print(f"{passed} passed, {failed} failed")
     return 1 if failed else 0
 
 
 if __name__ == "__main__":
-    sys.exit(main())
+    sys.exit(main(sys.argv[1:]))

@@ -102,12 +102,14 @@ def row(title, cells):
 
 def table(crates, spent):
     """What each crate took in the gate, and what each command took."""
-    lines = ["== processor seconds, user and system", row("crate", (*PARTS, "all"))]
+    lines = ["== processor seconds, user and system"]
+    lines += [row("crate", (*PARTS, "all"))] if crates else []
     sums = dict.fromkeys(PARTS, 0.0)
     for name, parts in sorted(crates.items()):
         lines.append(row(name, [f"{seconds:.0f}" for seconds in (*parts.values(), sum(parts.values()))]))
         sums = {part: sums[part] + parts[part] for part in PARTS}
-    lines.append(row("all crates", [f"{seconds:.0f}" for seconds in (*sums.values(), sum(sums.values()))]))
+    if crates:
+        lines.append(row("all crates", [f"{seconds:.0f}" for seconds in (*sums.values(), sum(sums.values()))]))
     for name, seconds in spent.items():
         lines.append(row(name, ["", "", "", f"{seconds:.0f}"]))
     lines.append(f"processor minutes: {sum(spent.values()) / 60:.1f}")

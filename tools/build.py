@@ -1,0 +1,243 @@
+"""Proves crates of this repository side by side, and builds its programs.
+
+    build.py [--check] [CRATE...]
+
+Proves the crates that are named and those below them, each once the crates that it stands on are there: as many at a
+time as processors and memory allow, the longest chain of crates first. A program among them is built and left in
+build/bin; with `--check` nothing is left there. Without a name: `modulecmd_main`, or every crate with `--check`.
+
+What was proved lies in crates/*/out/build and is taken again where neither the crate nor anything below it changed.
+JOBS=N says how many processors may be used. The verdict on a change is `rt ci`, which proves everything from nothing.
+"""
+
+import hashlib
+import os
+import re
+import shutil
+import subprocess
+import sys
+import time
+from concurrent.futures import FIRST_COMPLETED, ThreadPoolExecutor, wait
+
+TOP = os.path.dirname(os.path.dirname(os.path.abspath(__file__)))
+KIT = os.path.dirname(subprocess.run(["rt", "doc"], stdout=subprocess.PIPE, text=True, check=True).stdout.strip())
+sys.path.insert(0, os.path.join(KIT, "bin"))
+
+import rtlib  # noqa: E402  (the kit's own module: it knows the words that a crate is proved with)
+
+# The programs whose name is not that of their crate.
+NAMES = {"modulecmd_main": "modulecmd"}
+MOST_JOBS = 4  # of one crate: more of them gain nothing
+SHOWN_LINES = 30
+
+
+def processors():
+    jobs = os.environ.get("JOBS", "")
+    return int(jobs) if jobs.isdigit() and int(jobs) > 0 else len(os.sched_getaffinity(0))
+
+
+def free_memory():
+    """Bytes, under the limit of the control group too."""
+    found = [1024 * rtlib.number_in("/proc/meminfo", r"MemAvailable:\s+(\d+)")]
+    for limit, held in rtlib.GROUPS:
+        limit, held = rtlib.number_in(limit, r"(\d+)"), rtlib.number_in(*held)
+        if limit and held is not None:
+            found.append(limit - held)
+    return min(found)
+
+
+def lines_of(crate, ending):
+    return sum(rtlib.text_of(file).count("\n") for file in rtlib.files_of(crate.folder) if file.endswith(ending))
+
+
+def clock(seconds):
+    return f"{int(seconds) // 60}:{int(seconds) % 60:02}"
+
+
+class Work:
+    """One crate to be proved, or built where it is a program."""
+
+    def __init__(self, crate, below):
+        self.crate, self.name, self.below = crate, crate.name, below
+        self.room = os.path.join(crate.folder, "out", "build")
+        self.made = os.path.join(self.room, self.name if crate.is_program else f"{self.name}.rlib")
+        self.lines = lines_of(crate, ".rt"), lines_of(crate, ".antt")
+        self.behind = 0.0
+
+    def file(self, name):
+        return os.path.join(self.room, name)
+
+    def cost(self):
+        """Processor seconds: those of the last time, or about as many as its lines take."""
+        known = rtlib.text_of(self.file("seconds"))
+        return float(known) if known else 10 + 0.15 * self.lines[0] + 0.03 * self.lines[1]
+
+    def memory(self):
+        """Bytes that a proof from nothing may take, by its own lines and those of the crates that it loads."""
+        loaded = sum(it.lines[0] for it in self.all_below())
+        return 1_200_000_000 + 1_000_000 * self.lines[0] + 200_000 * self.lines[1] + 80_000 * loaded
+
+    def all_below(self):
+        found = {}
+        for it in self.below:
+            found.update(dict.fromkeys([*it.all_below(), it]))
+        return [*found]
+
+    def stamp(self):
+        """What says that neither the toolchain, the crate nor anything below it changed."""
+        sum_of = hashlib.sha256(repr((rtlib.text_of(f"{KIT}/KIT-ID"), self.crate.said)).encode())
+        for file in rtlib.files_of(self.crate.folder):
+            with open(file, "rb") as it:
+                sum_of.update(repr((os.path.relpath(file, self.crate.folder), it.read())).encode())
+        for it in self.below:
+            sum_of.update(it.stamp().encode())
+        return sum_of.hexdigest()
+
+    def is_there(self):
+        return os.path.exists(self.made) and rtlib.text_of(self.file("stamp")) == self.stamp()
+
+    def words(self, jobs):
+        """The words for the prover. The crates above a library load its statements and not its proofs."""
+        words = [rtlib.RATTLE, "build", *self.crate.words(["--jobs", str(jobs)], keeps=False)]
+        if self.crate.is_program:
+            return [*words, "--toolchain", f"{KIT}/toolchain", "--backend", "llvm", "-o", f"{self.made}.o"]
+        return [*words, "--statements", "-o", self.made]
+
+    def link(self):
+        words = [f"{KIT}/bin/rattle-link", "--target", "x86_64-unknown-linux-gnu", "--toolchain", f"{KIT}/toolchain"]
+        return [*words, "-o", self.made, f"{self.made}.o", f"{KIT}/c/libos_c.a", f"{KIT}/c/liblibc_c.a"]
+
+    def run(self, words):
+        with open(self.file("log"), "ab") as log:
+            how = {"stdin": subprocess.DEVNULL, "stdout": log, "stderr": subprocess.STDOUT}
+            return subprocess.run([*rtlib.guarded(), *words], cwd=self.crate.folder, **how).returncode
+
+    def do(self, jobs):
+        """Proves the crate, builds it where it is a program, and gives whether that went well."""
+        stamp, start = self.stamp(), time.monotonic()
+        for path in (self.file("stamp"), self.file("log")):
+            if os.path.exists(path):
+                os.remove(path)
+        shutil.rmtree(self.made, ignore_errors=True)
+        os.makedirs(self.room, exist_ok=True)
+        status = self.run(self.words(jobs))
+        is_proved = status == 0 and re.search(r"^logic=proved ", rtlib.text_of(self.file("log")), re.M)
+        if not is_proved or (self.crate.is_program and self.run(self.link())):
+            return False
+        # A text that changed in the meantime is proved again the next time.
+        if stamp == self.stamp():
+            self.note("stamp", stamp)
+            self.note("seconds", f"{jobs * (time.monotonic() - start):.0f}")
+        return True
+
+    def note(self, name, text):
+        with open(self.file(name), "w", encoding="utf-8") as it:
+            it.write(text)
+
+    def last_lines(self):
+        lines = (rtlib.text_of(self.file("log")) or "").rstrip("\n").split("\n")
+        return "\n".join(lines[-SHOWN_LINES:])
+
+
+def works_for(names):
+    """The work for the crates of these names and for all below them, lowest first."""
+    crates = rtlib.crates_below(TOP)
+    for crate in crates:
+        crate.rlib = os.path.join(crate.folder, "out", "build", f"{crate.name}.rlib")
+    lacking = sorted({*names} - {it.name for it in crates})
+    if lacking:
+        sys.exit(f"crates.txt has no crate {lacking[0]}")
+    wanted = [it for it in crates if not names or it.name in names]
+    works = {}
+    for crate in [it for one in wanted for it in [*one.below(), one]]:
+        if crate.name not in works:
+            works[crate.name] = Work(crate, [works[dep.name] for dep in crate.deps])
+    for work in reversed([*works.values()]):
+        work.behind += work.cost()
+        for dep in work.below:
+            dep.behind = max(dep.behind, work.behind)
+    return [*works.values()]
+
+
+class Schedule:
+    """Does works side by side, and says a line of each that ends."""
+
+    def __init__(self, works):
+        self.start = time.monotonic()
+        self.done = [it for it in works if it.is_there()]
+        self.left = sorted((it for it in works if it not in self.done), key=lambda it: -it.behind)
+        self.running, self.failed = {}, []
+        self.lanes, self.memory = processors(), 0.85 * free_memory()
+
+    def say(self, text):
+        names = ", ".join(sorted(work.name for work, _, _ in self.running.values())) or "none"
+        counts = f"done {len(self.done)}, running {len(self.running)} ({names}), left {len(self.left)}"
+        print(f"[{clock(time.monotonic() - self.start)}] {text}; {counts}", flush=True)
+
+    def begin(self, pool):
+        """Begins what can begin. Processors that nothing else waits for go into the crates that are begun."""
+        ready = [it for it in self.left if all(dep in self.done for dep in it.below)]
+        for place, work in enumerate(ready):
+            idle = self.lanes - sum(jobs for _, jobs, _ in self.running.values())
+            room = self.memory - sum(memory for _, _, memory in self.running.values())
+            need = work.memory()
+            if idle <= 0 or (self.running and need > room):
+                continue
+            more = int((room / need - 1) / 0.6) if room > need else 0
+            jobs = max(1, min(MOST_JOBS, idle // (len(ready) - place), 1 + more))
+            self.left.remove(work)
+            memory = need * (1 + 0.6 * (jobs - 1))
+            self.running[pool.submit(work.do, jobs)] = (work, jobs, memory)
+
+    def end_one(self):
+        for future in wait(self.running, return_when=FIRST_COMPLETED).done:
+            work, _, _ = self.running.pop(future)
+            if future.result():
+                self.done.append(work)
+                self.say(f"{work.name} {'built' if work.crate.is_program else 'proved'}")
+            else:
+                self.failed.append(work)
+                self.say(f"{work.name} FAILED")
+                print(work.last_lines(), flush=True)
+
+    def run(self):
+        """Gives whether all went well. After a failure nothing more is begun."""
+        with ThreadPoolExecutor(self.lanes) as pool:
+            while self.running or (self.left and not self.failed):
+                if not self.failed:
+                    self.begin(pool)
+                self.end_one()
+        return not self.failed
+
+
+def leave(work):
+    """Puts a program that was built into build/bin."""
+    name = NAMES.get(work.name, work.name)
+    os.makedirs(os.path.join(TOP, "build", "bin"), exist_ok=True)
+    shutil.copy(work.made, os.path.join(TOP, "build", "bin", name))
+    print(f"built build/bin/{name}")
+
+
+def main(words):
+    is_check = words[:1] == ["--check"]
+    names = words[1:] if is_check else words or ["modulecmd_main"]
+    works = works_for(names)
+    # (the first call sets a signal's handler, which only the main thread may)
+    rtlib.guarded()
+    held = rtlib.lock([it.crate for it in works])
+    schedule = Schedule(works)
+    is_well = schedule.run()
+    for it in held:
+        os.close(it)
+    if not is_well:
+        return 1
+    for work in works:
+        if work.crate.is_program and work.name in names and not is_check:
+            leave(work)
+    minutes = (time.monotonic() - schedule.start) / 60
+    print(f"{len(works)} crates are proved, in {minutes:.1f} minutes. The verdict on a change is `rt ci`.")
+    return 0
+
+
+if __name__ == "__main__":
+    sys.exit(main(sys.argv[1:]))

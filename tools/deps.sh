@@ -1,0 +1,98 @@
+#!/bin/sh
+# Installs, by apt-get, what the example (`demo`), the tests (`test`) or the measurements (`bench`) need, where it is
+# missing, and says so. Without a word: what all three need.
+set -eu
+cd "$(dirname "$0")/.."
+
+# Notes a package where none of its commands or files is there.
+need() {
+    package=$1
+    shift
+    for command in "$@"; do
+        if command -v "$command" > /dev/null 2>&1 || test -f "$command"; then
+            return 0
+        fi
+    done
+    case "$missing " in
+        *" $package "*) ;;
+        *) missing="$missing $package" ;;
+    esac
+}
+
+need_for() {
+    case $1 in
+        demo)
+            need python3 python3
+            ;;
+        test)
+            need python3 python3
+            need dash dash
+            need bash bash
+            need ksh93u+m ksh93
+            need mksh mksh
+            need zsh zsh
+            need tcsh tcsh
+            need fish fish
+            need mandoc mandoc
+            need shellcheck shellcheck
+            need tcl tclsh
+            need gcc cc
+            need libc6-dev /usr/include/stdlib.h
+            ;;
+        bench)
+            need python3 python3
+            need valgrind valgrind
+            need rustc rustc
+            need tcl tclsh
+            need lua5.3 lua5.3
+            need lua-posix /usr/share/lua/5.3/posix/init.lua
+            need lua-filesystem /usr/lib/*/lua/5.3/lfs.so
+            need lua-json /usr/share/lua/5.3/json.lua
+            need lua-term /usr/share/lua/5.3/term/init.lua
+            # These two conflict: what isn't installed is unpacked beside.
+            if test -e /usr/share/lmod; then
+                unpacked=environment-modules
+            else
+                need environment-modules /usr/share/modules/init/sh
+                unpacked=lmod
+            fi
+            if test -e "build/bench/$unpacked"; then
+                unpacked=
+            fi
+            ;;
+        *)
+            echo "deps.sh: $1 is none of demo, test, bench" >&2
+            exit 2
+            ;;
+    esac
+}
+
+missing=
+unpacked=
+for part in "${@:-all}"; do
+    if test "$part" = all; then
+        need_for demo
+        need_for test
+        need_for bench
+    else
+        need_for "$part"
+    fi
+done
+if test -z "$missing$unpacked"; then
+    exit 0
+fi
+if ! command -v apt-get > /dev/null 2>&1 || test "$(id -u)" != 0; then
+    echo "missing, and not installed (no apt-get, or not root):$missing $unpacked" >&2
+    exit 0
+fi
+echo "missing, and installed now by apt-get:$missing $unpacked"
+apt-get update > /dev/null 2>&1 || true
+for package in $missing; do
+    apt-get install -y --no-install-recommends "$package" > /dev/null 2>&1 \
+        || echo "apt-get has no $package" >&2
+done
+if test -n "$unpacked"; then
+    mkdir -p build/bench/packages
+    (cd build/bench/packages && apt-get download "$unpacked" > /dev/null 2>&1 && dpkg -x "$unpacked"_*.deb "../$unpacked") \
+        || echo "apt-get has no $unpacked" >&2
+fi
