@@ -25,9 +25,7 @@ COUNTS = re.compile(r"(\d+) passed, (\d+) failed")
 PROGRAMS = {
     "modulecmd": ("modulecmd_main", "modulecmd_main"),
     "modulecmd_cases": ("modulecmd_cases", "modulecmd_cases"),
-    "tcltext_cases": ("tcltext_cases", "tcltext_cases"),
-    "tclvalue_cases": ("tclvalue_cases", "tclvalue_cases"),
-    "tcleval_cases": ("tcleval_cases", "tcleval_cases"),
+    "cases_tcl": ("cases_tcl", "cases_tcl"),
     "modulesearch_cases": ("modulesearch_cases", "modulesearch_cases"),
     "envstate_rows": ("envstate_rows", "envstate_rows"),
 }
@@ -47,11 +45,11 @@ SUITES = (
     ("search.py", "modulesearch_cases"),
     ("shells/run.py", "modulecmd"),
     ("allocations.py", "envstate_rows"),
-    ("tcl/compare.py", "tcltext_cases"),
-    ("tcl/values.py", "tclvalue_cases"),
-    ("tcl/scripts.py", "tcleval_cases"),
+    ("tcl/compare.py", "cases_tcl"),
+    ("tcl/values.py", "cases_tcl"),
+    ("tcl/scripts.py", "cases_tcl"),
     ("tcl/commands.py", ""),
-    ("tcl/memory.py", ""),
+    ("tcl/memory.py", "cases_tcl"),
     ("runs.py", ""),
 )
 

@@ -1,4 +1,4 @@
-"""Compares the expected answers of crates/tclcommands_rows with those of the real tclsh.
+"""Compares the expected answers of the rows `command` of crates/cases_tcl with those of the real tclsh.
 
 Where the profile differs from Tcl 8.6 the answer stands here, with its rule."""
 
@@ -7,7 +7,7 @@ import subprocess
 import sys
 
 HERE = os.path.dirname(os.path.abspath(__file__))
-CRATE = os.path.join(HERE, "..", "..", "crates", "tclcommands_rows")
+CRATE = os.path.join(HERE, "..", "..", "crates", "cases_tcl")
 LIMIT = 64
 
 DIFFERENCES = {
@@ -61,6 +61,13 @@ def lines(name):
         return file.read().split("\n")[:-1]
 
 
+def rows_of(kind):
+    """The rows of a kind, without it, and the answers that are expected."""
+    questions, answers = lines("stdin"), lines("stdout")
+    found = [(q.removeprefix(kind), a) for q, a in zip(questions, answers, strict=True) if q.startswith(kind)]
+    return [q for q, _ in found], [a for _, a in found]
+
+
 def by_the_profile(row, answer):
     if row in DIFFERENCES:
         return DIFFERENCES[row]
@@ -70,7 +77,7 @@ def by_the_profile(row, answer):
 
 
 def main():
-    rows = lines("stdin")
+    rows, expected = rows_of("command ")
     asked = "".join(("" if row in SPARED else row) + "\n" for row in rows)
     path = os.path.join(CRATE, "out", "rows.tcl")
     os.makedirs(os.path.dirname(path), exist_ok=True)
@@ -81,9 +88,8 @@ def main():
         capture_output=True, text=True, check=True, timeout=60,
     )
     answers = run.stdout.split("\n")[:-1]
-    expected = lines("stdout")
-    if not len(rows) == len(answers) == len(expected):
-        sys.exit(f"{len(rows)} rows, {len(answers)} answers of tclsh, {len(expected)} expected")
+    if not rows or len(rows) != len(answers):
+        sys.exit(f"{len(rows)} rows, {len(answers)} answers of tclsh")
     wrong = 0
     for row, answer, told in zip(rows, answers, expected):
         meant = by_the_profile(row, answer)

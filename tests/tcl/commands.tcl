@@ -1,4 +1,4 @@
-# Answers the rows of crates/tclcommands_rows with the real commands: commands.tcl ROWS
+# Answers the rows `command` of crates/cases_tcl with the real commands: commands.tcl ROWS
 set env(HOME) /home/user
 unset -nocomplain env(NO_SUCH)
 rename puts print

@@ -1,6 +1,7 @@
 """Compares the calls of tcltext with a real tclsh over generated texts.
 
-The program `tcltext_cases` and answers.tcl read the same calls from standard input, a line each, and write an answer a line.
+The program `cases_tcl` and answers.tcl read the same calls from standard input, a line each, and write an answer a line; the
+first reads the word `text` before each.
 Each known difference stands in DIFFERENCES with the rule of the profile (docs/DEFINITIONS.md) that means it."""
 
 import random
@@ -156,7 +157,8 @@ def answers(command, calls):
 def main():
     draw = random.Random(SEED)
     calls = [generate(draw) for generate in GENERATORS for _ in range(CASES)]
-    ours = [plain(call, answer) for call, answer in zip(calls, answers([sys.argv[1]], calls), strict=True)]
+    told = answers([sys.argv[1]], ["text " + call for call in calls])
+    ours = [plain(call, answer) for call, answer in zip(calls, told, strict=True)]
     theirs = answers(["tclsh", os.path.join(HERE, "answers.tcl")], list(map(question, calls, ours)))
     ours = list(map(wanted, calls, ours))
     explained, failed = {}, []

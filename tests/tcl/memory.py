@@ -1,6 +1,6 @@
 """What calls of tcltext, tclvalue and tcleval do where memory is refused: what they do with ample memory, or want of memory alone.
 
-    memory.py FOLDER      FOLDER has the programs tcltext_cases, tclvalue_cases and tcleval_cases, built"""
+    memory.py PROGRAM      PROGRAM is cases_tcl, built"""
 
 import os
 import subprocess
@@ -48,28 +48,28 @@ VALUE_CALLS = (
     ("c 10 " + " ".join(map(digits, ("string", "repeat", "ab", "1000000000"))), "err 16 "),
 )
 
-# Limits, the script, and the environment
-EVALUATED = "100000 200 1048576 %s " + digits("HOME") + " " + digits("/h")
+# The environment, and the script
+EVALUATED = "memory env.HOME=/h: %s"
 
 EVAL_CALLS = (
-    (EVALUATED % digits("list a {} {b c}"), "ok "),
-    (EVALUATED % digits("set i 0; set s {}; while {$i < 3} {incr i; append s $i-[string length $s]}; set s"), "ok "),
-    (EVALUATED % digits("foreach {x y} {1 2 3} {lappend l $x $y}; unset x; info exists x"), "ok "),
-    (EVALUATED % digits("proc f {a {b 2} args} {global g; set g $a; return $a$b$args}; f 1 {2 3} 4"), "ok "),
-    (EVALUATED % digits("switch -glob abc {x - a* {catch {expr {1 / 0}} m} default {}}; set m $env(HOME)"), "ok "),
-    (EVALUATED % digits("for {set i 0} {$i < 2} {incr i} {if {$i} {continue} else {catch break}}; mode"), "ok "),
-    (EVALUATED % digits("catch {nocommand} m; error $m"), "err 13 "),
-    (EVALUATED % digits("string repeat p 2000000"), "err 16 "),
+    (EVALUATED % "list a {} {b c}", "memory: ok "),
+    (EVALUATED % "set i 0; set s {}; while {$i < 3} {incr i; append s $i-[string length $s]}; set s", "memory: ok "),
+    (EVALUATED % "foreach {x y} {1 2 3} {lappend l $x $y}; unset x; info exists x", "memory: ok "),
+    (EVALUATED % "proc f {a {b 2} args} {global g; set g $a; return $a$b$args}; f 1 {2 3} 4", "memory: ok "),
+    (EVALUATED % "switch -glob abc {x - a* {catch {expr {1 / 0}} m} default {}}; set m $env(HOME)", "memory: ok "),
+    (EVALUATED % "for {set i 0} {$i < 2} {incr i} {if {$i} {continue} else {catch break}}; mode", "memory: ok "),
+    (EVALUATED % "catch {nocommand} m; error $m", "memory: err 13 "),
+    (EVALUATED % "string repeat p 2000000", "memory: err 16 "),
 )
 
 # What a program says where memory is refused: nothing, that there is no answer, or the fault of want of memory.
 REFUSED = (
     "",
-    "no call\n",
+    "no answer\n",
     "fault 1\n",
-    "bad case\n",
     f"err 11 {digits('Out of memory')}\n",
-    f"err 11 {digits('Out of memory')} 0 v m r\n",
+    "memory: err 11 0 Out of memory\n",
+    "memory: err 11 0 Out of memory\tasked\n",
 )
 
 
@@ -90,11 +90,10 @@ def main():
     passed, failed = 0, 0
     with tempfile.TemporaryDirectory(prefix="tcl-") as folder:
         shim = refuser(os.fsencode(folder))
-        programs = (("tcltext_cases", TEXT_CALLS), ("tclvalue_cases", VALUE_CALLS), ("tcleval_cases", EVAL_CALLS))
-        for name, calls in programs:
+        for kind, calls in (("text", TEXT_CALLS), ("value", VALUE_CALLS), ("script", EVAL_CALLS)):
             for call, begins in calls:
                 try:
-                    judge(shim, os.path.join(sys.argv[1], name), call, begins)
+                    judge(shim, sys.argv[1], f"{kind} {call}", begins)
                     passed += 1
                 except Failed as found:
                     failed += 1

@@ -1,7 +1,7 @@
 """Compares whole scripts with those of the real tclsh, over generated cases: results, messages of errors with their lines, final
 variables, what the host was told, and how many commands and turns were counted.
 
-    scripts.py PROGRAM [CASES]      PROGRAM is tcleval_cases, built
+    scripts.py PROGRAM [CASES]      PROGRAM is cases_tcl, built
 
 A script is made twice: as the profile reads it, and as it is for Tcl, where a stub in front of each command and at the
 beginning of each body of a loop counts, and what the profile does otherwise stands as what it does (DIFFERENCES). Messages
@@ -141,6 +141,23 @@ def digits(text):
 
 def text_of(shown):
     return "" if shown == "-" else bytes.fromhex(shown).decode()
+
+
+# How the program reads and writes a text.
+WRITTEN = {"\\": "\\\\", "\n": "\\n", "\t": "\\t", "\r": "\\r", "|": "\\|"}
+READ = {"n": "\n", "t": "\t", "r": "\r"}
+ENDING = re.compile(r"-: (?:ok (\d+)|err (\d+) (\d+)) (.*)")
+RECORD_WORD = re.compile(r"(?:^|\|)((?:[^\\|]|\\.)*)")
+
+
+def written(text):
+    if text in ("", "-"):
+        return "\\-" if text else "-"
+    return "".join(WRITTEN.get(c, c) for c in text)
+
+
+def read(shown):
+    return "" if shown == "-" else re.sub(r"(?s)\\(.)", lambda found: READ.get(found[1], found[1]), shown)
 
 
 class Pair:
@@ -654,25 +671,47 @@ class Maker:
 class Answer:
     """What an evaluation came to."""
 
-    def __init__(self, line, own):
-        words = line.split()
-        self.kind = words[0] if words else "none"
-        if self.kind not in ("ok", "err"):
-            self.shown = (line,)
-            return
-        places = {mark: words.index(mark, 3) for mark in ("v", "m", "r")}
-        read = text_of if own else (lambda shown: translated(text_of(shown)))
-        pairs = [read(w) for w in words[places["v"] + 1 : places["m"]]]
-        self.variables = sorted(zip(pairs[::2], pairs[1::2]))
-        self.messages = [read(w) for w in words[places["m"] + 1 : places["r"]]]
-        self.records = [[read(w) for w in record.split(",")] for record in words[places["r"] + 1 :]]
-        if self.kind == "ok":
-            self.result, self.count = read(words[1]), int(words[2])
-            self.shown = ("ok", self.result, self.count, self.variables, self.messages, self.records)
+    def __init__(self, kind, number, text, line, variables, messages, records):
+        self.kind, self.variables, self.messages, self.records = kind, sorted(variables), messages, records
+        if kind == "ok":
+            self.result, self.count = text, number
+            self.shown = ("ok", text, number, self.variables, messages, records)
         else:
-            self.number, self.text, self.line = int(words[1]), read(words[2]), int(words[3])
+            self.number, self.text, self.line = number, text, line
             # what is left of messages and records is the same also after a fault
-            self.shown = ("err", self.number, self.text, self.line if self.number == 13 else 0, self.messages, self.records)
+            self.shown = ("err", number, text, line if number == 13 else 0, messages, records)
+
+
+def own_answer(line):
+    """The answer of the program."""
+    head, *fields = line.split("\t")
+    ending = ENDING.fullmatch(head)
+    if not ending:
+        return Answer("none", 0, line, 0, [], [], [])
+    told = {"var": [], "said": [], "kept": [], "asked": []}
+    for field in fields:
+        kind, _, text = field.partition(" ")
+        told[kind].append(text)
+    variables = [tuple(map(read, variable.split("=", 1))) for variable in told["var"]]
+    messages = [read(message) for message in told["said"]]
+    records = [[read(word) for word in RECORD_WORD.findall(record)] for record in told["kept"]]
+    count, number, place, text = ending.groups()
+    if count:
+        return Answer("ok", int(count), read(text), 0, variables, messages, records)
+    return Answer("err", int(number), read(text), int(place), variables, messages, records)
+
+
+def tcl_answer(line):
+    """The answer of scripts.tcl."""
+    words = line.split()
+    places = {mark: words.index(mark, 3) for mark in ("v", "m", "r")}
+    pairs = [translated(text_of(word)) for word in words[places["v"] + 1 : places["m"]]]
+    messages = [translated(text_of(word)) for word in words[places["m"] + 1 : places["r"]]]
+    records = [[translated(text_of(word)) for word in record.split(",")] for record in words[places["r"] + 1 :]]
+    kind, first, second, *rest = words
+    number, text = (second, first) if kind == "ok" else (first, second)
+    line = int(rest[0]) if kind == "err" else 0
+    return Answer(kind, int(number), translated(text_of(text)), line, zip(pairs[::2], pairs[1::2]), messages, records)
 
 
 def bare(shown):
@@ -695,18 +734,17 @@ def ask(command, lines):
     size = (len(lines) + parts - 1) // parts or 1
 
     def part(some):
-        done = subprocess.run(command, input="\n".join(some) + "\n", capture_output=True, text=True, check=False)
-        return done.stdout.splitlines()
+        asked = ("\n".join(some) + "\n").encode()
+        done = subprocess.run(command, input=asked, stdout=subprocess.PIPE, check=False)
+        return done.stdout.decode().split("\n")[:-1]
 
     with ThreadPoolExecutor(parts) as pool:
         return [a for answers in pool.map(part, [lines[i : i + size] for i in range(0, len(lines), size)]) for a in answers]
 
 
 def case(script, commands=COMMANDS):
-    words = [str(commands), str(DEPTH), str(BYTES), digits(script)]
-    for name, value in ENVIRONMENT:
-        words += [digits(name), digits(value)]
-    return " ".join(words)
+    environment = " ".join(f"env.{name}={written(value)}" for name, value in ENVIRONMENT)
+    return f"script - commands={commands} depth={DEPTH} bytes={BYTES} {environment}: {written(script)}"
 
 
 def main():
@@ -725,9 +763,10 @@ def main():
     bodies = [command("if {$n >= -%d} {%s}" % (n, "%s"), command("incr n %d" % n)) for n in range(1100)]
     scripts.append(joined("; ", [command("set n 0"), command("foreach j {0 1} {%s}", turned(joined("; ", bodies)))]))
     start = time.time()
-    ours = [Answer(line, True) for line in ask(program, [case(s.ours) for s in scripts])]
+    ours = [own_answer(line) for line in ask(program, [case(s.ours) for s in scripts])]
     took = time.time() - start
-    theirs = [Answer(line, False) for line in ask(["tclsh", os.path.join(HERE, "scripts.tcl")], [digits(s.tcl) for s in scripts])]
+    tclsh = ["tclsh", os.path.join(HERE, "scripts.tcl")]
+    theirs = [tcl_answer(line) for line in ask(tclsh, [digits(s.tcl) for s in scripts])]
     failures = 0
     rules = {}
     for script, own, other in zip(scripts, ours, theirs):
@@ -748,7 +787,7 @@ def main():
         print(f"{len(ours)} and {len(theirs)} answers to {len(scripts)} scripts")
     ends = {}
     for own in ours:
-        end = "ok" if own.kind == "ok" else str(getattr(own, "number", own.kind))
+        end = "ok" if own.kind == "ok" else str(own.number)
         ends[end] = ends.get(end, 0) + 1
     print("ends: " + ", ".join(f"{n} {end}" for end, n in sorted(ends.items())))
     print(f"{took:.1f} s for {len(scripts)} scripts")
@@ -759,8 +798,8 @@ def main():
 def limits(program, scripts, ours):
     """A script that counts so many comes to the same under that limit, and to 14 under one less."""
     ended = [(s, o) for s, o in zip(scripts, ours) if o.kind == "ok"][:2000]
-    same = [Answer(line, True) for line in ask(program, [case(s.ours, o.count) for s, o in ended])]
-    less = [Answer(line, True) for line in ask(program, [case(s.ours, o.count - 1) for s, o in ended if o.count])]
+    same = [own_answer(line) for line in ask(program, [case(s.ours, o.count) for s, o in ended])]
+    less = [own_answer(line) for line in ask(program, [case(s.ours, o.count - 1) for s, o in ended if o.count])]
     wrong = sum(o.shown != again.shown for (_, o), again in zip(ended, same))
     wrong += sum(again.kind != "err" or again.number != 14 for again in less)
     if wrong:

@@ -1,6 +1,6 @@
 """Compares the operators and the commands of values with those of the real tclsh, over generated cases.
 
-    values.py PROGRAM [CASES]      PROGRAM is tclvalue_cases, built
+    values.py PROGRAM [CASES]      PROGRAM is cases_tcl, built
 
 Where the profile differs from Tcl 8.6 the expected answer is made here, each difference with its rule."""
 
@@ -258,6 +258,11 @@ def index_fault(words):
     return None
 
 
+def question(case):
+    limit = [str(LIMIT)] if case[0] == "c" else []
+    return " ".join(["value", case[0], *limit, *map(digits, case[1:])])
+
+
 LISTS = {}
 
 
@@ -276,9 +281,7 @@ def main():
     maker = Maker(20261122)
     cases = [maker.case() for _ in range(count)]
     start = time.time()
-    ours = ask(program, [
-        " ".join([c[0], str(LIMIT), *map(digits, c[1:])] if c[0] == "c" else [c[0], *map(digits, c[1:])]) for c in cases
-    ])
+    ours = ask(program, [question(c) for c in cases])
     took = time.time() - start
     tclsh = ["tclsh", os.path.join(HERE, "values.tcl")]
     lists = sorted({c[2] for c in cases if c[0] == "c" and c[1] in ("lindex", "lrange")})

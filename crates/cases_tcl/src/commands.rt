@@ -1,12 +1,10 @@
-//! Answers commands of Tcl that evaluate no script, a line each on standard input, which is the list of their words.
-//! `enter` begins a procedure and `leave` ends it; `body NAME` is the script of a procedure, and `value TEXT` is what
-//! an expression without brackets comes to. A value has at most 64 bytes.
+//! `command WORDS` runs a command that evaluates no script; the line is the list of its words. `enter` begins a
+//! procedure and `leave` ends it; `body NAME` is the script of a procedure, and `value TEXT` is what an expression
+//! without brackets comes to. A value has at most 64 bytes.
 //!
-//! Each answer is a line: `ok RESULT`, `raised MESSAGE`, or `halted` with what halts.
-#![tactic(auto)]
-
+//! The answer is `ok RESULT`, `raised MESSAGE`, or `halted` with what halts.
+use crate::scripts::recorder;
 use std::alloc::{AllocError, Global};
-use std::io;
 use tclcommands::{
     Value, append, consult, define, exists, get, global, increase, list_append, put, set, unset,
 };
@@ -28,10 +26,25 @@ const LIMITS: Limits = Limits {
 
 /// What the commands change.
 #[derive(Drop)]
-struct State {
+pub(crate) struct State {
     variables: Variables,
     callers: Vec<Option<Local>>,
     host: Recorder,
+}
+
+impl State {
+    pub(crate) fn new(alloc: Global) -> Result<State, AllocError> {
+        let mut host = recorder(alloc)?;
+        host.environment.push((
+            String::from_str(alloc, "HOME")?,
+            String::from_str(alloc, "/home/user")?,
+        ))?;
+        Ok(State {
+            variables: Variables::new(alloc),
+            callers: Vec::new(alloc),
+            host,
+        })
+    }
 }
 
 fn performed<'a>(alloc: Global, state: &mut State, form: Form<'a>) -> Result<Value<'a>, Stop> {
@@ -143,43 +156,10 @@ fn shown(alloc: Global, answer: Result<String, Stop>) -> Result<String, AllocErr
     }
 }
 
-fn answered(alloc: Global, state: &mut State, line: &str) -> Result<String, AllocError> {
+pub(crate) fn answer(alloc: Global, state: &mut State, line: &str) -> Result<String, AllocError> {
     let result = match elements(alloc, line) {
         Ok(words) => result(alloc, state, &words),
         Err(fault) => Err(Stop::from(fault)),
     };
     shown(alloc, result)
-}
-
-fn started(alloc: Global) -> Result<State, AllocError> {
-    let mut environment = Vec::new(alloc);
-    environment.push((
-        String::from_str(alloc, "HOME")?,
-        String::from_str(alloc, "/home/user")?,
-    ))?;
-    Ok(State {
-        variables: Variables::new(alloc),
-        callers: Vec::new(alloc),
-        host: Recorder {
-            alloc,
-            mode: String::from_str(alloc, "load")?,
-            environment,
-            records: Vec::new(alloc),
-            messages: Vec::new(alloc),
-            asked: false,
-        },
-    })
-}
-
-fn main(rt: HostRuntime) -> io::Result<()> {
-    let alloc = rt.alloc();
-    let mut state = started(alloc)?;
-    for line in rt.lines(alloc) {
-        let line = line?;
-        match answered(alloc, &mut state, line.as_str()) {
-            Ok(answer) => println!(rt; "{answer}")?,
-            Err(_) => println!(rt; "out of memory")?,
-        }
-    }
-    Ok(())
 }

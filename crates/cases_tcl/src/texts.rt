@@ -1,53 +1,22 @@
-//! Answers calls of tcltext: one a line on standard input, a verb and texts in hexadecimal digits, with `-` for the
-//! empty text. `list TEXT`, `write TEXT...`, `script TEXT`, `expr TEXT`, `glob PATTERN TEXT`, `number TEXT`. A text may
-//! be of parts with `+` between them, and of a part with `*TIMES` behind it.
+//! `text VERB TEXT...` answers a call of tcltext: `list TEXT`, `write TEXT...`, `script TEXT`, `expr TEXT`,
+//! `glob PATTERN TEXT`, `number TEXT`.
 //!
 //! `tree KIND TEXT` and `owned KIND TEXT` show a script or an expr as Rust prints it, with slices or with ranges of the
 //! text; `owned sources TEXT` the sources of its commands; `fault KIND TEXT` the fault, of a list too, and what it
 //! says; `range START END TEXT` the range of the text; `count TEXT` how many elements a list has; `memory` what want of
 //! it says.
 //!
-//! Each answer is a line: `ok` and what was read or written, `fault NUMBER` with the place where there is one, 1 or 0,
+//! The answer is `ok` and what was read or written, `fault NUMBER` with the place where there is one, 1 or 0,
 //! or the class of a number. Of a script the words of each command are shown behind its place, parted by `;`, and a
 //! word with a substitution as `$`. An expression is written with parentheses around each operator and its operands,
 //! and `?` for a substitution.
-#![tactic(auto)]
-
-mod trees;
-
+use crate::digits::{push_shown, shown, text_of, texts_of};
 use crate::trees::{fault, owned, tree};
 use std::alloc::{AllocError, Global};
-use std::io;
 use tcltext::{
     ByteRange, Command, Expr, Numeral, Operand, Part, Script, TextFault, Word, glob_match,
     parse_expr, parse_list, parse_script, push_braced_text, read_number, write_list,
 };
-
-/// A part of a text, as often as it says.
-fn push_part(alloc: Global, text: &mut String, part: &str) -> Option<()> {
-    let (digits, times) = part.split_once('*').unwrap_or((part, "1"));
-    let once = String::from_utf8(hex::decode(alloc, digits).ok()?).ok()?;
-    let times: usize = times.parse().ok()?;
-    text.push_str(&once.repeat(alloc, times).ok()?).ok()
-}
-
-/// The text of a word of a call; None where it isn't one.
-fn text_of(alloc: Global, digits: &str) -> Option<String> {
-    let mut text = String::new(alloc);
-    if digits != "-" {
-        for part in digits.split('+') {
-            push_part(alloc, &mut text, part)?;
-        }
-    }
-    Some(text)
-}
-
-fn push_shown(alloc: Global, line: &mut String, text: &str) -> Option<()> {
-    if text.is_empty() {
-        return line.push('-').ok();
-    }
-    line.push_str(&hex::encode(alloc, text).ok()?).ok()
-}
 
 fn place_of(fault: &TextFault) -> Option<usize> {
     match fault {
@@ -179,26 +148,17 @@ fn push_expression(text: &mut String, expression: &Expr<&str>) -> Result<(), All
 fn shown_expression(alloc: Global, expression: &Expr<&str>) -> Option<String> {
     let mut text = String::new(alloc);
     push_expression(&mut text, expression).ok()?;
-    shown_text(alloc, &text)
-}
-
-fn shown_text(alloc: Global, text: &str) -> Option<String> {
-    let mut line = String::from_str(alloc, "ok ").ok()?;
-    push_shown(alloc, &mut line, text)?;
-    Some(line)
+    shown(alloc, "ok", &text)
 }
 
 /// The list of the texts of a call.
 fn written(alloc: Global, words: &str) -> Option<String> {
-    let mut texts = Vec::new(alloc);
-    for word in words.split(' ').filter(|word| !word.is_empty()) {
-        texts.push(text_of(alloc, word)?).ok()?;
-    }
+    let texts = texts_of(alloc, words)?;
     let mut elements = Vec::new(alloc);
     for text in &texts {
         elements.push(text.as_str()).ok()?;
     }
-    shown_text(alloc, &write_list(alloc, elements.as_slice()).ok()?)
+    shown(alloc, "ok", &write_list(alloc, elements.as_slice()).ok()?)
 }
 
 fn shown_number(alloc: Global, number: Numeral) -> Option<String> {
@@ -219,7 +179,7 @@ fn shown_range(alloc: Global, words: &str) -> Option<String> {
         start: start.parse().ok()?,
         end: end.parse().ok()?,
     };
-    shown_text(alloc, range.of(text.as_str()))
+    shown(alloc, "ok", range.of(text.as_str()))
 }
 
 /// The answer to a call about trees.
@@ -281,7 +241,7 @@ fn text_answer(alloc: Global, verb: &str, text: &str) -> Option<String> {
 }
 
 /// The answer to a call; None where the line is none, or memory ran out.
-fn answer(alloc: Global, line: &str) -> Option<String> {
+pub(crate) fn answer(alloc: Global, line: &str) -> Option<String> {
     let (verb, rest) = line.split_once(' ').unwrap_or((line, ""));
     match verb {
         "write" => written(alloc, rest),
@@ -291,15 +251,4 @@ fn answer(alloc: Global, line: &str) -> Option<String> {
         "tree" | "owned" | "fault" => tree_answer(alloc, verb, rest),
         _ => text_answer(alloc, verb, &text_of(alloc, rest)?),
     }
-}
-
-fn main(rt: HostRuntime) -> io::Result<()> {
-    for line in rt.lines(rt.alloc()) {
-        let line = line?;
-        match answer(rt.alloc(), line.as_str()) {
-            Some(answer) => println!(rt; "{answer}")?,
-            None => println!(rt; "no call")?,
-        }
-    }
-    Ok(())
 }

@@ -1,0 +1,183 @@
+//! `script NAME SETTING...: SCRIPT` evaluates a script. The settings are `commands=`, `depth=` and `bytes=` for limits
+//! other than those of the program, `mode=` for what `mode` answers (otherwise `load`), `env.NAME=` for a variable of
+//! the environment, and `var.NAME=` for a variable of the script. The host keeps the words of `setenv` and what `puts`
+//! says, answers `mode`, and refuses `conflict`.
+//!
+//! The answer is the name and, with tabs between them: `ok COUNT RESULT` with how many commands and turns were counted,
+//! or `err NUMBER LINE MESSAGE` with the line of an error, and 0 for that of another fault; `var NAME=VALUE` for each
+//! global variable where the script ended; `said MESSAGE` for each message; `kept WORDS` for each record, with bars
+//! between its words; and `asked`, where a question was asked.
+use crate::escapes::{push_text, text_of};
+use std::alloc::{AllocError, Global};
+use tcleval::evaluate;
+use tclrules::{Ending, EvalFault, Limits, Recorder};
+
+/// The limits of the program.
+pub(crate) const LIMITS: Limits = Limits {
+    commands: 100_000,
+    depth: 200,
+    value_bytes: 1_048_576,
+};
+
+/// What a script is given.
+#[derive(Drop)]
+struct Setting {
+    limits: Limits,
+    variables: Vec<(String, String)>,
+    host: Recorder,
+}
+
+pub(crate) fn recorder(alloc: Global) -> Result<Recorder, AllocError> {
+    Ok(Recorder {
+        alloc,
+        mode: String::from_str(alloc, "load")?,
+        environment: Vec::new(alloc),
+        records: Vec::new(alloc),
+        messages: Vec::new(alloc),
+        asked: false,
+    })
+}
+
+fn pair(alloc: Global, name: &str, value: &str) -> Result<(String, String), AllocError> {
+    Ok((text_of(alloc, name)?, text_of(alloc, value)?))
+}
+
+fn push_pair(
+    alloc: Global,
+    pairs: &mut Vec<(String, String)>,
+    name: &str,
+    value: &str,
+) -> Option<()> {
+    let pair = pair(alloc, name, value).ok()?;
+    pairs.push(pair).ok()
+}
+
+fn set_variable(alloc: Global, setting: &mut Setting, key: &str, value: &str) -> Option<()> {
+    match key.split_once('.')? {
+        ("env", name) => push_pair(alloc, &mut setting.host.environment, name, value),
+        ("var", name) => push_pair(alloc, &mut setting.variables, name, value),
+        _ => None,
+    }
+}
+
+fn set(alloc: Global, setting: &mut Setting, word: &str) -> Option<()> {
+    let (key, value) = word.split_once('=')?;
+    match key {
+        "commands" => setting.limits.commands = value.parse::<u64>().ok()?,
+        "depth" => setting.limits.depth = value.parse::<u32>().ok()?,
+        "bytes" => setting.limits.value_bytes = value.parse::<usize>().ok()?,
+        "mode" => setting.host.mode = text_of(alloc, value).ok()?,
+        _ => set_variable(alloc, setting, key, value)?,
+    }
+    Some(())
+}
+
+fn setting_of(alloc: Global, words: &str) -> Option<Setting> {
+    let mut setting = Setting {
+        limits: LIMITS,
+        variables: Vec::new(alloc),
+        host: recorder(alloc).ok()?,
+    };
+    for word in words.split(' ').filter(|word| !word.is_empty()) {
+        set(alloc, &mut setting, word)?;
+    }
+    Some(setting)
+}
+
+fn push_ending(alloc: Global, line: &mut String, ending: &Ending) -> Result<(), AllocError> {
+    let count = ending.used_commands;
+    line.push_str(&format!(in alloc; "ok {count} ")?)?;
+    push_text(line, &ending.result)?;
+    for (name, value) in &ending.globals {
+        push_variable(line, name, value)?;
+    }
+    Ok(())
+}
+
+fn push_variable(line: &mut String, name: &str, value: &str) -> Result<(), AllocError> {
+    line.push_str("\tvar ")?;
+    push_text(line, name)?;
+    line.push('=')?;
+    push_text(line, value)
+}
+
+fn push_fault(alloc: Global, line: &mut String, fault: &EvalFault) -> Result<(), AllocError> {
+    let number = fault.number();
+    let place = match fault {
+        EvalFault::TclError(_, place) => *place,
+        _ => 0,
+    };
+    line.push_str(&format!(in alloc; "err {number} {place} ")?)?;
+    match fault {
+        EvalFault::TclError(message, _) => push_text(line, message),
+        _ => push_text(line, &fault.to_string(alloc)?),
+    }
+}
+
+fn push_record(line: &mut String, record: &[String]) -> Result<(), AllocError> {
+    line.push_str("\tkept ")?;
+    for (place, word) in record.iter().enumerate() {
+        if place > 0 {
+            line.push('|')?;
+        }
+        push_text(line, word)?;
+    }
+    Ok(())
+}
+
+fn push_message(line: &mut String, message: &str) -> Result<(), AllocError> {
+    line.push_str("\tsaid ")?;
+    push_text(line, message)
+}
+
+/// What the host was told.
+fn push_told(line: &mut String, host: &Recorder) -> Result<(), AllocError> {
+    for message in &host.messages {
+        push_message(line, message)?;
+    }
+    for record in &host.records {
+        push_record(line, record)?;
+    }
+    if host.asked {
+        line.push_str("\tasked")?;
+    }
+    Ok(())
+}
+
+fn push_outcome(
+    alloc: Global,
+    line: &mut String,
+    outcome: &Result<Ending, EvalFault>,
+) -> Result<(), AllocError> {
+    match outcome {
+        Ok(ending) => push_ending(alloc, line, ending),
+        Err(fault) => push_fault(alloc, line, fault),
+    }
+}
+
+fn push_evaluated(
+    alloc: Global,
+    line: &mut String,
+    setting: Setting,
+    script: &str,
+) -> Result<(), AllocError> {
+    let Setting {
+        limits,
+        variables,
+        mut host,
+    } = setting;
+    let outcome = evaluate(alloc, script, variables, &mut host, limits);
+    push_outcome(alloc, line, &outcome)?;
+    push_told(line, &host)
+}
+
+/// What a script comes to.
+pub(crate) fn answer(alloc: Global, question: &str) -> Option<String> {
+    let (head, written) = question.split_once(": ")?;
+    let (name, words) = head.split_once(' ').unwrap_or((head, ""));
+    let setting = setting_of(alloc, words)?;
+    let script = text_of(alloc, written).ok()?;
+    let mut line = format!(in alloc; "{name}: ").ok()?;
+    push_evaluated(alloc, &mut line, setting, &script).ok()?;
+    Some(line)
+}
