@@ -1,10 +1,9 @@
 -- What shows of small scripts, for rows.
-use Rattle.std.specs.Prelude.{◌≡◌, ℕ, Bool, false, List, [], ◌∷◌, Option, Some, None, codes}
+use Rattle.std.specs.Prelude.{◌≡◌, ℕ, Bool, false, List, [], ◌∷◌, None, codes}
 use Rattle.tclchars.specs.Runs.{Text}
 use Rattle.tclrules.specs.Oracle.{CommandWords, Oracle, Told, Unknown}
 use Rattle.tclrules.specs.Derivation.{Halt, Outcome, Ended, Halted, World}
 use Rattle.tclrules.specs.Recording.{answer_of, value_in}
-use Rattle.tclrules.specs.Variables.{Variables}
 use Rattle.tclrules.specs.Plans.{Ending, Normal, Raised, Returned, Broken, Continued}
 use Rattle.tclrules.specs.Meaning.{Setting, ComesTo, line_at}
 use Rattle.tclrules.specs.declared.limits.Limits.{Limits}
@@ -39,9 +38,6 @@ within l script = record { limits = l; script = script; globals = []; oracle = n
 abbrev pub recorded : Limits → Text → Setting
 recorded l script = record (within l script) { oracle = recording }
 
-abbrev pub from_globals : Variables → Text → Setting
-from_globals globals script = record (within standard script) { globals = globals }
-
 -- how a script ended: with a result and so many commands and turns counted, with an error's message and line, or halted
 pub data Shown : Type 0 where
   Result : Text → ℕ → Shown
@@ -56,11 +52,6 @@ seen script (Ended (Returned t s)) w = Else
 seen script (Ended (Broken s)) w = Else
 seen script (Ended (Continued s)) w = Else
 seen script (Halted h) w = Halts h
-
--- the variables that an outcome left
-abbrev pub left_by : Outcome Ending → World → Option Variables
-left_by (Ended (Normal t s)) w = Some s.globals
-left_by o w = None
 
 abbrev pub told_to : Outcome Ending → World → Told
 told_to o w = w.told
@@ -80,21 +71,11 @@ Results script result used = Sees (within standard script) (Result result used)
 abbrev pub RaisesOn : ℕ → Text → Text → Type 0
 RaisesOn line script message = Sees (within standard script) (Fails message line)
 
-abbrev pub Raises : Text → Text → Type 0
-Raises script message = RaisesOn 1 script message
-
 -- it is halted so within these limits
 abbrev pub Stops : Limits → Text → Halt → Type 0
 Stops l script h = Sees (within l script) (Halts h)
 
--- from these variables it leaves those
-abbrev pub LeavesVariables : Variables → Text → Variables → Type 0
-LeavesVariables globals script left = Shows (from_globals globals script) left_by (Some left)
-
 -- The same with the example host
-
-abbrev pub HostResults : Text → Text → ℕ → Type 0
-HostResults script result used = Sees (recorded standard script) (Result result used)
 
 abbrev pub HostStops : Limits → Text → Halt → Type 0
 HostStops l script h = Sees (recorded l script) (Halts h)

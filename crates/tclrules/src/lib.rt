@@ -15,7 +15,4 @@ pub use laws::{
 pub use limits::Limits;
 pub use outcome::{Ending, EvalFault};
 pub use recorder::Recorder;
-pub use rows::{
-    counted_rows, form_rows, host_rows, hostile_rows, limit_rows, line_rows, message_rows,
-    number_rows, profile_rows, refused_rows, told_rows, variable_rows,
-};
+pub use rows::worked_rows;
