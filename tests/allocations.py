@@ -1,9 +1,9 @@
 """What the public calls of envstate do where memory is refused: what they do with ample memory, or want of memory alone.
 
-    allocations.py PROGRAM      PROGRAM is envstate_rows, built
+    allocations.py PROGRAM      PROGRAM is cases_environment, built
 
-Each paragraph of its rows is run by itself. Where memory runs out in an edit, the program looks whether the variables are
-those before it, and says that memory ran out; an answer that is another is printed.
+Each paragraph of its rows about variables is run by itself. Where memory runs out in an edit, the program looks whether
+the variables are those before it, and ends; an answer that is another is printed.
 """
 
 import os
@@ -14,27 +14,30 @@ import tempfile
 from harness import HERE, SECONDS, Failed, refuser, refuses_each
 
 PROGRAM = os.path.abspath(sys.argv[1])
-ROWS = os.path.join(os.path.dirname(HERE), "crates", "envstate_rows", "stdin")
+ROWS = os.path.join(os.path.dirname(HERE), "crates", "cases_environment", "stdin")
 
-# What the program says where memory runs out before the paragraph is read, and in it.
-REFUSED = (b"", b"out of memory\n")
+# The first line of the paragraphs.
+SUBJECT = "variables\n"
 
 
 def run(paragraph, asked):
-    """What is printed of a paragraph."""
+    """What is printed of a paragraph, the fault that the program ends with, and its status."""
     done = subprocess.run(
         [PROGRAM], input=paragraph.encode(), env=asked, capture_output=True, timeout=SECONDS, check=False
     )
-    return done.stdout
+    return done.stdout, done.stderr, done.returncode
 
 
-def is_refused(printed):
-    return printed in REFUSED
+def cut_short(ample):
+    """Whether a run ended for want of memory behind some of the lines that it prints with ample memory."""
+    lines = ample[0].splitlines(keepends=True)
+    beginnings = {b"".join(lines[:count]) for count in range(len(lines))}
+    return lambda found: found[0] in beginnings and b"OutOfMemory" in found[1] and found[2] != 0
 
 
 def paragraphs():
     with open(ROWS, encoding="utf-8") as rows:
-        return rows.read().split("\n\n")
+        return [paragraph for paragraph in rows.read().split("\n\n") if paragraph.startswith(SUBJECT)]
 
 
 def main():
@@ -43,8 +46,9 @@ def main():
     with tempfile.TemporaryDirectory(prefix="envstate-") as folder:
         shim = refuser(os.fsencode(folder))
         for paragraph in paragraphs():
-            name = paragraph.partition("\n")[0]
+            name = paragraph.split("\n")[1]
             try:
+                is_refused = cut_short(run(paragraph, {}))
                 refuses_each(shim, lambda asked, text=paragraph: run(text, asked), is_refused, name)
                 passed += 1
                 print(f"ok: {name}")

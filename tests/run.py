@@ -24,10 +24,9 @@ COUNTS = re.compile(r"(\d+) passed, (\d+) failed")
 # What the gate leaves in the folder out/ of a crate, by the name that the tests outside it know it by.
 PROGRAMS = {
     "modulecmd": ("modulecmd_main", "modulecmd_main"),
-    "modulecmd_cases": ("modulecmd_cases", "modulecmd_cases"),
     "cases_tcl": ("cases_tcl", "cases_tcl"),
-    "modulesearch_cases": ("modulesearch_cases", "modulesearch_cases"),
-    "envstate_rows": ("envstate_rows", "envstate_rows"),
+    "cases_environment": ("cases_environment", "cases_environment"),
+    "cases_requests": ("cases_requests", "cases_requests"),
 }
 
 # The tests outside the gate: a script, the program that it is given, and further words.
@@ -39,12 +38,12 @@ SUITES = (
     ("sentence.py", "modulecmd", "40", "0", "tcsh"),
     ("sentence.py", "modulecmd", "40", "0", "fish"),
     ("memory.py", "modulecmd"),
-    ("numbers.py", "modulecmd_cases"),
+    ("numbers.py", "cases_requests"),
     ("device.py", "modulecmd"),
     ("hostile.py", "modulecmd"),
-    ("search.py", "modulesearch_cases"),
+    ("search.py", "cases_requests"),
     ("shells/run.py", "modulecmd"),
-    ("allocations.py", "envstate_rows"),
+    ("allocations.py", "cases_environment"),
     ("tcl/compare.py", "cases_tcl"),
     ("tcl/values.py", "cases_tcl"),
     ("tcl/scripts.py", "cases_tcl"),

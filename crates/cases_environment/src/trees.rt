@@ -1,6 +1,6 @@
 //! What a tree answers, in words.
 
-use crate::texts::bytes_of;
+use crate::texts::{bytes_of, parted, push_all};
 use lookup::{MemoryTree, Tree, TreeFault};
 use std::alloc::{AllocError, Global};
 
@@ -11,10 +11,7 @@ pub(crate) fn file_text(
 ) -> Result<String, AllocError> {
     match answer {
         Ok(None) => String::from_str(alloc, "no file"),
-        Ok(Some(bytes)) => {
-            let count = bytes.len();
-            format!(in alloc; "{count} bytes")
-        }
+        Ok(Some(bytes)) => format!(in alloc; "{} bytes", bytes.len()),
         Err(fault) => format!(in alloc; "{fault}"),
     }
 }
@@ -24,9 +21,7 @@ fn names_text(alloc: Global, mut names: Vec<String>) -> Result<String, AllocErro
     names.sort()?;
     let mut text = String::new(alloc);
     for name in &names {
-        text.push('[')?;
-        text.push_str(name)?;
-        text.push(']')?;
+        push_all(&mut text, &["[", name, "]"])?;
     }
     Ok(text)
 }
@@ -43,36 +38,19 @@ pub(crate) fn folder_text(
     }
 }
 
-/// Puts a file.
-fn put_file(
-    alloc: Global,
-    tree: &mut MemoryTree,
-    path: &str,
-    text: &str,
-) -> Result<&'static str, AllocError> {
-    let bytes = bytes_of(alloc, text)?;
-    tree.put_file(path, &bytes)?;
-    Ok("put")
-}
-
-/// Puts a folder of one name.
-fn put_folder(tree: &mut MemoryTree, path: &str, name: &str) -> Result<&'static str, AllocError> {
-    tree.put_directory(path, &[name])?;
-    Ok("put")
-}
-
 /// The answer to `put-file`, `put-folder`, `file` or `folder`.
-pub(crate) fn memory_answer(
+pub(crate) fn answer(
     alloc: Global,
     tree: &mut MemoryTree,
     line: &str,
 ) -> Result<String, AllocError> {
-    let (kind, rest) = line.split_once(' ').unwrap_or((line, ""));
-    let (path, text) = rest.split_once(' ').unwrap_or((rest, ""));
+    let (kind, rest) = parted(line);
+    let (path, text) = parted(rest);
     match kind {
-        "put-file" => String::from_str(alloc, put_file(alloc, tree, path, text)?),
-        "put-folder" => String::from_str(alloc, put_folder(tree, path, text)?),
-        "file" => file_text(alloc, tree.read(path)),
-        _ => folder_text(alloc, tree.entries(path)),
+        "put-file" => tree.put_file(path, &bytes_of(alloc, b'\\', text)?)?,
+        "put-folder" => tree.put_directory(path, &[text])?,
+        "file" => return file_text(alloc, tree.read(path)),
+        _ => return folder_text(alloc, tree.entries(path)),
     }
+    String::from_str(alloc, "put")
 }

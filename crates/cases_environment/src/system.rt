@@ -20,9 +20,8 @@ pub enum Told<'a> {
 #[derive(Clone, Copy)]
 pub struct System<'r, 't, 'e> {
     pub rt: &'r HostRuntime,
-    pub file: Told<'t>,
-    /// Names, each ended by NUL.
-    pub names: Told<'t>,
+    /// Of a file its bytes, of a directory its names, each ended by NUL.
+    pub told: Told<'t>,
     /// The entries of the environment, each ended by NUL.
     pub environment: &'e [u8],
 }
@@ -118,11 +117,11 @@ impl<'r, 't, 'e> Files for System<'r, 't, 'e> {
     type Dir = Opened<'t>;
 
     fn open_file(&self, _how: &OpenOptions, _path: &str) -> io::Result<Opened<'t>> {
-        self.file.open()
+        self.told.open()
     }
 
     fn open_dir(&self, _path: &str) -> io::Result<Opened<'t>> {
-        self.names.open()
+        self.told.open()
     }
 
     fn metadata(&self, path: &str) -> io::Result<Metadata> {

@@ -1,7 +1,7 @@
 //! The files and folders of a disk.
 
 use crate::system::{System, Told};
-use crate::texts::bytes_of;
+use crate::texts::{bytes_of, parted, push_all};
 use crate::trees::{file_text, folder_text};
 use lookup::{DiskTree, Tree, TreeFault};
 use std::alloc::{AllocError, Global};
@@ -57,8 +57,8 @@ pub(crate) fn answer(
     line: &str,
 ) -> io::Result<String> {
     let alloc = rt.alloc();
-    let (kind, path) = line.split_once(' ').unwrap_or((line, ""));
-    let bytes = bytes_of(alloc, path)?;
+    let (kind, path) = parted(line);
+    let bytes = bytes_of(alloc, b'\\', path)?;
     let path = str::from_utf8(&bytes).unwrap_or("");
     Ok(match kind {
         "file" => file_text(alloc, disk.read(path))?,
@@ -75,28 +75,21 @@ fn both_text(
     folder: Result<Option<Vec<String>>, TreeFault>,
 ) -> Result<String, AllocError> {
     let mut text = file_text(alloc, file)?;
-    text.push_str(", ")?;
-    text.push_str(&folder_text(alloc, folder)?)?;
+    let folder = folder_text(alloc, folder)?;
+    push_all(&mut text, &[", ", &folder])?;
     Ok(text)
 }
 
-/// What a disk answers for the file and the folder of a system that tells them so.
-fn told_text(rt: &HostRuntime, told: Told<'_>) -> Result<String, AllocError> {
+/// What a disk answers for the file and the folder of a system that is told them.
+pub(crate) fn told_answer(rt: &HostRuntime, line: &str) -> Result<String, AllocError> {
+    let (kind, text) = parted(line);
+    let bytes = bytes_of(rt.alloc(), b'\\', text)?;
     let system = System {
         rt,
-        file: told,
-        names: told,
+        told: Told::by(kind, &bytes),
         environment: b"",
     };
     let mut tree = DiskTree::new((system, rt.alloc()));
     let file = tree.read("/proc/version");
-    let folder = tree.entries("/");
-    both_text(rt.alloc(), file, folder)
-}
-
-/// The answer to a line that tells a system what its file and folder are.
-pub(crate) fn told_answer(rt: &HostRuntime, line: &str) -> Result<String, AllocError> {
-    let (kind, text) = line.split_once(' ').unwrap_or((line, ""));
-    let bytes = bytes_of(rt.alloc(), text)?;
-    told_text(rt, Told::by(kind, &bytes))
+    both_text(rt.alloc(), file, tree.entries("/"))
 }
