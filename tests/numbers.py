@@ -1,6 +1,6 @@
 """The number of the refusal where memory is refused within a request: 1, 11, 31, 41 or 61, and nothing is changed.
 
-    python3 -B tests/numbers.py PROGRAM      PROGRAM is modulecmd_cases, built
+    python3 -B tests/numbers.py PROGRAM      PROGRAM is cases_requests, built
 
 Each growth of memory is refused in turn. Until the request is asked for, and after it, the program itself may be refused.
 """
@@ -46,7 +46,7 @@ REQUESTS = (
 
 def answers(there, words, asked):
     """What the request answers and what the variables are then, None where the program had no memory to say so."""
-    text = there + f"ask {words}\nvars\n"
+    text = f"commands\n{there}ask {words}\nvars\n"
     done = subprocess.run(
         [PROGRAM], input=text.encode(), env=asked, capture_output=True, timeout=SECONDS, check=False
     )

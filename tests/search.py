@@ -1,4 +1,4 @@
-"""Searches real directories by the program modulesearch_cases, which answers lines of standard input.
+"""Searches real directories by the program cases_requests, which answers lines of standard input.
 
     search.py PROGRAM"""
 
@@ -41,7 +41,7 @@ class Disk:
     def run(self, line, variables=None, user=None):
         done = subprocess.run(
             [self.program],
-            input=line.encode() + b"\n",
+            input=b"searches\n" + line.encode() + b"\n",
             stdout=subprocess.PIPE,
             stderr=subprocess.PIPE,
             env={os.fsencode(k): os.fsencode(v) for k, v in (variables or {}).items()},

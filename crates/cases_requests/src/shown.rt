@@ -1,4 +1,5 @@
 //! Answers of calls, as they are shown.
+use crate::texts::push_all;
 use anyhow::Result;
 use modulecmd::Exit;
 use modules::{Change, Done, Env, Move, Outcome, Refusal, loaded_names};
@@ -22,11 +23,8 @@ pub(crate) fn exit_name(exit: Exit) -> &'static str {
 pub(crate) fn marked(alloc: Global, mark: &str, text: &str) -> Result<String, AllocError> {
     let mut out = String::new(alloc);
     for line in text.split_inclusive('\n') {
-        out.push_str(mark)?;
-        out.push_str(line)?;
-        if !line.ends_with('\n') {
-            out.push_str("\\\n")?;
-        }
+        let end = if line.ends_with('\n') { "" } else { "\\\n" };
+        push_all(&mut out, &[mark, line, end])?;
     }
     Ok(out)
 }
@@ -36,10 +34,7 @@ pub(crate) fn variables(alloc: Global, env: &Env) -> Result<String> {
     let mut text = String::new(alloc);
     for name in &env.names()? {
         let value = env.get(name.as_str()).unwrap_or("");
-        text.push_str(name.as_str())?;
-        text.push('=')?;
-        text.push_str(value)?;
-        text.push('\n')?;
+        push_all(&mut text, &[name, "=", value, "\n"])?;
     }
     Ok(text)
 }
@@ -48,18 +43,11 @@ pub(crate) fn variables(alloc: Global, env: &Env) -> Result<String> {
 pub(crate) fn differences(alloc: Global, changes: &[Change]) -> Result<String, AllocError> {
     let mut text = String::new(alloc);
     for change in changes {
-        match &change.value {
-            Some(value) => {
-                text.push_str(change.name.as_str())?;
-                text.push('=')?;
-                text.push_str(value.as_str())?;
-            }
-            None => {
-                text.push_str("unset ")?;
-                text.push_str(change.name.as_str())?;
-            }
-        }
-        text.push('\n')?;
+        let (before, behind, value) = match &change.value {
+            Some(value) => ("", "=", value.as_str()),
+            None => ("unset ", "", ""),
+        };
+        push_all(&mut text, &[before, &change.name, behind, value, "\n"])?;
     }
     Ok(text)
 }
@@ -83,9 +71,7 @@ pub(crate) fn shown_done(alloc: Global, done: &Done) -> Result<String, AllocErro
         text.push_str(shown_move(alloc, step)?.as_str())?;
     }
     for name in &loaded_names(alloc, done.moves.as_slice())? {
-        text.push_str("loaded ")?;
-        text.push_str(*name)?;
-        text.push('\n')?;
+        push_all(&mut text, &["loaded ", name, "\n"])?;
     }
     for message in &done.messages {
         text.push_str(marked(alloc, "said ", message.as_str())?.as_str())?;

@@ -1,6 +1,7 @@
 //! The parts of a search, each called by itself.
 
 use crate::places::file_text;
+use crate::texts::push_all;
 use defaultfiles::Evaluated;
 use lookup::{MemoryTree, Modulefile, read_modulefile};
 use modulefind::{directories, locate, path_of};
@@ -8,17 +9,6 @@ use modulelookup::{Limits, version_order};
 use modulesearch::{DefaultFiles, Ended};
 use std::alloc::{AllocError, Global};
 use std::cmp::Ordering;
-
-/// Three numbers: commands, depth, bytes.
-pub(crate) fn limits_of(line: &str) -> Option<Limits> {
-    let (commands, rest) = line.split_once(' ')?;
-    let (depth, bytes) = rest.split_once(' ')?;
-    Some(Limits {
-        commands: commands.parse().ok()?,
-        depth: depth.parse().ok()?,
-        value_bytes: bytes.parse().ok()?,
-    })
-}
 
 /// A text in one line, in which `;` parts its lines.
 fn in_one_line(alloc: Global, text: &str) -> Result<String, AllocError> {
@@ -57,40 +47,19 @@ fn read_text(alloc: Global, tree: &mut MemoryTree, path: &str) -> Result<String,
     }
 }
 
-/// The answer to `text` or `read`; None where the line is neither.
-pub(crate) fn answer_of_tree(
-    alloc: Global,
-    tree: &mut MemoryTree,
-    limits: Limits,
-    kind: &str,
-    rest: &str,
-) -> Result<Option<String>, AllocError> {
-    match (kind, rest.split_once(' ')) {
-        ("text", Some((modulepath, name))) => {
-            Ok(Some(text_found(alloc, tree, limits, modulepath, name)?))
-        }
-        ("read", None) => Ok(Some(read_text(alloc, tree, rest)?)),
-        _ => Ok(None),
-    }
-}
-
 /// The words of each command in brackets, and the version behind them.
 fn ended_text(alloc: Global, ended: &Ended) -> Result<String, AllocError> {
     let mut text = String::new(alloc);
     for words in &ended.commands {
         text.push('[')?;
         for word in words {
-            text.push_str(word)?;
-            text.push('|')?;
+            push_all(&mut text, &[word, "|"])?;
         }
         text.push_str("] ")?;
     }
     match &ended.version {
         None => text.push_str("no version")?,
-        Some(version) => {
-            text.push_str("version ")?;
-            text.push_str(version)?;
-        }
+        Some(version) => push_all(&mut text, &["version ", version])?,
     }
     Ok(text)
 }
@@ -116,9 +85,7 @@ fn evaluated_text(
 fn directories_text(alloc: Global, modulepath: &str) -> Result<String, AllocError> {
     let mut text = String::new(alloc);
     for dir in &directories(alloc, modulepath)? {
-        text.push('[')?;
-        text.push_str(dir)?;
-        text.push(']')?;
+        push_all(&mut text, &["[", dir, "]"])?;
     }
     Ok(text)
 }
@@ -131,19 +98,24 @@ fn order_text(left: &str, right: &str) -> &'static str {
     }
 }
 
-/// The answer to `evaluate`, `directories`, `path` or `order`; None where the line is none of these.
+/// The answer to a call of a part; None where the line calls none.
 pub(crate) fn answer(
     alloc: Global,
+    tree: &mut MemoryTree,
     limits: Limits,
     kind: &str,
     rest: &str,
 ) -> Result<Option<String>, AllocError> {
     match (kind, rest.split_once(' ')) {
-        ("evaluate", Some((path, text))) => Ok(Some(evaluated_text(alloc, limits, path, text)?)),
-        ("directories", None) => Ok(Some(directories_text(alloc, rest)?)),
-        ("path", Some((dir, name))) => Ok(Some(path_of(alloc, dir, name)?)),
+        ("text", Some((modulepath, name))) => {
+            text_found(alloc, tree, limits, modulepath, name).map(Some)
+        }
+        ("read", None) => read_text(alloc, tree, rest).map(Some),
+        ("evaluate", Some((path, text))) => evaluated_text(alloc, limits, path, text).map(Some),
+        ("directories", None) => directories_text(alloc, rest).map(Some),
+        ("path", Some((dir, name))) => path_of(alloc, dir, name).map(Some),
         ("order", Some((left, right))) => {
-            Ok(Some(String::from_str(alloc, order_text(left, right))?))
+            String::from_str(alloc, order_text(left, right)).map(Some)
         }
         _ => Ok(None),
     }

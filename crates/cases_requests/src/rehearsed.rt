@@ -1,20 +1,27 @@
 //! Sessions that are rehearsed.
 use crate::shown::variables;
-use crate::words::{parted, words};
+use crate::texts::{parted, words};
 use anyhow::Result;
 use lookup::Tree;
-use modules::{Env, Limits, Request, Shell, request};
+use modules::{Env, Limits, Request, RequestFault, Shell, request};
 use rehearsal::rehearse;
 use std::alloc::{AllocError, Global};
 
-/// The requests of a line, parted by commas, each behind the name of its shell.
-fn requests(alloc: Global, line: &str) -> Result<Vec<Request>> {
+/// The request that words ask for.
+pub(crate) fn request_of(alloc: Global, shell: Shell, line: &str) -> Result<Request, RequestFault> {
+    request(alloc, shell, &words(alloc, line)?)
+}
+
+/// The requests of a line, parted by commas: each behind the name of its shell, or all for sh.
+pub(crate) fn requests(alloc: Global, line: &str, have_shells: bool) -> Result<Vec<Request>> {
     let mut requests = Vec::new(alloc);
     for part in line.split(',') {
-        let (name, rest) = parted(part.trim());
-        let words = words(alloc, rest)?;
+        let (name, rest) = match parted(part.trim()) {
+            (name, rest) if have_shells => (name, rest),
+            _ => ("sh", part),
+        };
         let shell = Shell::named(name).unwrap_or(Shell::Sh);
-        requests.push(request(alloc, shell, words.as_slice())?)?;
+        requests.push(request_of(alloc, shell, rest)?)?;
     }
     Ok(requests)
 }
@@ -42,7 +49,7 @@ pub(crate) fn shown_rehearsal<T: Tree>(
     tree: &mut T,
     limits: Limits,
 ) -> Result<String> {
-    let requests = requests(alloc, line)?;
+    let requests = requests(alloc, line, true)?;
     let (left, prints) = rehearse(alloc, requests.as_slice(), env.copy()?, tree, limits)?;
     let prints = shown_prints(alloc, prints.as_slice())?;
     let left = variables(alloc, &left)?;

@@ -1,10 +1,10 @@
 //! Calls over one tree and one environment.
 use crate::failing::{Failing, Poor};
-use crate::rehearsed::shown_rehearsal;
+use crate::rehearsed::{request_of, requests, shown_rehearsal};
 use crate::shown::{
     differences, exit_name, held, marked, shown_done, shown_outcome, shown_refusal, variables,
 };
-use crate::words::{meant, number, parted, words};
+use crate::texts::{STANDARD, limits_of, meant, number, parted, words};
 use crate::writers::{Limited, kind};
 use anyhow::Result;
 use environment::{Vars, changes};
@@ -16,19 +16,14 @@ use modules::{
     Change, Changed, Env, Limits, Refusal, Request, Shell, request, run, run_changes, session,
 };
 use std::alloc::Global;
-
-const STANDARD: Limits = Limits {
-    commands: 100_000,
-    depth: 200,
-    value_bytes: 1_048_576,
-};
+use std::io;
 
 /// How many reads and listings a command of the rows makes at most.
 const MOST_CALLS: u64 = 100;
 
 /// What calls share.
 #[derive(Drop)]
-pub(crate) struct Session {
+struct Session {
     alloc: Global,
     tree: MemoryTree,
     env: Env,
@@ -64,19 +59,9 @@ fn command<T: Tree>(alloc: Global, args: &[String], env: &Env, tree: &mut T) -> 
     })
 }
 
-/// The requests of a line, parted by commas, for sh.
-fn requests(alloc: Global, line: &str) -> Result<Vec<Request>> {
-    let mut requests = Vec::new(alloc);
-    for part in line.split(',') {
-        let words = words(alloc, part)?;
-        requests.push(request(alloc, Shell::Sh, words.as_slice())?)?;
-    }
-    Ok(requests)
-}
-
 /// Runs requests one after another, and shows what came of each, and the difference of what they leave.
 fn shown_session<T: Tree>(alloc: Global, line: &str, env: &Env, tree: &mut T) -> Result<String> {
-    let requests = requests(alloc, line)?;
+    let requests = requests(alloc, line, false)?;
     let (after, outcomes) = session(alloc, requests.as_slice(), env.copy()?, tree, STANDARD)?;
     let mut text = String::new(alloc);
     for outcome in &outcomes {
@@ -131,7 +116,7 @@ fn shown_line(alloc: Global, fault: &CommandFault) -> Result<String> {
 }
 
 impl Session {
-    pub(crate) fn new(alloc: Global) -> Session {
+    fn new(alloc: Global) -> Session {
         Session {
             alloc,
             tree: MemoryTree::new(alloc),
@@ -141,7 +126,7 @@ impl Session {
     }
 
     /// What a call answers.
-    pub(crate) fn answer(&mut self, line: &str) -> Result<String> {
+    fn answer(&mut self, line: &str) -> Result<String> {
         let (verb, rest) = parted(line);
         match verb {
             "new" => self.clear(),
@@ -202,13 +187,7 @@ impl Session {
     }
 
     fn limit(&mut self, rest: &str) -> Result<String> {
-        let (commands, rest) = parted(rest);
-        let (depth, bytes) = parted(rest);
-        self.limits = Limits {
-            commands: number(commands),
-            depth: u32::try_from(number(depth)).unwrap_or(0),
-            value_bytes: usize::try_from(number(bytes)).unwrap_or(0),
-        };
+        self.limits = limits_of(rest).unwrap_or(STANDARD);
         Ok(String::new(self.alloc))
     }
 
@@ -264,8 +243,7 @@ impl Session {
 
     /// What a request for sh changes.
     fn changed(&mut self, rest: &str) -> Result<Changed, Refusal> {
-        let args = words(self.alloc, rest)?;
-        let request = request(self.alloc, Shell::Sh, args.as_slice())?;
+        let request = request_of(self.alloc, Shell::Sh, rest)?;
         run_changes(self.alloc, &request, &self.env, &mut self.tree, self.limits)
     }
 
@@ -342,4 +320,16 @@ impl Session {
         let fault = fault_named(self.alloc, kind, word)?;
         shown_line(self.alloc, &fault)
     }
+}
+
+/// Answers lines of calls, which share a tree and an environment.
+pub(crate) fn answer(rt: &HostRuntime, lines: &[String]) -> io::Result<()> {
+    let mut session = Session::new(rt.alloc());
+    for line in lines {
+        match session.answer(line) {
+            Ok(text) => print!(rt; "> {line}\n{text}")?,
+            Err(fault) => println!(rt; "> {line}\nfault: {fault}")?,
+        }
+    }
+    Ok(())
 }

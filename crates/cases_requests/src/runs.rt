@@ -1,21 +1,17 @@
-//! A modulefile, with what it is run over.
+//! Modulefiles, each with what it is run over.
+use crate::texts::{STANDARD, parted, push_all};
 use environment::{Change, Env, Vars, changes};
 use modulefile::{Mode, Record, Shell};
 use modulerun::{Context, Ran, run_file, show_report, whatis_report};
 use std::alloc::{AllocError, Global};
+use std::io;
 use tclrules::Limits;
 
 const COOKIE: &str = "#%Module\n";
 
-const LIMITS: Limits = Limits {
-    commands: 100_000,
-    depth: 200,
-    value_bytes: 1_048_576,
-};
-
 /// A modulefile, the variables that it is run over, and the records that its last run left.
 #[derive(Drop)]
-pub struct Row {
+struct Row {
     alloc: Global,
     env: Env,
     shell: Shell,
@@ -43,8 +39,7 @@ fn mode_named(words: &str) -> Option<(Mode, bool)> {
 /// Adds the lines of a text, further in.
 fn push_lines(answer: &mut String, text: &str) -> Result<(), AllocError> {
     for line in text.lines() {
-        answer.push_str("\n  ")?;
-        answer.push_str(line)?;
+        push_all(answer, &["\n  ", line])?;
     }
     Ok(())
 }
@@ -61,8 +56,7 @@ fn push_shown(answer: &mut String, text: &str) -> Result<(), AllocError> {
 }
 
 fn push_change(answer: &mut String, change: &Change) -> Result<(), AllocError> {
-    answer.push_str("\n  ")?;
-    answer.push_str(&change.name)?;
+    push_all(answer, &["\n  ", &change.name])?;
     match &change.value {
         Some(value) => {
             answer.push('=')?;
@@ -92,7 +86,7 @@ fn names(alloc: Global, words: &str) -> Result<Vec<String>, AllocError> {
 }
 
 impl Row {
-    pub fn new(alloc: Global) -> Result<Row, AllocError> {
+    fn new(alloc: Global) -> Result<Row, AllocError> {
         Ok(Row {
             alloc,
             env: Env::new(alloc),
@@ -102,7 +96,7 @@ impl Row {
             loaded: Vec::new(alloc),
             text: String::from_str(alloc, COOKIE)?,
             records: Vec::new(alloc),
-            limits: LIMITS,
+            limits: STANDARD,
         })
     }
 
@@ -110,7 +104,7 @@ impl Row {
     fn take(&mut self, word: &str, rest: &str) -> Result<Option<()>, AllocError> {
         match word {
             "set" => {
-                let (name, value) = rest.split_once(' ').unwrap_or((rest, ""));
+                let (name, value) = parted(rest);
                 self.env.set(name, value).map_err(|_| AllocError)?;
             }
             "loaded" => self.loaded = names(self.alloc, rest)?,
@@ -190,7 +184,7 @@ impl Row {
     }
 
     /// The answer to a line, where it asks for one.
-    pub fn answer(&mut self, line: &str) -> Result<Option<String>, AllocError> {
+    fn answer(&mut self, line: &str) -> Result<Option<String>, AllocError> {
         if let Some((mode, in_switch)) = mode_named(line) {
             return Ok(Some(self.run(mode, in_switch)?));
         }
@@ -199,10 +193,24 @@ impl Row {
             push_lines(&mut text, &show_report(self.alloc, "", &self.records)?)?;
             return Ok(Some(text));
         }
-        let (word, rest) = line.split_once(' ').unwrap_or((line, ""));
+        let (word, rest) = parted(line);
         match self.take(word, rest)? {
             Some(()) => Ok(None),
             None => Ok(Some(String::from_str(self.alloc, "bad line")?)),
         }
     }
+}
+
+/// Answers lines of rows.
+pub(crate) fn answer(rt: &HostRuntime, lines: &[String]) -> io::Result<()> {
+    let mut row = Row::new(rt.alloc())?;
+    for line in lines {
+        if line.starts_with('#') {
+            row = Row::new(rt.alloc())?;
+            println!(rt; "{line}")?;
+        } else if let Some(answer) = row.answer(line)? {
+            println!(rt; "> {line}\n{answer}")?;
+        }
+    }
+    Ok(())
 }

@@ -1,8 +1,12 @@
 //! Searches over a tree, with how often it was read and listed.
 
 use crate::counted::Counted;
-use modulelookup::{Limits, Listing, Tree, available, locate};
+use crate::texts::{STANDARD, limits_of, parted, push_all};
+use crate::{parts, places};
+use lookup::MemoryTree;
+use modulelookup::{DiskTree, Limits, Listing, Tree, available, locate};
 use std::alloc::{AllocError, Global};
+use std::io;
 
 fn locate_text<T: Tree>(
     alloc: Global,
@@ -30,15 +34,15 @@ fn listings_text(alloc: Global, listings: &[Listing]) -> Result<String, AllocErr
     let mut dir: Option<&str> = None;
     for listing in listings {
         if dir != Some(listing.dir.as_str()) {
-            text.push_str(&listing.dir)?;
-            text.push_str(": ")?;
+            push_all(&mut text, &[&listing.dir, ": "])?;
             dir = Some(listing.dir.as_str());
         }
-        text.push_str(&listing.name)?;
-        if listing.is_default {
-            text.push_str("(default)")?;
-        }
-        text.push(' ')?;
+        let mark = if listing.is_default {
+            "(default) "
+        } else {
+            " "
+        };
+        push_all(&mut text, &[&listing.name, mark])?;
     }
     Ok(text)
 }
@@ -59,7 +63,7 @@ fn avail_text<T: Tree>(
 }
 
 /// The answer to `locate` or `avail`; None where the line is neither.
-pub(crate) fn answer<T: Tree>(
+fn searched<T: Tree>(
     alloc: Global,
     tree: &mut T,
     limits: Limits,
@@ -82,4 +86,41 @@ pub(crate) fn answer<T: Tree>(
     let reads = tree.reads;
     let listings = tree.listings;
     Ok(Some(format!(in alloc; "{answer} [{reads} read, {listings} listed]")?))
+}
+
+/// The answer to a line; None where it asks nothing.
+fn answered(
+    rt: &HostRuntime,
+    tree: &mut MemoryTree,
+    limits: Limits,
+    kind: &str,
+    rest: &str,
+) -> io::Result<Option<String>> {
+    let alloc = rt.alloc();
+    Ok(match (kind, rest.split_once(' ')) {
+        ("disk", Some((kind, rest))) => {
+            let mut disk = DiskTree::new(rt.clone()?);
+            searched(alloc, &mut disk, limits, kind, rest)?
+        }
+        ("locate" | "avail", _) => searched(alloc, tree, limits, kind, rest)?,
+        _ => parts::answer(alloc, tree, limits, kind, rest)?,
+    })
+}
+
+/// Answers lines of searches.
+pub(crate) fn answer(rt: &HostRuntime, lines: &[String]) -> io::Result<()> {
+    let mut tree = MemoryTree::new(rt.alloc());
+    let mut limits = STANDARD;
+    for line in lines {
+        let (kind, rest) = parted(line);
+        if kind == "limits" {
+            limits = limits_of(rest).unwrap_or(STANDARD);
+        } else if !places::put(rt.alloc(), &mut tree, kind, rest)? {
+            match answered(rt, &mut tree, limits, kind, rest)? {
+                Some(answer) => println!(rt; "{answer}")?,
+                None => println!(rt; "bad line")?,
+            }
+        }
+    }
+    Ok(())
 }

@@ -1,5 +1,24 @@
-//! The words of calls.
+//! Texts as they are meant, and limits.
 use std::alloc::{AllocError, Global};
+use tclrules::Limits;
+
+/// How far the program `modulecmd` lets an evaluation go.
+pub(crate) const STANDARD: Limits = Limits {
+    commands: 100_000,
+    depth: 200,
+    value_bytes: 1_048_576,
+};
+
+/// Three numbers: commands, depth, bytes.
+pub(crate) fn limits_of(line: &str) -> Option<Limits> {
+    let (commands, rest) = line.split_once(' ')?;
+    let (depth, bytes) = rest.split_once(' ')?;
+    Some(Limits {
+        commands: commands.parse().ok()?,
+        depth: depth.parse().ok()?,
+        value_bytes: bytes.parse().ok()?,
+    })
+}
 
 /// The words of a line, parted by blanks, as they are meant; `''` is empty. A line without a text has none.
 pub(crate) fn words(alloc: Global, line: &str) -> Result<Vec<String>, AllocError> {
@@ -50,4 +69,12 @@ pub(crate) fn number(word: &str) -> u64 {
 /// The first word and the text behind it.
 pub(crate) fn parted(line: &str) -> (&str, &str) {
     line.split_once(' ').unwrap_or((line, ""))
+}
+
+/// Adds texts one after another.
+pub(crate) fn push_all(text: &mut String, parts: &[&str]) -> Result<(), AllocError> {
+    for part in parts {
+        text.push_str(part)?;
+    }
+    Ok(())
 }

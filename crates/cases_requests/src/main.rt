@@ -1,0 +1,83 @@
+//! Answers questions about searches, modulefiles and commands, a paragraph of standard input after the other. The first
+//! line of a paragraph says what it is about.
+//!
+//! `searches`: `file PATH TEXT` and `bytes PATH TEXT` put a file into a tree in memory, where `;` parts the lines of
+//! the text, and `bytes` adds a byte that is not UTF-8; `folder PATH NAME...` puts a folder; `new` begins a new tree.
+//! `locate MODULEPATH NAME` and `avail MODULEPATH` search it, `disk locate MODULEPATH NAME` and `disk avail MODULEPATH`
+//! a disk. Behind an answer stands how often the tree was read and listed. `limits COMMANDS DEPTH BYTES` says how far
+//! the evaluation of each default file may go from then on; at first as the program `modulecmd` lets it go. The other
+//! lines call a part of the search: `text MODULEPATH NAME`, `read PATH`, `evaluate PATH TEXT`, `directories
+//! MODULEPATH`, `path DIR NAME` and `order LEFT RIGHT`.
+//!
+//! `files`: `# TITLE` begins a row: no variable is set, no module is loaded, and the file has its cookie alone. `set
+//! NAME VALUE` sets a variable, `loaded NAME...` says which modules are loaded, `in SHELL MODULE TYPED` for which
+//! shell, module and typed name the file is run, and `commands COUNT` how many commands it may run. `text LINE` adds a
+//! line to the file, and `clear` takes them all out. `load`, `unload`, `display`, `whatis`, `switch load` and `switch
+//! unload` run the file in this mode over the variables, which are from then on those that it leaves. The answer is
+//! `ok`, with `asked` where the file asked about its surroundings, or the number and the text of the refusal. Then come
+//! its messages, what `display` and `whatis` report, and the variables that changed. `records` shows the records of the
+//! run before it. A newline in a message or a value is shown as `␤`.
+//!
+//! `commands` are calls of `modulecmd`, `modules` and `rehearsal`, each shown behind `> `. They share files and folders
+//! in memory and an environment. In a text `\n`, `\t`, `\s`, `\z` and `\\` stand for a newline, a tab, a space, NUL and
+//! a backslash; words are parted by blanks, and the word `''` is empty.
+//!
+//! `new` begins a new tree. `module PATH TEXT` puts a modulefile there, whose first line is the cookie; `file PATH
+//! TEXT` and `bytes PATH TEXT` a file of this text, or of it and a byte that is no UTF-8 behind it; `dir PATH NAME...`
+//! a folder with these names. `from NAME=VALUE...` are the variables from there on.
+//!
+//! `run WORD...` runs a command with these arguments, and shows what it wrote to standard output, each line of standard
+//! error behind `! `, and its status. `go WORD...` does the same, and then the variables are what the command makes of
+//! them, where `run`, `run_changes`, the printed text and the exact difference agree. `vars` shows them. `ask WORD...`
+//! runs a request under the limits of `limits COMMANDS DEPTH BYTES` and shows its changes, moves, loaded names,
+//! messages and report, or the number and the text of its refusal. `session REQUEST, REQUEST...` runs requests one
+//! after another, and shows what came of each and how the variables at the end differ from those at the start.
+//! `rehearse SHELL REQUEST, SHELL REQUEST...` rehearses requests: for each `accepted` and the text that it prints, or
+//! `none`, and then the variables that are left. `poor PATH REQUEST, REQUEST...` does so where memory is refused for
+//! the file at the path. `write OUT ERR KIND WORD...` runs a command whose writers take so many bytes, and shows how it
+//! ended and what they hold. `failing WORD...` runs a command while each of its reads and listings in turn fails, and
+//! shows what is new of its answers. `refused KIND WORD` shows the line that is written of a refusal.
+#![tactic(auto)]
+
+mod commands;
+mod counted;
+mod failing;
+mod parts;
+mod places;
+mod rehearsed;
+mod runs;
+mod searches;
+mod shown;
+mod texts;
+mod writers;
+
+use std::io;
+
+/// Answers a paragraph.
+fn answer(rt: &HostRuntime, paragraph: &[String]) -> io::Result<()> {
+    let Some((subject, lines)) = paragraph.split_first() else {
+        return Ok(());
+    };
+    match subject.as_str() {
+        "searches" => searches::answer(rt, lines),
+        "files" => runs::answer(rt, lines),
+        "commands" => commands::answer(rt, lines),
+        _ => println!(rt; "no such questions: {subject}"),
+    }?;
+    println!(rt;)
+}
+
+fn main(rt: HostRuntime) -> io::Result<()> {
+    let alloc = rt.alloc();
+    let mut paragraph = Vec::new(alloc);
+    for line in rt.lines(alloc) {
+        let line = line?;
+        if line.is_empty() {
+            answer(&rt, &paragraph)?;
+            paragraph.clear();
+        } else {
+            paragraph.push(line)?;
+        }
+    }
+    answer(&rt, &paragraph)
+}
