@@ -1,13 +1,12 @@
 -- What worked files come to, in every environment.
-use Rattle.std.specs.Prelude.{ℕ, Bool, true, false, List, [], ◌∷◌, ◌++◌, codes, Some, None, Ok, Err}
+use Rattle.std.specs.Prelude.{ℕ, true, false, List, [], ◌∷◌, ◌++◌, codes, Some, None, Ok, Err}
 use Rattle.environment.specs.Texts.{Text}
 use Rattle.environment.specs.Environment.{Environment, with_value}
 use Rattle.tclrules.specs.Derivation.{Halt}
 use Rattle.tclrules.specs.declared.limits.Limits.{Limits}
 use Rattle.modulerecords.specs.Records.{Record}
-use Rattle.modulerecords.specs.Effects.{Mode, load, unload, display, whatis}
-use Rattle.shells.specs.declared.shell.Shell.{Shell}
-use Rattle.shells.specs.declared.shell.Shell.TheVariants.{Sh, Zsh, Tcsh}
+use Rattle.modulerecords.specs.Effects.{Mode, load, unload, display}
+use Rattle.shells.specs.declared.shell.Shell.TheVariants.{Sh}
 use Rattle.modulefile.specs.Answers.{Context}
 use Rattle.modulefile.specs.Files.{halted, failed, RunsFile}
 
@@ -15,15 +14,15 @@ use Rattle.modulefile.specs.Files.{halted, failed, RunsFile}
 abbrev pub standard : Limits
 standard = record { commands = 100000; depth = 200; value_bytes = 1048576 }
 
--- the module m/1, typed as m, beside gcc/9
-abbrev pub context : Mode → Bool → Shell → Environment → Context
-context mode in_switch shell e =
+-- the module m/1, typed as m for sh, beside gcc/9
+abbrev pub context : Mode → Environment → Context
+context mode e =
     record {
       mode = mode;
-      in_switch = in_switch;
+      in_switch = false;
       name = codes "m/1";
       path = codes "/m/m/1";
-      shell = shell;
+      shell = Sh;
       typed = codes "m";
       loaded = codes "gcc/9" ∷ [];
       start = e;
@@ -34,26 +33,13 @@ abbrev pub Seat : Type 0
 Seat = Environment → Context
 
 abbrev pub loading : Seat
-loading = context load false Sh
+loading = context load
 
 abbrev pub unloading : Seat
-unloading = context unload false Sh
+unloading = context unload
 
 abbrev pub showing : Seat
-showing = context display false Sh
-
-abbrev pub describing : Seat
-describing = context whatis false Sh
-
--- the first half of a switch, and loads in other shells
-abbrev pub switching : Seat
-switching = context unload true Sh
-
-abbrev pub loading_in_zsh : Seat
-loading_in_zsh = context load false Zsh
-
-abbrev pub loading_in_tcsh : Seat
-loading_in_tcsh = context load false Tcsh
+showing = context display
 
 -- the file of these lines, behind the one that marks a modulefile
 abbrev pub file : Text → Text

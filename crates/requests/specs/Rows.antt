@@ -13,9 +13,6 @@ n1 = record { name = codes "n/1"; path = codes "/m/n/1"; conflicts = codes "k" �
 abbrev pub gcc9 : Entry
 gcc9 = record { name = codes "gcc/9"; path = codes "/m/gcc/9"; conflicts = []; prereqs = [] }
 
-abbrev pub gcc10 : Entry
-gcc10 = record { name = codes "gcc/10"; path = codes "/o/gcc/10"; conflicts = []; prereqs = [] }
-
 -- needs gcc
 abbrev pub mpi1 : Entry
 mpi1 = record { name = codes "mpi/1"; path = codes "/m/mpi/1"; conflicts = []; prereqs = (codes "gcc" ∷ []) ∷ [] }

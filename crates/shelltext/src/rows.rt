@@ -1,4 +1,4 @@
-//! Texts with what their shells read in them, worked by hand.
+//! Texts with what their shells read in them, worked by hand. More are rows of `cases_environment`.
 ghost use Rattle.std.specs.Prelude.{[], ◌∷◌, Some, None, codes};
 ghost use Rattle.environment.specs.Texts.{Text};
 ghost use Rattle.shells.specs.declared.shell.Shell.TheVariants.{Sh, Zsh, Csh, Tcsh, Fish};
@@ -10,10 +10,8 @@ pub fn value_rows()
     ensures sh_empty { IsText Sh (codes "N=''; export N;\n") ((codes "N", Some []) ∷ []) }
     ensures sh_quote { IsText Zsh (codes "Q='it'\\''s!'; export Q;\n") ((codes "Q", Some (codes "it's!")) ∷ []) }
     ensures csh { IsText Csh (codes "setenv N 'a'\\!'b\\';\n") ((codes "N", Some (codes "a!b\\")) ∷ []) }
-    ensures csh_empty { IsText Tcsh (codes "setenv N '';\n") ((codes "N", Some []) ∷ []) }
     ensures csh_quote { IsText Tcsh (codes "setenv Q 'it'\\''s';\n") ((codes "Q", Some (codes "it's")) ∷ []) }
     ensures fish { IsText Fish (codes "set -xg N 'a!b\\\\';\n") ((codes "N", Some (codes "a!b\\")) ∷ []) }
-    ensures fish_empty { IsText Fish (codes "set -xg N '';\n") ((codes "N", Some []) ∷ []) }
     ensures fish_quote { IsText Fish (codes "set -xg Q 'it\\'s';\n") ((codes "Q", Some (codes "it's")) ∷ []) }
 {}
 

@@ -1,9 +1,6 @@
 use Rattle.std.proofs.Common.{refl}
 use Rattle.requests.proofs.rows.report_rows.Goals as goal
 
-pub returns-clause-nothing : goal.returns-clause-nothing
-returns-clause-nothing c = refl
-
 pub returns-clause-list : goal.returns-clause-list
 returns-clause-list c = refl
 
@@ -12,6 +9,3 @@ returns-clause-avail c = refl
 
 pub returns-clause-wanted : goal.returns-clause-wanted
 returns-clause-wanted c = refl
-
-pub returns-clause-unwanted : goal.returns-clause-unwanted
-returns-clause-unwanted c = refl

@@ -4,32 +4,14 @@ use Rattle.requests.proofs.rows.request_rows.Goals as goal
 pub returns-clause-load : goal.returns-clause-load
 returns-clause-load c = refl
 
-pub returns-clause-no_name : goal.returns-clause-no_name
-returns-clause-no_name c = refl
-
-pub returns-clause-unload : goal.returns-clause-unload
-returns-clause-unload c = refl
-
 pub returns-clause-switch_one : goal.returns-clause-switch_one
 returns-clause-switch_one c = refl
 
 pub returns-clause-switch_two : goal.returns-clause-switch_two
 returns-clause-switch_two c = refl
 
-pub returns-clause-switch_three : goal.returns-clause-switch_three
-returns-clause-switch_three c = refl
-
 pub returns-clause-purge : goal.returns-clause-purge
 returns-clause-purge c = refl
 
-pub returns-clause-avail : goal.returns-clause-avail
-returns-clause-avail c = refl
-
-pub returns-clause-show : goal.returns-clause-show
-returns-clause-show c = refl
-
 pub returns-clause-unknown : goal.returns-clause-unknown
 returns-clause-unknown c = refl
-
-pub returns-clause-none : goal.returns-clause-none
-returns-clause-none c = refl

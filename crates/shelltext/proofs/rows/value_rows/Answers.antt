@@ -42,16 +42,6 @@ returns-clause-csh c = (
   refl,
 )
 
-pub returns-clause-csh_empty : goal.returns-clause-csh_empty
-returns-clause-csh_empty c = (
-  codes "setenv N '';\n",
-  [],
-  refl,
-  (codes "''", record { parts = plain [] ∷ []; some = omega arith; proper = (refl, tt); spelled = refl; meant = refl }, refl),
-  refl,
-  refl,
-)
-
 pub returns-clause-csh_quote : goal.returns-clause-csh_quote
 returns-clause-csh_quote c = (
   codes "setenv Q 'it'\\''s';\n",
@@ -68,16 +58,6 @@ returns-clause-fish c = (
   [],
   refl,
   (codes "'a!b\\\\'", record { parts = plain (codes "a!b") ∷ mark 92 ∷ []; some = omega arith; proper = (refl, (refl, tt)); spelled = refl; meant = refl }, refl),
-  refl,
-  refl,
-)
-
-pub returns-clause-fish_empty : goal.returns-clause-fish_empty
-returns-clause-fish_empty c = (
-  codes "set -xg N '';\n",
-  [],
-  refl,
-  (codes "''", record { parts = plain [] ∷ []; some = omega arith; proper = (refl, tt); spelled = refl; meant = refl }, refl),
   refl,
   refl,
 )
