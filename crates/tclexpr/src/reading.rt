@@ -87,7 +87,7 @@ fn unary<P: Drop>(
 {
     let height = operand.height + 1;
     Ok(WithHeight {
-        tree: Expr::Unary(operator, Box::new(alloc, operand.tree)?),
+        tree: Expr::Unary(operator, Box::new(alloc, operand.into_tree())?),
         height,
     })
 }
@@ -106,8 +106,8 @@ fn join<P: Drop>(
         (λ t. with_height_view shown t ≡ join between (with_height_view shown left) (with_height_view shown right)) }
 {
     let height = left.height.max(right.height) + 1;
-    let left = Box::new(alloc, left.tree)?;
-    let right = Box::new(alloc, right.tree)?;
+    let left = Box::new(alloc, left.into_tree())?;
+    let right = Box::new(alloc, right.into_tree())?;
     let tree = match between {
         Infix::Operator(operator) => Expr::Binary(operator, left, right),
         Infix::And => Expr::And(left, right),
@@ -132,9 +132,9 @@ fn choice<P: Drop>(
         (with_height_view shown no)) }
 {
     let height = condition.height.max(yes.height.max(no.height)) + 1;
-    let condition = Box::new(alloc, condition.tree)?;
-    let yes = Box::new(alloc, yes.tree)?;
-    let no = Box::new(alloc, no.tree)?;
+    let condition = Box::new(alloc, condition.into_tree())?;
+    let yes = Box::new(alloc, yes.into_tree())?;
+    let no = Box::new(alloc, no.into_tree())?;
     Ok(WithHeight {
         tree: Expr::Choice(condition, yes, no),
         height,
@@ -146,9 +146,10 @@ fn enclosed<P: Drop>(inner: WithHeight<P>) -> WithHeight<P>
     requires { inner.height < usize.MAX }
     ensures { (shown : P → Text) → with_height_view shown result ≡ (expr_view shown inner.tree, suc inner.height) }
 {
+    let height = inner.height + 1;
     WithHeight {
-        tree: inner.tree,
-        height: inner.height + 1,
+        tree: inner.into_tree(),
+        height,
     }
 }
 

@@ -77,7 +77,7 @@ fn read_source<S: Source<P>, P: Drop>(alloc: Global, source: &S) -> Result<Expr<
     let (expression, rest) = read_whole(alloc, source, source.as_str(), MAX_NESTING)?;
     let left = skip_white(rest).len();
     if left == 0 {
-        Ok(expression.tree)
+        Ok(expression.into_tree())
     } else {
         Err(ReadError::Fault(Fault::BadExpression(left)))
     }

@@ -1,3 +1,5 @@
+ghost use Rattle.std.specs.Prelude.{◌≡◌};
+
 use crate::operators::{BinaryOperator, UnaryOperator};
 use tclscript::{Part, Script};
 
@@ -38,8 +40,30 @@ pub enum Expr<P> {
 }
 
 /// An expression, with how deep operators, parentheses and brackets nest in it.
-#[derive(Drop)]
 pub(crate) struct WithHeight<P> {
     pub tree: Expr<P>,
     pub height: usize,
+}
+
+impl<P> WithHeight<P> {
+    /// The expression itself.
+    pub fn into_tree(self) -> Expr<P>
+        ensures { result ≡ self.tree }
+    {
+        let WithHeight {
+            tree,
+            height: _height,
+        } = self;
+        tree
+    }
+}
+
+// Not derived, so that it is dropped by one call, and no proof of a reader opens its tree at each way out.
+impl<P: Drop> Drop for WithHeight<P> {
+    fn drop(self) {
+        let WithHeight {
+            tree: _tree,
+            height: _height,
+        } = self;
+    }
 }

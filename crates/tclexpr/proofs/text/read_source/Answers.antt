@@ -1,7 +1,7 @@
-use Rattle.std.proofs.Common.{arith}
+use Rattle.std.proofs.Common.{Ok, sym, ap, ◌∙◌, arith}
 use Rattle.std.proofs.lemmas.Result.{err_from_is_err_and}
 use Rattle.tclchars.specs.Faults.{max_nesting}
-use Rattle.tclexpr.specs.View.{with_height_view}
+use Rattle.tclexpr.specs.View.{expr_view, with_height_view}
 use Rattle.tclexpr.proofs.Whole.{expr-fails, expr-ends, expr-left}
 use Rattle.tclexpr.proofs.text.read_source.Goals as goal
 
@@ -14,6 +14,7 @@ pub returns-then-left-eq0 : goal.returns-then-left-eq0
 returns-then-left-eq0 g c =
     expr-ends max_nesting (g.S.Source.text c.args.source.now) c.as_str.result.now (with_height_view (g.S.Source.shown c.args.source.now) c.in_ok-expression.expression) c.in_ok-expression.rest.now c.skip_white-left.result.now
     c.as_str.ensures c.in_ok-expression.ensures c.skip_white-left.ensures (omega arith)
+    ∙ ap (λ e. Ok (expr_view (g.S.Source.shown c.args.source.now) e)) (sym c.into_tree.ensures)
 
 pub returns-else-left-eq0 : goal.returns-else-left-eq0
 returns-else-left-eq0 g c =
