@@ -96,10 +96,19 @@ fn ones<'a>(alloc: Global, elements: &[&'a str]) -> Result<Counters<'a>, AllocEr
 }
 
 /// A path variable as it was read: its elements, and a counter for each of them and for nothing else.
-#[derive(Drop)]
 pub(crate) struct Path<'a> {
     pub elements: Vec<&'a str>,
     pub counters: Counters<'a>,
+}
+
+// Not derived, so that it is dropped by one call, and no proof opens the table of counters at each way out.
+impl<'a> Drop for Path<'a> {
+    fn drop(self) {
+        let Path {
+            elements: _elements,
+            counters: _counters,
+        } = self;
+    }
 }
 
 /// Reads a path variable beside the fields of its counters.
@@ -190,14 +199,15 @@ fn unless_empty(text: String) -> Option<String>
     Some(text)
 }
 
-/// The text of the counters of two or more. An element that stands twice is written at its first place.
+/// The text of the counters of two or more. An element that stands twice is written at its first place: the counter of
+/// each that is written becomes 1.
 fn counts_text<'a>(
     alloc: Global,
     elements: &[&'a str],
-    mut counters: Counters<'a>,
+    counters: &mut Counters<'a>,
 ) -> Result<Option<String>, AllocError>
     ensures { IfOk result (λ t. option_map string_bytes t
-        ≡ text_of (flat_map (pair_fields (count_in (counter_in counters.entry))) (firsts (shown elements.now)))) }
+        ≡ text_of (flat_map (pair_fields (count_in (counter_in counters.old))) (firsts (shown elements.now)))) }
 {
     let mut text = String::new(alloc);
     let mut rest = elements;
@@ -241,15 +251,15 @@ fn are_repeated(counters: &Counters<'_>) -> bool
 fn write_counters<'a>(
     alloc: Global,
     elements: &[&'a str],
-    counters: Counters<'a>,
+    counters: &mut Counters<'a>,
 ) -> Result<Option<String>, AllocError>
     ensures { IfOk result (λ t. option_map string_bytes t
-        ≡ pairs_text (stated (shown elements.now) (counter_in counters.entry))) }
+        ≡ pairs_text (stated (shown elements.now) (counter_in counters.old))) }
 {
     if is_lone_empty(elements) {
-        return lone_text(alloc, &counters);
+        return lone_text(alloc, counters);
     }
-    if !are_repeated(&counters) {
+    if !are_repeated(counters) {
         return Ok(None);
     }
     counts_text(alloc, elements, counters)
@@ -277,21 +287,17 @@ fn elements_text(
     Ok(Some(join(alloc, elements, delim)?))
 }
 
-/// The texts that a path variable and its counters are written as.
+/// The texts that a path variable and its counters are written as. The counters are used up.
 pub(crate) fn write_path(
     alloc: Global,
     delim: char,
-    path: Path<'_>,
+    path: &mut Path<'_>,
 ) -> Result<PathTexts, AllocError>
     requires { delim < 128 }
-    ensures { IfOk result (λ t. AreTexts t delim (stated (shown path.entry.elements.items)
-        (counter_in path.entry.counters))) }
+    ensures { IfOk result (λ t. AreTexts t delim (stated (shown path.old.elements.items)
+        (counter_in path.old.counters))) }
 {
-    let Path { elements, counters } = path;
-    let text = elements_text(alloc, delim, elements.as_slice())?;
-    let counts = write_counters(alloc, elements.as_slice(), counters)?;
-    Ok(PathTexts {
-        elements: text,
-        counters: counts,
-    })
+    let elements = elements_text(alloc, delim, path.elements.as_slice())?;
+    let counters = write_counters(alloc, path.elements.as_slice(), &mut path.counters)?;
+    Ok(PathTexts { elements, counters })
 }

@@ -149,31 +149,25 @@ fn add_front<'a>(
 fn add_each<'a>(
     alloc: Global,
     var: &str,
-    path: Path<'a>,
+    path: &mut Path<'a>,
     more: &[&'a str],
     end: End,
-) -> Result<Path<'a>, EnvFault>
-    requires table { IsTable (shown path.elements.items) (counter_in path.counters) }
-    requires fits { (x : Text) → count_in (counter_in path.counters) x ≤ most }
-    ensures ok { IfOk result (λ p. stated (shown p.elements.items) (counter_in p.counters)
-        ≡ add_all (stated (shown path.entry.elements.items) (counter_in path.entry.counters)) (shown more.now) end) }
-    ensures small { IfOk result (λ p. (x : Text) → count_in (counter_in p.counters) x ≤ most) }
-    ensures full { IfErr result (λ e. IsFull e var.now (add_all (stated (shown path.entry.elements.items)
-        (counter_in path.entry.counters)) (shown more.now) end)) }
+) -> Result<(), EnvFault>
+    requires table { IsTable (shown path.old.elements.items) (counter_in path.old.counters) }
+    requires fits { (x : Text) → count_in (counter_in path.old.counters) x ≤ most }
+    ensures ok { OnOk result (stated (shown path.new.elements.items) (counter_in path.new.counters)
+        ≡ add_all (stated (shown path.old.elements.items) (counter_in path.old.counters)) (shown more.now) end) }
+    ensures small { OnOk result ((x : Text) → count_in (counter_in path.new.counters) x ≤ most) }
+    ensures full { IfErr result (λ e. IsFull e var.now (add_all (stated (shown path.old.elements.items)
+        (counter_in path.old.counters)) (shown more.now) end)) }
 {
-    let Path {
-        mut elements,
-        mut counters,
-    } = path;
     match end {
         End::Front => {
-            let elements = add_front(alloc, var, elements.as_slice(), &mut counters, more)?;
-            Ok(Path { elements, counters })
+            let counters = &mut path.counters;
+            path.elements = add_front(alloc, var, path.elements.as_slice(), counters, more)?;
+            Ok(())
         }
-        End::Back => {
-            add_back(alloc, var, &mut elements, &mut counters, more)?;
-            Ok(Path { elements, counters })
-        }
+        End::Back => add_back(alloc, var, &mut path.elements, &mut path.counters, more),
     }
 }
 
@@ -191,14 +185,9 @@ fn added(
     ensures { IsWrittenOr result var.now delim (add_all (state_of delim (option_map (λ t. t.now) text.entry)
         (option_map (λ t. t.now) counts.entry)) (shown more.now) end) }
 {
-    let path = add_each(
-        alloc,
-        var,
-        read_path(alloc, delim, text, counts)?,
-        more,
-        end,
-    )?;
-    Ok(write_path(alloc, delim, path)?)
+    let mut path = read_path(alloc, delim, text, counts)?;
+    add_each(alloc, var, &mut path, more, end)?;
+    Ok(write_path(alloc, delim, &mut path)?)
 }
 
 /// Adds elements to a path variable that is parted by `delim`, in front of its elements from the last to the first,
@@ -275,13 +264,13 @@ fn keep_counted(elements: &mut Vec<&str>, counters: &Counters<'_>)
 }
 
 /// Takes elements out of a path variable that was read.
-fn take_out(elements: &mut Vec<&str>, counters: &mut Counters<'_>, less: &[&str])
-    requires { IsTable (shown elements.old.items) (counter_in counters.old) }
-    ensures { stated (shown elements.new.items) (counter_in counters.new)
-        ≡ drop_all (stated (shown elements.old.items) (counter_in counters.old)) (shown less.now) }
+fn take_out(path: &mut Path<'_>, less: &[&str])
+    requires { IsTable (shown path.old.elements.items) (counter_in path.old.counters) }
+    ensures { stated (shown path.new.elements.items) (counter_in path.new.counters)
+        ≡ drop_all (stated (shown path.old.elements.items) (counter_in path.old.counters)) (shown less.now) }
 {
-    if drop_each(counters, less) {
-        keep_counted(elements, counters);
+    if drop_each(&mut path.counters, less) {
+        keep_counted(&mut path.elements, &path.counters);
     }
 }
 
@@ -297,12 +286,9 @@ fn dropped(
     ensures { IfOk result (λ t. AreTexts t delim (drop_all (state_of delim (option_map (λ t. t.now) text.entry)
         (option_map (λ t. t.now) counts.entry)) (shown less.now))) }
 {
-    let Path {
-        mut elements,
-        mut counters,
-    } = read_path(alloc, delim, text, counts)?;
-    take_out(&mut elements, &mut counters, less);
-    write_path(alloc, delim, Path { elements, counters })
+    let mut path = read_path(alloc, delim, text, counts)?;
+    take_out(&mut path, less);
+    write_path(alloc, delim, &mut path)
 }
 
 /// Writes a path variable and its counters, or neither.

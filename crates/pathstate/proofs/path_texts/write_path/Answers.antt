@@ -6,6 +6,6 @@ use Rattle.pathstate.proofs.path_texts.write_path.Goals as goal
 
 pub returns : goal.returns
 returns c = record {
-  elements = c.in_ok-text.ensures ∙ ap (λ xs. elements_text c.args.delim (shown xs)) c.as_slice.ensures.value;
-  counters = c.in_ok-counts.ensures ∙ ap (λ xs. pairs_text (stated (shown xs) (counter_in c.args.path.counters))) c.as_slice-2.ensures.value;
+  elements = c.in_ok-elements.ensures ∙ ap (λ xs. elements_text c.args.delim (shown xs)) c.as_slice.ensures.value;
+  counters = c.in_ok-counters.ensures ∙ ap (λ xs. pairs_text (stated (shown xs) (counter_in c.args.path.now.counters))) c.as_slice-2.ensures.value;
 }

@@ -6,11 +6,11 @@ use Rattle.pathstate.specs.Tables.{counter_in, stated}
 use Rattle.pathstate.specs.PathEdits.{IsFull}
 use Rattle.pathstate.proofs.paths.add_each.Goals as goal
 
-pub returns-in_err-elements-in-Front-clause-full : goal.returns-in_err-elements-in-Front-clause-full
-returns-in_err-elements-in-Front-clause-full c =
+pub returns-in_err-path-in-Front-clause-full : goal.returns-in_err-path-in-Front-clause-full
+returns-in_err-path-in-Front-clause-full c =
     let p = err_from_is_err_and c.from_residual.result c.from_residual.ensures.1 in
     rw (p.1, p.2)
-    (subst (IsFull c.in_err-elements-in-Front.field-0.0 c.args.var.now)
-    (ap (λ l. add_front (stated (shown l) (counter_in c.args.path.counters)) (shown c.args.more.now)) c.as_slice.ensures.value
-    ∙ ap (add_all (stated (shown c.args.path.elements.items) (counter_in c.args.path.counters)) (shown c.args.more.now)) (sym c.in-Front.is))
-    c.in_err-elements-in-Front.ensures.full)
+    (subst (IsFull c.in_err-path-in-Front.field-0.0 c.args.var.now)
+    (ap (λ l. add_front (stated (shown l) (counter_in c.args.path.now.counters)) (shown c.args.more.now)) c.as_slice.ensures.value
+    ∙ ap (add_all (stated (shown c.args.path.now.elements.items) (counter_in c.args.path.now.counters)) (shown c.args.more.now)) (sym c.in-Front.is))
+    c.in_err-path-in-Front.ensures.full)

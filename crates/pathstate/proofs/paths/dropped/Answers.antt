@@ -8,5 +8,5 @@ use Rattle.pathstate.proofs.paths.dropped.Goals as goal
 pub returns : goal.returns
 returns c =
     subst (λ s. IfOk c.write_path.result (λ t. AreTexts t c.args.delim s))
-    (c.take_out.ensures ∙ ap (λ s. drop_all s (shown c.args.less.now)) c.in_ok-elements.ensures.state)
+    (c.take_out.ensures ∙ ap (λ s. drop_all s (shown c.args.less.now)) c.in_ok-path.ensures.state)
     c.write_path.ensures
