@@ -30,7 +30,7 @@ pub fn value_command(
         return Ok(None);
     };
     match command_named(name) {
-        Some(command) => Ok(Some(value_of(alloc, command, rest, value_bytes)?)),
+        Some(command) => value_of(alloc, command, rest, value_bytes).map(Some),
         None => Ok(None),
     }
 }

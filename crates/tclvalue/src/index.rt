@@ -78,7 +78,7 @@ pub(crate) fn index_of(alloc: Global, word: &str) -> Result<Index, ValueFault>
     }
     match word.strip_prefix("end-") {
         Some(rest) => index_behind(alloc, word, rest),
-        None => Ok(Index::FromStart(number_in(alloc, word, word)?)),
+        None => number_in(alloc, word, word).map(Index::FromStart),
     }
 }
 
@@ -89,7 +89,7 @@ fn index_behind(alloc: Global, word: &str, rest: &str) -> Result<Index, ValueFau
     if begins_space(rest) {
         return Err(bad_index(alloc, word));
     }
-    Ok(Index::FromEnd(number_in(alloc, word, rest)?))
+    number_in(alloc, word, rest).map(Index::FromEnd)
 }
 
 fn begins_space(text: &str) -> bool

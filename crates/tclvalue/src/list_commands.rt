@@ -1,5 +1,7 @@
 //! The commands on lists (list(n), llength(n), lindex(n), lrange(n), split(n), join(n), concat(n)).
-ghost use Rattle.std.specs.Prelude.{◌≡◌, map, string_bytes};
+ghost use Rattle.std.specs.Prelude.{◌≡◌, ◌∷◌, [], map, string_bytes, Ok};
+ghost use Rattle.tclchars.specs.Runs.{Text};
+ghost use Rattle.tcloperators.specs.Elements.{elements_of};
 ghost use Rattle.tclvalue.specs.Commands.{llength_command, lindex_command, lrange_command, split_command, join_command};
 ghost use Rattle.tclvalue.specs.Commands.{element_at, elements_between};
 ghost use Rattle.tclvalue.specs.Growing.{GivesWithin};
@@ -53,16 +55,23 @@ fn lindex_value(alloc: Global, words: &[String], limit: usize) -> Result<String,
 {
     match words {
         [list] => limited(list.clone()?, limit),
-        [list, index] => {
-            let elements = elements(alloc, list)?;
-            let index = index_of(alloc, index)?;
-            limited(
-                String::from_str(alloc, element_at(&elements, index))?,
-                limit,
-            )
-        }
+        [list, index] => indexed_element(alloc, &elements(alloc, list)?, index, limit),
         _ => Err(wrong_words(alloc, "lindex")),
     }
+}
+
+/// The answer of `lindex` to a list of these elements and an index, within a limit on its bytes.
+fn indexed_element(
+    alloc: Global,
+    elements: &[String],
+    index: &str,
+    limit: usize,
+) -> Result<String, ValueFault>
+    ensures { (list : Text) → elements_of list ≡ Ok (map string_bytes elements.now)
+        → GivesWithin limit result (lindex_command (list ∷ index.now ∷ [])) }
+{
+    let index = index_of(alloc, index)?;
+    limited(String::from_str(alloc, element_at(elements, index))?, limit)
 }
 
 /// The element at an index, or the empty text where the index is outside.
@@ -80,17 +89,28 @@ fn lrange_value(alloc: Global, words: &[String], limit: usize) -> Result<String,
     ensures { GivesWithin limit result (lrange_command (map string_bytes words.now)) }
 {
     match words {
-        [list, first, last] => {
-            let elements = elements(alloc, list)?;
-            let first = index_of(alloc, first)?;
-            let last = index_of(alloc, last)?;
-            limited(
-                list_text(alloc, elements_between(&elements, first, last))?,
-                limit,
-            )
-        }
+        [list, first, last] => range_text(alloc, &elements(alloc, list)?, first, last, limit),
         _ => Err(wrong_words(alloc, "lrange")),
     }
+}
+
+/// The answer of `lrange` to a list of these elements and two indexes, within a limit on its bytes.
+fn range_text(
+    alloc: Global,
+    elements: &[String],
+    first: &str,
+    last: &str,
+    limit: usize,
+) -> Result<String, ValueFault>
+    ensures { (list : Text) → elements_of list ≡ Ok (map string_bytes elements.now)
+        → GivesWithin limit result (lrange_command (list ∷ first.now ∷ last.now ∷ [])) }
+{
+    let first = index_of(alloc, first)?;
+    let last = index_of(alloc, last)?;
+    limited(
+        list_text(alloc, elements_between(elements, first, last))?,
+        limit,
+    )
 }
 
 /// The elements from one index up to and with another, as far as they are there.

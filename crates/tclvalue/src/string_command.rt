@@ -14,7 +14,7 @@ use crate::index::{count_of, index_of};
 use crate::names::{Subcommand, is_option, subcommand_named, takes_options};
 use crate::pattern::glob;
 use crate::searches::{first_place, last_place, mapped, replacements};
-use crate::texts::{Ends, characters_between, repeated, trimmed, trimmed_of_space};
+use crate::texts::{Ends, characters_between, repeated, trimmed_of_space_within, trimmed_within};
 use std::alloc::{AllocError, Global};
 use std::cmp::Ordering;
 use tcloperators::{ValueFault, elements, left_out, text_order, truth_text, wrong_words};
@@ -235,8 +235,8 @@ fn trim_value(alloc: Global, operands: &[String], limit: usize) -> Result<String
     ensures { GivesWithin limit result (string_trim (map string_bytes operands.now)) }
 {
     match operands {
-        [text] => limited(trimmed_of_space(alloc, Ends::Both, text)?, limit),
-        [text, set] => limited(trimmed(alloc, Ends::Both, set, text)?, limit),
+        [text] => trimmed_of_space_within(alloc, Ends::Both, text, limit),
+        [text, set] => trimmed_within(alloc, Ends::Both, set, text, limit),
         _ => Err(wrong_words(alloc, "string")),
     }
 }
@@ -245,8 +245,8 @@ fn trim_left_value(alloc: Global, operands: &[String], limit: usize) -> Result<S
     ensures { GivesWithin limit result (string_trimleft (map string_bytes operands.now)) }
 {
     match operands {
-        [text] => limited(trimmed_of_space(alloc, Ends::Start, text)?, limit),
-        [text, set] => limited(trimmed(alloc, Ends::Start, set, text)?, limit),
+        [text] => trimmed_of_space_within(alloc, Ends::Start, text, limit),
+        [text, set] => trimmed_within(alloc, Ends::Start, set, text, limit),
         _ => Err(wrong_words(alloc, "string")),
     }
 }
@@ -255,8 +255,8 @@ fn trim_right_value(alloc: Global, operands: &[String], limit: usize) -> Result<
     ensures { GivesWithin limit result (string_trimright (map string_bytes operands.now)) }
 {
     match operands {
-        [text] => limited(trimmed_of_space(alloc, Ends::End, text)?, limit),
-        [text, set] => limited(trimmed(alloc, Ends::End, set, text)?, limit),
+        [text] => trimmed_of_space_within(alloc, Ends::End, text, limit),
+        [text, set] => trimmed_within(alloc, Ends::End, set, text, limit),
         _ => Err(wrong_words(alloc, "string")),
     }
 }
