@@ -7,7 +7,7 @@ ghost use Rattle.environment.specs.Changes.{new_value_of};
 ghost use Rattle.loadedlist.specs.LoadedTexts.{element_of, group_text};
 ghost use Rattle.loadedlist.specs.Loaded.{names_text, files_text, conflict_elements, conflicts_text, prereq_elements, prereqs_text, loaded_edits, with_loaded, is_path, is_group, is_entry, can_be_added, kept_once, added_loaded, dropped_loaded};
 ghost use Rattle.loadedlist.specs.LoadedEntries.{entry_of};
-ghost use Rattle.environment.specs.Texts.{texts_in};
+ghost use Rattle.environment.specs.Texts.{shown, texts_in};
 ghost use Rattle.environment.specs.Reasons.{Edits};
 ghost use Rattle.environment.specs.declared.fault.EnvFault.TheVariants.{OutOfMemory};
 
@@ -46,10 +46,19 @@ fn element(alloc: Global, name: &str, words: &[String]) -> Result<String, AllocE
 {
     let mut parts = Vec::new(alloc);
     parts.push(name)?;
-    for word in words {
-        parts.push(word.as_str())?;
-    }
+    push_slices(&mut parts, words)?;
     join(alloc, parts.as_slice(), '&')
+}
+
+/// Puts texts at the end, as slices.
+fn push_slices<'a>(slices: &mut Vec<&'a str>, texts: &'a [String]) -> Result<(), AllocError>
+    ensures { OnOk result (shown slices.new.items
+        ≡ shown slices.old.items ++ map string_bytes texts.entry.now) }
+{
+    for text in texts {
+        slices.push(text.as_str())?;
+    }
+    Ok(())
 }
 
 /// Puts the element of a module's conflicts at the end, if it has some.
@@ -80,14 +89,21 @@ fn conflicts_text(alloc: Global, list: &[Loaded]) -> Result<Option<String>, Allo
     text_of(alloc, elements.as_slice())
 }
 
+/// The text of a group of names.
+fn group_text(alloc: Global, group: &[String]) -> Result<String, AllocError>
+    ensures { IfOk result (λ t. string_bytes t ≡ group_text (map string_bytes group.now)) }
+{
+    let names = slices(alloc, group)?;
+    join(alloc, names.as_slice(), '|')
+}
+
 /// The texts of groups of names.
 fn group_texts(alloc: Global, groups: &[Vec<String>]) -> Result<Vec<String>, AllocError>
     ensures { IfOk result (λ v. texts_in v ≡ map group_text (map texts_in groups.now)) }
 {
     let mut texts = Vec::new(alloc);
     for group in groups {
-        let names = slices(alloc, group.as_slice())?;
-        texts.push(join(alloc, names.as_slice(), '|')?)?;
+        texts.push(group_text(alloc, group.as_slice())?)?;
     }
     Ok(texts)
 }
@@ -116,11 +132,19 @@ fn prereqs_text(alloc: Global, list: &[Loaded]) -> Result<Option<String>, AllocE
     text_of(alloc, elements.as_slice())
 }
 
-fn change(alloc: Global, name: &str, value: Option<String>) -> Result<Change, AllocError>
-    ensures { IfOk result (λ c. new_value_of c ≡ (name.now, option_map string_bytes value)) }
+/// Puts the change of a variable at the end.
+fn push_change(
+    alloc: Global,
+    changes: &mut Vec<Change>,
+    name: &str,
+    value: Option<String>,
+) -> Result<(), AllocError>
+    ensures { OnOk result (map new_value_of changes.new.items
+        ≡ map new_value_of changes.old.items ++ (name.now, option_map string_bytes value) ∷ []) }
 {
     let name = String::from_str(alloc, name)?;
-    Ok(Change { name, value })
+    changes.push(Change { name, value })?;
+    Ok(())
 }
 
 /// The changes that write the list.
@@ -128,10 +152,10 @@ fn loaded_changes(alloc: Global, list: &[Loaded]) -> Result<Vec<Change>, AllocEr
     ensures { IfOk result (λ v. map new_value_of v.items ≡ loaded_edits (map entry_of list.now)) }
 {
     let mut changes = Vec::new(alloc);
-    changes.push(change(alloc, NAMES, names_text(alloc, list)?)?)?;
-    changes.push(change(alloc, FILES, files_text(alloc, list)?)?)?;
-    changes.push(change(alloc, CONFLICTS, conflicts_text(alloc, list)?)?)?;
-    changes.push(change(alloc, PREREQS, prereqs_text(alloc, list)?)?)?;
+    push_change(alloc, &mut changes, NAMES, names_text(alloc, list)?)?;
+    push_change(alloc, &mut changes, FILES, files_text(alloc, list)?)?;
+    push_change(alloc, &mut changes, CONFLICTS, conflicts_text(alloc, list)?)?;
+    push_change(alloc, &mut changes, PREREQS, prereqs_text(alloc, list)?)?;
     Ok(changes)
 }
 

@@ -1,5 +1,5 @@
 //! The loaded modules, which four variables list.
-ghost use Rattle.std.specs.Prelude.{◌≡◌, ◌==◌, ◌&&◌, ◌++◌, [], ◌∷◌, not, length, map, filter, bytes_eq, if◌then◌else◌, OnOk, IfOk};
+ghost use Rattle.std.specs.Prelude.{◌≡◌, ◌==◌, ◌&&◌, ◌++◌, [], ◌∷◌, not, length, map, filter, bytes_eq, string_bytes, if◌then◌else◌, OnOk, IfOk};
 ghost use Rattle.std.specs.List.{list_all};
 ghost use Rattle.std.specs.Option.{option_map, option_or};
 ghost use Rattle.modulename.specs.ModuleName.{is_module_name};
@@ -266,6 +266,14 @@ pub(crate) fn find<'a>(list: &'a [Loaded], name: &str) -> Option<&'a Loaded>
     None
 }
 
+/// Names, copied.
+fn copy_names(alloc: Global, names: &[String]) -> Result<Vec<String>, AllocError>
+    ensures { IfOk result (λ v. texts_in v ≡ map string_bytes names.now) }
+{
+    let names = slices(alloc, names)?;
+    copies(alloc, names.as_slice())
+}
+
 /// Groups of names, copied.
 pub(crate) fn copy_groups(
     alloc: Global,
@@ -275,8 +283,7 @@ pub(crate) fn copy_groups(
 {
     let mut copied = Vec::new(alloc);
     for group in groups {
-        let names = slices(alloc, group.as_slice())?;
-        copied.push(copies(alloc, names.as_slice())?)?;
+        copied.push(copy_names(alloc, group.as_slice())?)?;
     }
     Ok(copied)
 }
