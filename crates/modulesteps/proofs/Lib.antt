@@ -4,3 +4,4 @@ pub mod StepLemmas
 pub mod NameLemmas
 pub mod EachLemmas
 pub mod ReportLemmas
+pub mod VerdictLemmas

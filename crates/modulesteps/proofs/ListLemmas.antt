@@ -1,6 +1,6 @@
 -- Lists of values of the code, and what is found in them.
-use Rattle.std.proofs.Common.{◌≡◌, ℕ, ◌+◌, ◌<◌, length, get_or, take, Bor, Bool, true, false, cond, ◌||◌, List, [], ◌∷◌, ◌++◌, map, reverse, find, Option, Some, None, refl, sym, ap, ◌∙◌}
-use Rattle.std.specs.List.{list_any}
+use Rattle.std.proofs.Common.{◌≡◌, ℕ, ◌+◌, ◌<◌, length, get_or, take, Bor, Bool, true, false, cond, ◌&&◌, ◌||◌, List, [], ◌∷◌, ◌++◌, map, reverse, find, Option, Some, None, refl, sym, ap, ◌∙◌}
+use Rattle.std.specs.List.{list_all, list_any}
 use Rattle.std.proofs.lemmas.List.{reverse-append, take_more}
 use Rattle.std.specs.Option.{option_map}
 use Rattle.std.specs.Prelude.{string_bytes, String}
@@ -10,6 +10,10 @@ use Rattle.std.specs.declared.alloc.Global.{Global}
 pub any_seen : {X Y : Type 0} (test : Y → Bool) (view : X → Y) (xs : List X) → list_any (λ x. test (view x)) xs ≡ list_any test (map view xs)
 any_seen test view [] = refl
 any_seen test view (x ∷ xs) = ap (λ b. test (view x) || b) (any_seen test view xs)
+
+pub all_seen : {X Y : Type 0} (test : Y → Bool) (view : X → Y) (xs : List X) → list_all (λ x. test (view x)) xs ≡ list_all test (map view xs)
+all_seen test view [] = refl
+all_seen test view (x ∷ xs) = ap (λ b. test (view x) && b) (all_seen test view xs)
 
 find_map : {X Y : Type 0} (test : Y → Bool) (view : X → Y) (xs : List X) → option_map view (find (λ x. test (view x)) xs) ≡ find test (map view xs)
 find_map test view [] = refl

@@ -1,5 +1,6 @@
 pub mod Views
 pub mod Answers
 pub mod Messages
+pub mod Verdicts
 -- for this crate's own contracts alone
 pub mod Parts

@@ -39,10 +39,10 @@ pub(crate) struct Asking<'a> {
 
 /// The file of a module.
 #[derive(Clone, Copy)]
-struct File<'a> {
-    name: &'a str,
-    path: &'a str,
-    text: &'a str,
+pub(crate) struct File<'a> {
+    pub(crate) name: &'a str,
+    pub(crate) path: &'a str,
+    pub(crate) text: &'a str,
 }
 
 /// What is reported of a module.
@@ -55,7 +55,7 @@ pub(crate) enum Topic {
 }
 
 /// The module that a name means now.
-fn find_module<T: Tree, V: Vars>(
+pub(crate) fn find_module<T: Tree, V: Vars>(
     alloc: Global,
     asking: Asking<'_>,
     env: &V,
@@ -73,7 +73,7 @@ fn find_module<T: Tree, V: Vars>(
 }
 
 /// Evaluates a file, which has its effects on the variables.
-fn evaluate<V: Vars>(
+pub(crate) fn evaluate<V: Vars>(
     alloc: Global,
     asking: Asking<'_>,
     mode: Mode,

@@ -6,9 +6,13 @@ mod conditions;
 mod done;
 mod entries;
 mod files;
+mod judged;
 mod refusal;
 mod reports;
+mod verdicts;
 
 pub use commands::step;
 pub use done::{Done, Module, Move, Terms};
+pub use judged::Verdict;
 pub use refusal::{MissingNames, Refusal};
+pub use verdicts::verdict;

@@ -1,0 +1,53 @@
+use Rattle.std.proofs.Common.{◌<◌, false, map, None, Result, Ok, Err, refl, ap}
+use Rattle.std.proofs.lemmas.Result.{err_from_is_err_and}
+use Rattle.loadedlist.specs.LoadedEntries.{entry_of}
+use Rattle.modulerecords.specs.Effects as modes
+use Rattle.modulefile.specs.Files.{RunsFile}
+use Rattle.modulefind.specs.Answers.{found_view}
+use Rattle.modulerun.specs.Running.{ran_view}
+use Rattle.requests.specs.Reasons.{stopped}
+use Rattle.requests.specs.Refusals.{RefusedAs}
+use Rattle.requests.specs.Steps.{Finds}
+use Rattle.requests.specs.Verdicts.{Judged, judged_in}
+use Rattle.modulesteps.specs.Verdicts.{verdict_view, in_sh}
+use Rattle.modulesteps.proofs.StepLemmas.{gives_refused, tells_refused}
+use Rattle.modulesteps.proofs.verdicts.judge.Goals as goal
+
+pub returns-in_err-found-clause-told : goal.returns-in_err-found-clause-told
+returns-in_err-found-clause-told g c =
+    let p = err_from_is_err_and c.from_residual-in_err-found.result c.from_residual-in_err-found.ensures.1 in
+    let e = g.V.Vars.vars c.args.env.now in
+    let rose = g.T.Tree.failures c.args.tree.now < g.T.Tree.failures c.find_module.new.tree in
+    rw (p.1, p.2) (tells_refused (g.T.Tree.agrees c.find_module.new.tree) rose rose found_view verdict_view c.in_err-found.field-0.0
+    (λ files listings. Finds (in_sh c.args.limits files listings) e c.args.typed.now)
+    (λ files listings. Judged (in_sh c.args.limits files listings) e c.args.typed.now) (λ q. q)
+    (λ files listings r k h. (Ok (map entry_of c.in_ok-entries.entries.items), c.in_ok-entries.ensures, (Err r, h, refl)))
+    c.in_err-found.ensures.told)
+
+pub returns-in_err-ran-clause-told : goal.returns-in_err-ran-clause-told
+returns-in_err-ran-clause-told g c =
+    let p = err_from_is_err_and c.from_residual-in_err-ran.result c.from_residual-in_err-ran.ensures.1 in
+    let e = g.V.Vars.vars c.args.env.now in
+    let xs = map entry_of c.in_ok-entries.entries.items in
+    let m = found_view c.in_ok-found.found in
+    let given = rw (c.as_str.ensures.value, c.as_str-2.ensures.value, c.as_str-3.ensures.value, c.as_slice.ensures.value) at c.in_err-ran.ensures.given in
+    rw (p.1, p.2) (gives_refused (g.T.Tree.agrees c.find_module.new.tree) (g.T.Tree.failures c.args.tree.now < g.T.Tree.failures c.find_module.new.tree)
+    (λ ran. ran_view ran (g.V.Vars.vars c.evaluate.new.env)) verdict_view c.in_err-ran.field-0.0
+    (RefusedAs stopped (RunsFile c.args.limits (judged_in (in_sh c.args.limits (λ path. None) (λ path. None)) c.args.typed.now m xs e) m.text))
+    (λ files listings. Judged (in_sh c.args.limits files listings) e c.args.typed.now)
+    (λ files listings r a h. (Ok xs, c.in_ok-entries.ensures, (Ok m, c.in_ok-found.ensures.told files listings a, (Err r, h, refl)))) given)
+
+pub returns-clause-told : goal.returns-clause-told
+returns-clause-told g c = λ files listings a.
+    let xs = map entry_of c.in_ok-entries.entries.items in
+    let m = found_view c.in_ok-found.found in
+    let last = g.V.Vars.vars c.evaluate.new.env in
+    let given = rw (c.as_str.ensures.value, c.as_str-2.ensures.value, c.as_str-3.ensures.value, c.as_slice.ensures.value) at c.in_ok-ran.ensures.given in (
+      Ok xs,
+      c.in_ok-entries.ensures,
+      (
+        Ok m,
+        c.in_ok-found.ensures.told files listings a,
+        (Ok (ran_view c.in_ok-ran.ran last), given, ap Ok (c.verdict_on.ensures last)),
+      ),
+    )

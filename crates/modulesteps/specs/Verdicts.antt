@@ -1,0 +1,38 @@
+-- What the verdict on a modulefile says, as the definitions see it.
+use Rattle.std.specs.Prelude.{◌≡◌, true, Result, Ok}
+use Rattle.std.specs.List.{list_all}
+use Rattle.environment.specs.Texts.{Text}
+use Rattle.environment.specs.Environment.{Environment}
+use Rattle.lookup.specs.Agreement.{Files, Listings}
+use Rattle.shells.specs.declared.shell.Shell.TheVariants.{Sh}
+use Rattle.tclrules.specs.declared.limits.Limits.{Limits}
+use Rattle.modulefile.specs.Files.{Ran}
+use Rattle.modulesearch.specs.Found as search
+use Rattle.reversal.specs.Ways.{is_reversible}
+use Rattle.requests.specs.Steps.{Site, Finds}
+use Rattle.requests.specs.Verdicts as verdicts
+use Rattle.requests.specs.Verdicts.{LeavesAlways}
+use Rattle.modulesteps.specs.declared.judged.Verdict.{Verdict}
+use Rattle.modulesteps.specs.declared.judged.Verdict.TheVariants.{Plain, Asked, OneWay}
+
+-- what a verdict is given over
+abbrev pub in_sh : Limits → Files → Listings → Site
+in_sh limits files listings = record { files = files; listings = listings; limits = limits; shell = Sh }
+
+abbrev pub verdict_view : Verdict → verdicts.Verdict
+verdict_view Plain = verdicts.plain
+verdict_view Asked = verdicts.asking
+verdict_view OneWay = verdicts.one_way
+
+-- The name means a module whose file leaves the same records in every context, or is refused there, and unloading
+-- undoes each of them.
+abbrev pub MeansPlainFile : Site → Environment → Text → Type 0
+MeansPlainFile s e name =
+    (m : search.FoundModule) × (ran : Ran) × Finds s e name (Ok m)
+    × (list_all is_reversible ran.records ≡ true) × LeavesAlways s m ran
+
+-- that is so where the verdict is plain
+abbrev pub PlainMeans : Site → Environment → Text → Verdict → Type 0
+PlainMeans s e name Plain = MeansPlainFile s e name
+PlainMeans s e name Asked = Unit {0}
+PlainMeans s e name OneWay = Unit {0}

@@ -1,0 +1,57 @@
+//! Whether a modulefile means the same wherever it is evaluated, and can be undone.
+ghost use Rattle.std.specs.Prelude.{◌≡◌};
+ghost use Rattle.std.specs.List.{list_all};
+ghost use Rattle.environment.specs.Environment.{Environment};
+ghost use Rattle.modulefile.specs.RecordViews.{record_view};
+ghost use Rattle.modulerun.specs.Running.{ran_view};
+ghost use Rattle.reversal.specs.Ways as ways;
+ghost use Rattle.requests.specs.Verdicts.{verdict_of};
+ghost use Rattle.modulesteps.specs.Verdicts.{verdict_view};
+
+use modulefile::{PathEdit, Record};
+use modulerun::Ran;
+
+/// What a modulefile's evaluation says of every other one.
+#[derive(Clone, Copy, Debug, PartialEq, Eq)]
+pub enum Verdict {
+    /// It asked nothing, and unloading undoes what it does.
+    Plain,
+    /// It asked about the environment, the mode, the shell, the typed name or the loaded modules.
+    Asked,
+    /// It asked nothing, and does something that unloading doesn't undo: `unsetenv` without a value, or `remove-path`.
+    OneWay,
+}
+
+/// Whether unloading undoes what the command did.
+fn is_reversible(record: &Record) -> bool
+    ensures { result ≡ ways.is_reversible (record_view record.now) }
+{
+    !matches!(
+        record,
+        Record::Unset { value: None, .. }
+            | Record::Path {
+                edit: PathEdit::Remove,
+                ..
+            }
+    )
+}
+
+/// Whether unloading undoes what each command did.
+fn are_reversible(records: &[Record]) -> bool
+    ensures { result ≡ list_all (λ r. ways.is_reversible (record_view r)) records.now }
+{
+    records.iter().all(|record| is_reversible(record))
+}
+
+/// The verdict on a file that left this.
+pub(crate) fn verdict_on(ran: &Ran) -> Verdict
+    ensures { (e : Environment) → verdict_view result ≡ verdict_of (ran_view ran.now e) }
+{
+    if ran.asked {
+        Verdict::Asked
+    } else if are_reversible(ran.records.as_slice()) {
+        Verdict::Plain
+    } else {
+        Verdict::OneWay
+    }
+}

@@ -1,0 +1,77 @@
+//! The verdict on the module that a name means.
+ghost use Rattle.std.specs.Prelude.{◌<◌, ◌≤◌, IfOk};
+ghost use Rattle.lookup.specs.Agreement.{Narrows, InEachPair};
+ghost use Rattle.requests.specs.Verdicts.{Judged};
+ghost use Rattle.modulesteps.specs.Answers.{Tells};
+ghost use Rattle.modulesteps.specs.Verdicts.{verdict_view, in_sh, PlainMeans};
+
+use crate::done::Terms;
+use crate::entries::entries_of;
+use crate::files::{Asking, File, evaluate, find_module};
+use crate::judged::{Verdict, verdict_on};
+use crate::refusal::Refusal;
+use environment::{Env, Vars, Working};
+use lookup::Tree;
+use modulefile::Mode;
+use shells::Shell;
+use std::alloc::Global;
+use tclrules::Limits;
+
+/// The verdict on the module that a name means, whose file is evaluated over these variables.
+fn judge<T: Tree, V: Vars>(
+    alloc: Global,
+    typed: &str,
+    env: &mut V,
+    tree: &mut T,
+    limits: Limits,
+) -> Result<Verdict, Refusal>
+    ensures before { Narrows (T.agrees tree.old) (T.agrees tree.new) }
+    ensures later { T.failures tree.old ≤ T.failures tree.new }
+    ensures told { Tells (T.agrees tree.new) (T.failures tree.old < T.failures tree.new) verdict_view result
+        (λ files listings. Judged (in_sh limits files listings) (V.vars env.old) typed.now) }
+{
+    let terms = Terms {
+        limits,
+        shell: Shell::Sh,
+    };
+    let asking = Asking {
+        terms,
+        in_switch: false,
+        typed,
+    };
+    let entries = entries_of(alloc, env)?;
+    let found = find_module(alloc, asking, env, tree)?;
+    let file = File {
+        name: found.name.as_str(),
+        path: found.path.as_str(),
+        text: found.text.as_str(),
+    };
+    let ran = evaluate(alloc, asking, Mode::Load, entries.as_slice(), file, env)?;
+    Ok(verdict_on(&ran))
+}
+
+/// Judges the module that a name means: its file is evaluated for loading in sh, with this name as the one that was
+/// typed. The environment stays as it is; conflicts and prereqs aren't judged.
+///
+/// A module that is `Plain` leaves the same records wherever it is loaded or unloaded, or is refused there, and
+/// unloading undoes each of them.
+///
+/// Errors: loaded lists that are inconsistent (35); what the search for the name answers (42, 44, 45, 46, and 43 where
+/// the device failed in this call); what the file's evaluation is refused by; want of memory.
+pub fn verdict<T: Tree>(
+    alloc: Global,
+    name: &str,
+    env: &Env,
+    tree: &mut T,
+    limits: Limits,
+) -> Result<Verdict, Refusal>
+    ensures before { Narrows (T.agrees tree.old) (T.agrees tree.new) }
+    ensures later { T.failures tree.old ≤ T.failures tree.new }
+    ensures judged { Tells (T.agrees tree.new) (T.failures tree.old < T.failures tree.new) verdict_view result
+        (λ files listings. Judged (in_sh limits files listings) env.now name.now) }
+    ensures plain { IfOk result (λ verdict. InEachPair (T.agrees tree.new) (λ files listings.
+        PlainMeans (in_sh limits files listings) env.now name.now verdict)) }
+{
+    requests::verdicts();
+    judge(alloc, name, &mut Working::over(env), tree, limits)
+}
