@@ -11,3 +11,4 @@ mod FoundText
 mod Origins
 mod PlainMoves
 mod Judging
+mod JudgedMoves

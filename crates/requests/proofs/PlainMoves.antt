@@ -104,12 +104,12 @@ agreed : (ran other : Ran) → IsSameOrRefused ran (Ok other) → other.records 
 agreed ran other (inl (again, same, records)) = let q : other ≡ again = (let r : Ok other ≡ Ok again = same in cc) in ap (λ (x : Ran). x.records) q ∙ records
 agreed ran other (inr (n, same)) = absurd (let r : Ok other ≡ Err (halted _) = same in cc)
 
-same_records : PlainFilesAgree → (s : Site) (name path : Text) (ran other : Ran) → HasLeft s name path ran → ran.asked ≡ false → HasLeft s name path other → other.records ≡ ran.records
+pub same_records : PlainFilesAgree → (s : Site) (name path : Text) (ran other : Ran) → HasLeft s name path ran → ran.asked ≡ false → HasLeft s name path other → other.records ≡ ran.records
 same_records agree s name path ran other h unasked k =
     agreed ran other (agree s.limits h.context k.context h.text ran (Ok other) h.runs unasked (k.named ∙ sym h.named) (k.placed ∙ sym h.placed)
     (subst (λ (t : Text). RunsFile s.limits k.context t (Ok other)) (one_script s path k.text h.text k.file h.file) k.runs))
 
-moved_left : (s : Site) (a b c d : Text) (ran : Ran) → a ≡ b → c ≡ d → HasLeft s a c ran → HasLeft s b d ran
+pub moved_left : (s : Site) (a b c d : Text) (ran : Ran) → a ≡ b → c ≡ d → HasLeft s a c ran → HasLeft s b d ran
 moved_left s a b c d ran e g h = subst (λ (x : Text). HasLeft s x d ran) e (subst (λ (x : Text). HasLeft s a x ran) g h)
 
 unload_records : PlainFilesAgree → (s : Site) (m l : Module) → m.name ≡ l.name → m.path ≡ l.path → IsFrom s m → IsFrom s l → IsPlain s l.name l.path → m.records ≡ l.records
@@ -160,7 +160,7 @@ one_response (accepted d) os s h k = all_both s d.moves (session_moves os) (fron
 one_response (refused reason) os s h k = k
 one_response (given_up n) os s h k = k
 
-session_from : (s : Site) (e : Environment) (rs : List Request) (os : List Response) → Session s e rs os → AllFrom s (session_moves os)
+pub session_from : (s : Site) (e : Environment) (rs : List Request) (os : List Response) → Session s e rs os → AllFrom s (session_moves os)
 session_from s e [] [] h = tt
 session_from s e [] (o ∷ os) h = absurd h
 session_from s e (r ∷ rs) [] h = absurd h

@@ -32,10 +32,10 @@ use Rattle.requests.proofs.SomeFound.{IsSome, some_is, some_then, some_if, some_
 abbrev pub SomeLeft : Type 0
 SomeLeft = (limits : Limits) (path text : Text) → (o : Option Left) × Leaves limits path text o
 
-some_run : files.SomeOutcome → (limits : Limits) (c : Context) (text : Text) → IsSome (RefusedAs stopped (RunsFile limits c text))
+pub some_run : files.SomeOutcome → (limits : Limits) (c : Context) (text : Text) → IsSome (RefusedAs stopped (RunsFile limits c text))
 some_run file limits c text = some_refused_as {f = stopped} {First = RunsFile limits c text} (file limits c text)
 
-some_finds : SomeLeft → (s : Site) (e : Environment) (name : Text) → IsSome (Finds s e name)
+pub some_finds : SomeLeft → (s : Site) (e : Environment) (name : Text) → IsSome (Finds s e name)
 some_finds left s e name = some_refused_as {f = missed} {First = Found (Leaves s.limits) s.files s.listings (modulepath e) name} (some_found (Leaves s.limits) (left s.limits) s.files s.listings (modulepath e) name)
 
 some_loads_found : files.SomeOutcome → (s : Site) (w : Bool) (typed : Text) (d : Done) (xs : List Entry) (m : search.FoundModule) → IsSome (LoadsFound s w typed d xs m)

@@ -9,5 +9,6 @@ pub mod Sessions
 pub mod Verdicts
 pub mod Returning
 pub mod PlainRuns
+pub mod JudgedRuns
 pub mod Laws
 pub mod Rows

@@ -2,6 +2,7 @@
 ghost use Rattle.requests.specs.Laws.{OneOutcome, SomeOutcome, StepsLead, StepsAreMade, ReportsLeave};
 ghost use Rattle.requests.specs.Laws.{SessionsRun, SessionsLead, OneSession, SessionsReturn, PlainSessionsReturn, CommandsReturn};
 ghost use Rattle.requests.specs.PlainRuns.{JudgedIsPlain};
+ghost use Rattle.requests.specs.JudgedRuns.{SomeVerdict, JudgedIsReversible, JudgedSessionsReturn};
 ghost use Rattle.requests.specs.Verdicts.{OneVerdict, PlainHolds};
 
 /// A request has one outcome at most. The moves of an accepted one lead from the environment to what it leaves, and
@@ -72,14 +73,26 @@ pub fn command_returns()
     reversal::laws::steps();
 }
 
-/// A module has one verdict at most. One that is judged plain leaves the same records in every context of its name and
-/// path, or is refused there, and unloading undoes each of them: the records of each unload are those of the load.
+/// The same of modules that were judged plain and are apart: that they are reversible is then no premise.
+pub fn judged_session_returns()
+    ensures { JudgedSessionsReturn }
+{
+    plain_session_returns();
+    modulefile::plain();
+}
+
+/// A module has one verdict, or one reason why there is none. One that is judged plain leaves the same records in every
+/// context of its name and path, or is refused there, and unloading undoes each of them: the records of each unload are
+/// those of the load.
 pub fn verdicts()
     ensures one { OneVerdict }
+    ensures some { SomeVerdict }
     ensures plain { PlainHolds }
     ensures file { JudgedIsPlain }
+    ensures reversible { JudgedIsReversible }
 {
     modulefile::files();
     modulefile::plain();
     defaultfiles::one_left();
+    defaultfiles::some_left();
 }

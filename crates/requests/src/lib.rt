@@ -10,8 +10,8 @@ mod words;
 
 pub use asked::{Action, Request};
 pub use laws::{
-    command_returns, outcomes, plain_session_returns, reports, session_returns, sessions,
-    some_outcome, verdicts,
+    command_returns, judged_session_returns, outcomes, plain_session_returns, reports,
+    session_returns, sessions, some_outcome, verdicts,
 };
 pub use request_fault::RequestFault;
 pub use rows::{condition_rows, report_rows, request_rows};
