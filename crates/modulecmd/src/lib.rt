@@ -3,12 +3,14 @@
 
 mod command;
 mod ends;
+mod laws;
 mod refuse;
 mod writers;
 
 pub use command::{modulecmd, run_command};
 pub use ends::Exit;
 pub use environment::{Change, Env, EnvFault};
+pub use laws::commands_return;
 pub use lookup::{DiskTree, MemoryTree, Tree, TreeFault};
 pub use modules::{
     Action, Changed, Done, Limits, Module, Move, Refusal, Request, RequestFault, request,
