@@ -6,7 +6,7 @@ mod sessions;
 
 pub use environment::{Change, Env, EnvFault};
 pub use lookup::{FindFault, Tree, TreeFault};
-pub use modulesteps::{Done, MissingNames, Module, Move, Refusal};
+pub use modulesteps::{Done, MissingNames, Module, Move, Refusal, Verdict, verdict};
 pub use requests::{Action, Request, RequestFault, request};
 pub use running::{Changed, Reply, loaded_names, run, run_changes};
 pub use sessions::{Outcome, session};

@@ -12,3 +12,5 @@ mod turns;
 mod words;
 
 pub use file::{evaluate, evaluate_with};
+pub use tclkept::Kept;
+pub use tclrules::{Ending, EvalFault, Host, HostAnswer, Limits};
