@@ -62,6 +62,11 @@ tells_same agrees failed before view (Ok x) Told Comes later then h = λ files l
 tells_same agrees failed before view (Err e) Told Comes later then h =
     stands_as (cause_of e) failed before _ _ later (λ r k files listings a. then files listings (Err r) a (k files listings a)) h
 
+-- what is told of a value is told of what equals it
+pub tells_of : {A X Y : Type 0} (agrees : Files → Listings → Type 0) (before : Type 0) (view : X → Y) (r : Result X Refusal)
+    (Comes : A → Files → Listings → Result Y RequestReason → Type 0) (x y : A) → x ≡ y → Tells agrees before view r (Comes y) → Tells agrees before view r (Comes x)
+tells_of agrees before view r Comes x y e h = subst (λ z. Tells agrees before view r (Comes z)) (sym e) h
+
 -- a refusal of one step is a refusal of the whole
 pub tells_refused : {X Y V W : Type 0} (agrees : Files → Listings → Type 0) (failed before : Type 0) (view : X → Y) (view' : V → W) (e : Refusal)
     (Told : Files → Listings → Result Y RequestReason → Type 0) (Comes : Files → Listings → Result W RequestReason → Type 0)

@@ -377,8 +377,7 @@ pub fn step<T: Tree, V: Vars>(
             change_names(alloc, terms, Doing::Unload, names.as_slice(), env, tree)
         }
         Action::Switch(old, new) => {
-            let old = old.as_ref().map(|old| old.as_str());
-            switch(alloc, terms, old, new.as_str(), env, tree)
+            switch(alloc, terms, old.as_deref(), new.as_str(), env, tree)
         }
         Action::Purge => purge(alloc, terms, env, tree),
         Action::List => list(alloc, env),

@@ -1,35 +1,86 @@
-use Rattle.std.proofs.Common.{◌<◌, map, string_bytes, String, sym, subst}
+use Rattle.std.proofs.Common.{◌≡◌, ◌<◌, Bor, String, string_bytes, sym, subst}
 use Rattle.std.specs.declared.alloc.Global.{Global}
+use Rattle.std.specs.Option.{option_map}
+use Rattle.environment.specs.Texts.{Text}
+use Rattle.requests.specs.declared.asked.Action.{Action}
+use Rattle.requests.specs.declared.asked.Action.TheVariants as actions
 use Rattle.requests.specs.RequestViews.{asked_view}
-use Rattle.requests.specs.Steps.{Each, Named, Changes, RequestStep}
+use Rattle.requests.specs.Steps.{ListsLoaded, RequestStep}
 use Rattle.modulesteps.specs.declared.done.Terms.{Terms}
 use Rattle.modulesteps.specs.declared.done.Done.{Done}
-use Rattle.modulesteps.specs.declared.commands.Doing.TheVariants.{Load, Unload}
 use Rattle.modulesteps.specs.Views.{site_of, done_view}
-use Rattle.modulesteps.specs.Parts.{DoesForName}
-use Rattle.modulesteps.proofs.StepLemmas.{tells_same}
+use Rattle.modulesteps.proofs.StepLemmas.{gives_tells, tells_of}
 use Rattle.modulesteps.proofs.commands.step.Goals as goal
 
 pub returns-in-Load-clause-told : goal.returns-in-Load-clause-told
 returns-in-Load-clause-told g c =
     let e = g.V.Vars.vars c.args.env.now in
     let terms : Terms = record { limits = c.args.limits; shell = c.args.request.now.shell } in
-    let names = map (λ (s : String Global). string_bytes s) c.in-Load.names.items in
     let rose = g.T.Tree.failures c.args.tree.now < g.T.Tree.failures c.change_names.new.tree in
     let told = rw c.as_slice.ensures.value at c.change_names.ensures.told in
-    tells_same (g.T.Tree.agrees c.change_names.new.tree) rose rose (λ (x : Done). done_view x (g.V.Vars.vars c.change_names.new.env)) c.change_names.result
-    (λ files listings. Named names (Changes e (λ before. Each (DoesForName Load (site_of terms files listings)) names)))
-    (λ files listings. RequestStep (site_of terms files listings) e (asked_view c.args.request.now.action)) (λ q. q)
-    (λ files listings o a h. subst (λ x. RequestStep (site_of terms files listings) e (asked_view x) o) (sym c.in-Load.is) h) told
+    tells_of (g.T.Tree.agrees c.change_names.new.tree) rose (λ (x : Done). done_view x (g.V.Vars.vars c.change_names.new.env)) c.change_names.result
+    (λ (action : Action) files listings. RequestStep (site_of terms files listings) e (asked_view action)) c.args.request.now.action (actions.Load c.in-Load.names) c.in-Load.is told
 
 pub returns-in-Unload-clause-told : goal.returns-in-Unload-clause-told
 returns-in-Unload-clause-told g c =
     let e = g.V.Vars.vars c.args.env.now in
     let terms : Terms = record { limits = c.args.limits; shell = c.args.request.now.shell } in
-    let names = map (λ (s : String Global). string_bytes s) c.in-Unload.names.items in
     let rose = g.T.Tree.failures c.args.tree.now < g.T.Tree.failures c.change_names-in-Unload.new.tree in
     let told = rw c.as_slice-in-Unload.ensures.value at c.change_names-in-Unload.ensures.told in
-    tells_same (g.T.Tree.agrees c.change_names-in-Unload.new.tree) rose rose (λ (x : Done). done_view x (g.V.Vars.vars c.change_names-in-Unload.new.env)) c.change_names-in-Unload.result
-    (λ files listings. Named names (Changes e (λ before. Each (DoesForName Unload (site_of terms files listings)) names)))
-    (λ files listings. RequestStep (site_of terms files listings) e (asked_view c.args.request.now.action)) (λ q. q)
-    (λ files listings o a h. subst (λ x. RequestStep (site_of terms files listings) e (asked_view x) o) (sym c.in-Unload.is) h) told
+    tells_of (g.T.Tree.agrees c.change_names-in-Unload.new.tree) rose (λ (x : Done). done_view x (g.V.Vars.vars c.change_names-in-Unload.new.env)) c.change_names-in-Unload.result
+    (λ (action : Action) files listings. RequestStep (site_of terms files listings) e (asked_view action)) c.args.request.now.action (actions.Unload c.in-Unload.names) c.in-Unload.is told
+
+pub returns-in-Switch-clause-told : goal.returns-in-Switch-clause-told
+returns-in-Switch-clause-told g c =
+    let e = g.V.Vars.vars c.args.env.now in
+    let terms : Terms = record { limits = c.args.limits; shell = c.args.request.now.shell } in
+    let rose = g.T.Tree.failures c.args.tree.now < g.T.Tree.failures c.switch.new.tree in
+    let old : option_map (λ (x : Bor Text). x.now) c.as_deref.result ≡ option_map (λ (s : String Global). string_bytes s) c.in-Switch.old = c.as_deref.ensures.value in
+    let told = rw (old, c.as_str.ensures.value) at c.switch.ensures.told in
+    tells_of (g.T.Tree.agrees c.switch.new.tree) rose (λ (x : Done). done_view x (g.V.Vars.vars c.switch.new.env)) c.switch.result
+    (λ (action : Action) files listings. RequestStep (site_of terms files listings) e (asked_view action)) c.args.request.now.action (actions.Switch c.in-Switch.old c.in-Switch.new) c.in-Switch.is told
+
+pub returns-in-Purge-clause-told : goal.returns-in-Purge-clause-told
+returns-in-Purge-clause-told g c =
+    let e = g.V.Vars.vars c.args.env.now in
+    let terms : Terms = record { limits = c.args.limits; shell = c.args.request.now.shell } in
+    let rose = g.T.Tree.failures c.args.tree.now < g.T.Tree.failures c.purge.new.tree in
+    let told = c.purge.ensures.told in
+    tells_of (g.T.Tree.agrees c.purge.new.tree) rose (λ (x : Done). done_view x (g.V.Vars.vars c.purge.new.env)) c.purge.result
+    (λ (action : Action) files listings. RequestStep (site_of terms files listings) e (asked_view action)) c.args.request.now.action actions.Purge c.in-Purge.is told
+
+pub returns-in-List-clause-told : goal.returns-in-List-clause-told
+returns-in-List-clause-told g c =
+    let e = g.V.Vars.vars c.args.env.now in
+    let terms : Terms = record { limits = c.args.limits; shell = c.args.request.now.shell } in
+    let failures = g.T.Tree.failures c.args.tree.now in
+    gives_tells (g.T.Tree.agrees c.args.tree.now) (failures < failures) (λ (x : Done). done_view x e) c.list.result
+    (λ files listings. ListsLoaded e) (λ files listings. RequestStep (site_of terms files listings) e (asked_view c.args.request.now.action))
+    (λ files listings o a h. subst (λ (x : Action). RequestStep (site_of terms files listings) e (asked_view x) o) (sym c.in-List.is) h) (λ files listings. c.list.ensures)
+
+pub returns-in-Avail-clause-told : goal.returns-in-Avail-clause-told
+returns-in-Avail-clause-told g c =
+    let e = g.V.Vars.vars c.args.env.now in
+    let terms : Terms = record { limits = c.args.limits; shell = c.args.request.now.shell } in
+    let rose = g.T.Tree.failures c.args.tree.now < g.T.Tree.failures c.avail.new.tree in
+    let told = rw c.as_slice-in-Avail.ensures.value at c.avail.ensures.told in
+    tells_of (g.T.Tree.agrees c.avail.new.tree) rose (λ (x : Done). done_view x (g.V.Vars.vars c.args.env.now)) c.avail.result
+    (λ (action : Action) files listings. RequestStep (site_of terms files listings) e (asked_view action)) c.args.request.now.action (actions.Avail c.in-Avail.texts) c.in-Avail.is told
+
+pub returns-in-Show-clause-told : goal.returns-in-Show-clause-told
+returns-in-Show-clause-told g c =
+    let e = g.V.Vars.vars c.args.env.now in
+    let terms : Terms = record { limits = c.args.limits; shell = c.args.request.now.shell } in
+    let rose = g.T.Tree.failures c.args.tree.now < g.T.Tree.failures c.report_names.new.tree in
+    let told = rw c.as_slice-in-Show.ensures.value at c.report_names.ensures.told in
+    tells_of (g.T.Tree.agrees c.report_names.new.tree) rose (λ (x : Done). done_view x (g.V.Vars.vars c.report_names.new.env)) c.report_names.result
+    (λ (action : Action) files listings. RequestStep (site_of terms files listings) e (asked_view action)) c.args.request.now.action (actions.Show c.in-Show.names) c.in-Show.is told
+
+pub returns-in-Whatis-clause-told : goal.returns-in-Whatis-clause-told
+returns-in-Whatis-clause-told g c =
+    let e = g.V.Vars.vars c.args.env.now in
+    let terms : Terms = record { limits = c.args.limits; shell = c.args.request.now.shell } in
+    let rose = g.T.Tree.failures c.args.tree.now < g.T.Tree.failures c.report_names-in-Whatis.new.tree in
+    let told = rw c.as_slice-in-Whatis.ensures.value at c.report_names-in-Whatis.ensures.told in
+    tells_of (g.T.Tree.agrees c.report_names-in-Whatis.new.tree) rose (λ (x : Done). done_view x (g.V.Vars.vars c.report_names-in-Whatis.new.env)) c.report_names-in-Whatis.result
+    (λ (action : Action) files listings. RequestStep (site_of terms files listings) e (asked_view action)) c.args.request.now.action (actions.Whatis c.in-Whatis.names) c.in-Whatis.is told

@@ -1,16 +1,17 @@
-use Rattle.std.proofs.Common.{◌≡◌, ◌<◌, false, List, map, Result, sym, ap, ◌∙◌}
+use Rattle.std.proofs.Common.{◌≡◌, ◌<◌, true, false, List, map, sym, ap, ◌∙◌}
 use Rattle.std.proofs.lemmas.Result.{err_from_is_err_and}
 use Rattle.environment.specs.Texts.{has}
 use Rattle.loadedlist.specs.Loaded.{names_of}
 use Rattle.loadedlist.specs.LoadedEntries.{entry_of}
 use Rattle.loadedlist.specs.declared.entry.Loaded.{Loaded}
+use Rattle.relations.specs.Relations.{Is}
 use Rattle.modulerecords.specs.Effects as modes
 use Rattle.modulefind.specs.Answers.{found_view}
-use Rattle.requests.specs.Steps as steps
-use Rattle.requests.specs.Steps.{Finds, LoadsFound, LoadsName}
+use Rattle.requests.specs.Steps.{entries_of, Finds, LoadsFound, LoadsName}
 use Rattle.modulesteps.specs.Views.{site_of, done_view}
-use Rattle.modulesteps.proofs.StepLemmas.{gives_tells, tells_refused}
-use Rattle.modulesteps.proofs.NameLemmas.{loads_unfound, loads_found}
+use Rattle.modulesteps.specs.Parts.{entries_view}
+use Rattle.modulesteps.proofs.StepLemmas.{gives_tells, gives_refused, tells_refused}
+use Rattle.modulesteps.proofs.NameLemmas.{loads_unread, loads_loaded, loads_unfound, loads_found}
 use Rattle.modulesteps.proofs.files.load_name.Goals as goal
 
 pub returns-in_err-found-clause-told : goal.returns-in_err-found-clause-told
@@ -41,3 +42,22 @@ returns-clause-told g c =
     (λ files listings. LoadsFound (site_of a.terms files listings) a.in_switch a.typed.now d (map entry_of items) m) (λ files listings. LoadsName (site_of a.terms files listings) a.in_switch a.typed.now d)
     (λ files listings o k h. loads_found (site_of a.terms files listings) a.in_switch a.typed.now d (map entry_of items) c.in_ok-entries.ensures no m (c.in_ok-found.ensures.told files listings k) o h)
     given
+
+pub returns-in_err-entries-clause-told : goal.returns-in_err-entries-clause-told
+returns-in_err-entries-clause-told g c =
+    let p = err_from_is_err_and c.from_residual.result c.from_residual.ensures.1 in
+    let a = c.args.asking in
+    let e = g.V.Vars.vars c.args.env.now in
+    let d = done_view c.args.done.now e in
+    let failures = g.T.Tree.failures c.args.tree.now in
+    rw (p.1, p.2) (gives_refused (g.T.Tree.agrees c.args.tree.now) (failures < failures) entries_view (λ (u : Unit {0}). d) c.in_err-entries.field-0.0
+    (Is (entries_of e)) (λ files listings. LoadsName (site_of a.terms files listings) a.in_switch a.typed.now d)
+    (λ files listings r k h. loads_unread (site_of a.terms files listings) a.in_switch a.typed.now d r h) c.in_err-entries.ensures)
+
+pub returns-then-is_loaded-clause-told : goal.returns-then-is_loaded-clause-told
+returns-then-is_loaded-clause-told g c = λ files listings k.
+    let a = c.args.asking in
+    let d = done_view c.args.done.now (g.V.Vars.vars c.args.env.now) in
+    let items = c.in_ok-entries.entries.items in
+    let yes : has a.typed.now (names_of (map entry_of items)) ≡ true = ap (λ (es : List Loaded). has a.typed.now (names_of (map entry_of es))) (sym c.as_slice.ensures.value) ∙ (sym c.is_loaded.ensures ∙ c.if-is_loaded.true) in
+    loads_loaded (site_of a.terms files listings) a.in_switch a.typed.now d (map entry_of items) c.in_ok-entries.ensures yes

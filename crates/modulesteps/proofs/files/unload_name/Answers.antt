@@ -1,0 +1,58 @@
+use Rattle.std.proofs.Common.{◌≡◌, ◌<◌, true, false, map, Some, None, Ok, Err, refl, sym, ◌∙◌, subst}
+use Rattle.std.proofs.lemmas.Result.{err_from_is_err_and}
+use Rattle.environment.specs.Texts.{Text}
+use Rattle.loadedlist.specs.LoadedEntries.{entry_of}
+use Rattle.modulename.specs.ModuleName.{is_module_name}
+use Rattle.relations.specs.Relations.{Is}
+use Rattle.modulesearch.specs.Reasons.{bad_name}
+use Rattle.requests.specs.Reasons.{missed}
+use Rattle.requests.specs.Steps.{entries_of, UnloadsEntry, UnloadsName}
+use Rattle.modulesteps.specs.Views.{site_of, done_view}
+use Rattle.modulesteps.specs.Parts.{entries_view}
+use Rattle.modulesteps.proofs.StepLemmas.{gives_refused, tells_same}
+use Rattle.modulesteps.proofs.NameLemmas.{unloads_unread, unloads_misnamed, unloads_meant}
+use Rattle.modulesteps.proofs.files.unload_name.Goals as goal
+
+pub returns-in_err-entries-clause-told : goal.returns-in_err-entries-clause-told
+returns-in_err-entries-clause-told g c =
+    let p = err_from_is_err_and c.from_residual.result c.from_residual.ensures.1 in
+    let a = c.args.asking in
+    let e = g.V.Vars.vars c.args.env.now in
+    let d = done_view c.args.done.now e in
+    let failures = g.T.Tree.failures c.args.tree.now in
+    rw (p.1, p.2) (gives_refused (g.T.Tree.agrees c.args.tree.now) (failures < failures) entries_view (λ (u : Unit {0}). d) c.in_err-entries.field-0.0
+    (Is (entries_of e)) (λ files listings. UnloadsName (site_of a.terms files listings) a.in_switch a.typed.now d)
+    (λ files listings r k h. unloads_unread (site_of a.terms files listings) a.in_switch a.typed.now d r h) c.in_err-entries.ensures)
+
+pub returns-then-not-is_module_name-clause-told : goal.returns-then-not-is_module_name-clause-told
+returns-then-not-is_module_name-clause-told g c = λ files listings k.
+    let a = c.args.asking in
+    let s = site_of a.terms files listings in
+    let d = done_view c.args.done.now (g.V.Vars.vars c.args.env.now) in
+    let no : is_module_name a.typed.now ≡ false = sym c.is_module_name.ensures ∙ c.if-not-is_module_name.true in
+    subst (λ (t : Text). UnloadsName s a.in_switch a.typed.now d (Err (missed (bad_name t)))) (sym c.in_ok-name.ensures.ok)
+    (unloads_misnamed s a.in_switch a.typed.now d (map entry_of c.in_ok-entries.entries.items) c.in_ok-entries.ensures no)
+
+pub returns-in-None-clause-told : goal.returns-in-None-clause-told
+returns-in-None-clause-told g c = λ files listings k.
+    let a = c.args.asking in
+    let s = site_of a.terms files listings in
+    let d = done_view c.args.done.now (g.V.Vars.vars c.args.env.now) in
+    let yes : is_module_name a.typed.now ≡ true = sym c.is_module_name.ensures ∙ c.if-not-is_module_name.false in
+    let meant = rw c.as_slice.ensures.value at c.in-None.ensures in
+    unloads_meant s a.in_switch a.typed.now d (map entry_of c.in_ok-entries.entries.items) c.in_ok-entries.ensures yes None meant (Ok d) refl
+
+pub returns-clause-told : goal.returns-clause-told
+returns-clause-told g c =
+    let a = c.args.asking in
+    let e = g.V.Vars.vars c.args.env.now in
+    let d = done_view c.args.done.now e in
+    let xs = map entry_of c.in_ok-entries.entries.items in
+    let x = entry_of c.in-Some.entry.now in
+    let rose = g.T.Tree.failures c.args.tree.now < g.T.Tree.failures c.unload_entry.new.tree in
+    let yes : is_module_name a.typed.now ≡ true = sym c.is_module_name.ensures ∙ c.if-not-is_module_name.false in
+    let meant = rw c.as_slice.ensures.value at c.in-Some.ensures in
+    let told = rw c.as_slice-in-Some.ensures.value at c.unload_entry.ensures.told in
+    tells_same (g.T.Tree.agrees c.unload_entry.new.tree) rose rose (λ (u : Unit {0}). done_view c.unload_entry.new.done (g.V.Vars.vars c.unload_entry.new.env)) c.unload_entry.result
+    (λ files listings. UnloadsEntry (site_of a.terms files listings) a.in_switch a.typed.now d xs x) (λ files listings. UnloadsName (site_of a.terms files listings) a.in_switch a.typed.now d) (λ q. q)
+    (λ files listings o k h. unloads_meant (site_of a.terms files listings) a.in_switch a.typed.now d xs c.in_ok-entries.ensures yes (Some x) meant o h) told
