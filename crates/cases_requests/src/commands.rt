@@ -3,6 +3,7 @@ use crate::failing::{Failing, Poor};
 use crate::rehearsed::{request_of, requests, shown_rehearsal};
 use crate::shown::{
     differences, exit_name, held, marked, shown_done, shown_outcome, shown_refusal, variables,
+    verdict_line,
 };
 use crate::texts::{STANDARD, limits_of, meant, number, parted, words};
 use crate::writers::{Limited, kind};
@@ -14,6 +15,7 @@ use modulecmd::{
 };
 use modules::{
     Change, Changed, Env, Limits, Refusal, Request, Shell, request, run, run_changes, session,
+    verdict,
 };
 use std::alloc::Global;
 use std::io;
@@ -140,6 +142,7 @@ impl Session {
             "run" => self.run(rest),
             "go" => self.go(rest),
             "ask" => self.ask(rest),
+            "verdict" => self.judge(rest),
             "session" => shown_session(self.alloc, rest, &self.env, &mut self.tree),
             "rehearse" => self.rehearse(rest),
             "poor" => self.poor(rest),
@@ -256,6 +259,21 @@ impl Session {
             }
             Err(refusal) => Ok(shown_refusal(self.alloc, &refusal)?),
         }
+    }
+
+    fn judge(&mut self, rest: &str) -> Result<String> {
+        let name = meant(self.alloc, rest)?;
+        let verdict = verdict(
+            self.alloc,
+            name.as_str(),
+            &self.env,
+            &mut self.tree,
+            self.limits,
+        );
+        Ok(match verdict {
+            Ok(verdict) => String::from_str(self.alloc, verdict_line(verdict))?,
+            Err(refusal) => shown_refusal(self.alloc, &refusal)?,
+        })
     }
 
     fn rehearse(&mut self, rest: &str) -> Result<String> {

@@ -30,13 +30,14 @@
 //! error behind `! `, and its status. `go WORD...` does the same, and then the variables are what the command makes of
 //! them, where `run`, `run_changes`, the printed text and the exact difference agree. `vars` shows them. `ask WORD...`
 //! runs a request under the limits of `limits COMMANDS DEPTH BYTES` and shows its changes, moves, loaded names,
-//! messages and report, or the number and the text of its refusal. `session REQUEST, REQUEST...` runs requests one
-//! after another, and shows what came of each and how the variables at the end differ from those at the start.
-//! `rehearse SHELL REQUEST, SHELL REQUEST...` rehearses requests: for each `accepted` and the text that it prints, or
-//! `none`, and then the variables that are left. `poor PATH REQUEST, REQUEST...` does so where memory is refused for
-//! the file at the path. `write OUT ERR KIND WORD...` runs a command whose writers take so many bytes, and shows how it
-//! ended and what they hold. `failing WORD...` runs a command while each of its reads and listings in turn fails, and
-//! shows what is new of its answers. `refused KIND WORD` shows the line that is written of a refusal.
+//! messages and report, or the number and the text of its refusal. `verdict NAME` judges a module under these limits.
+//! `session REQUEST, REQUEST...` runs requests one after another, and shows what came of each and how the variables at
+//! the end differ from those at the start. `rehearse SHELL REQUEST, SHELL REQUEST...` rehearses requests: for each
+//! `accepted` and the text that it prints, or `none`, and then the variables that are left. `poor PATH REQUEST,
+//! REQUEST...` does so where memory is refused for the file at the path. `write OUT ERR KIND WORD...` runs a command
+//! whose writers take so many bytes, and shows how it ended and what they hold. `failing WORD...` runs a command while
+//! each of its reads and listings in turn fails, and shows what is new of its answers. `refused KIND WORD` shows the
+//! line that is written of a refusal.
 #![tactic(auto)]
 
 mod commands;

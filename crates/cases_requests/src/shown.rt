@@ -2,7 +2,7 @@
 use crate::texts::push_all;
 use anyhow::Result;
 use modulecmd::Exit;
-use modules::{Change, Done, Env, Move, Outcome, Refusal, loaded_names};
+use modules::{Change, Done, Env, Move, Outcome, Refusal, Verdict, loaded_names};
 use std::alloc::{AllocError, Global};
 
 /// What a writer holds.
@@ -16,6 +16,15 @@ pub(crate) fn exit_name(exit: Exit) -> &'static str {
         Exit::Success => "success",
         Exit::Told => "told",
         Exit::CutShort => "cut short",
+    }
+}
+
+/// A verdict, as a line.
+pub(crate) fn verdict_line(verdict: Verdict) -> &'static str {
+    match verdict {
+        Verdict::Plain => "Plain\n",
+        Verdict::Asked => "Asked\n",
+        Verdict::OneWay => "OneWay\n",
     }
 }
 
