@@ -14,6 +14,7 @@ import hashlib
 import os
 import re
 import shutil
+import signal
 import subprocess
 import sys
 import time
@@ -54,6 +55,14 @@ def clock(seconds):
     return f"{int(seconds) // 60}:{int(seconds) % 60:02}"
 
 
+def remove(path):
+    """Removes a file or a folder, if it is there."""
+    if os.path.isdir(path):
+        shutil.rmtree(path)
+    elif os.path.lexists(path):
+        os.remove(path)
+
+
 class Work:
     """One crate to be proved, or built where it is a program."""
 
@@ -61,8 +70,12 @@ class Work:
         self.crate, self.name, self.below = crate, crate.name, below
         self.room = os.path.join(crate.folder, "out", "build")
         self.made = os.path.join(self.room, self.name if crate.is_program else f"{self.name}.rlib")
+        self.all_below = [*dict.fromkeys(work for it in below for work in [*it.all_below, it])]
         self.lines = lines_of(crate, ".rt"), lines_of(crate, ".antt")
+        self.source = self.source_sum()
+        self.stamp = self.stamp_of()
         self.behind = 0.0
+        self.seconds = 0.0
 
     def file(self, name):
         return os.path.join(self.room, name)
@@ -74,27 +87,24 @@ class Work:
 
     def memory(self):
         """Bytes that a proof from nothing may take, by its own lines and those of the crates that it loads."""
-        loaded = sum(it.lines[0] for it in self.all_below())
+        loaded = sum(it.lines[0] for it in self.all_below)
         return 1_200_000_000 + 1_000_000 * self.lines[0] + 200_000 * self.lines[1] + 80_000 * loaded
 
-    def all_below(self):
-        found = {}
-        for it in self.below:
-            found.update(dict.fromkeys([*it.all_below(), it]))
-        return [*found]
-
-    def stamp(self):
-        """What says that neither the toolchain, the crate nor anything below it changed."""
-        sum_of = hashlib.sha256(repr((rtlib.text_of(f"{KIT}/KIT-ID"), self.crate.said)).encode())
+    def source_sum(self):
+        """What the crate's own files hold."""
+        sum_of = hashlib.sha256()
         for file in rtlib.files_of(self.crate.folder):
             with open(file, "rb") as it:
                 sum_of.update(repr((os.path.relpath(file, self.crate.folder), it.read())).encode())
-        for it in self.below:
-            sum_of.update(it.stamp().encode())
         return sum_of.hexdigest()
 
+    def stamp_of(self):
+        """What says that neither the toolchain, the crate nor anything below it changed."""
+        made_from = (rtlib.text_of(f"{KIT}/KIT-ID"), self.crate.said, self.source, [it.stamp for it in self.below])
+        return hashlib.sha256(repr(made_from).encode()).hexdigest()
+
     def is_there(self):
-        return os.path.exists(self.made) and rtlib.text_of(self.file("stamp")) == self.stamp()
+        return os.path.exists(self.made) and rtlib.text_of(self.file("stamp")) == self.stamp
 
     def words(self, jobs):
         """The words for the prover. The crates above a library load its statements and not its proofs."""
@@ -108,26 +118,32 @@ class Work:
         return [*words, "-o", self.made, f"{self.made}.o", f"{KIT}/c/libos_c.a", f"{KIT}/c/liblibc_c.a"]
 
     def run(self, words):
+        """Runs a command behind the log, and gives its status."""
         with open(self.file("log"), "ab") as log:
             how = {"stdin": subprocess.DEVNULL, "stdout": log, "stderr": subprocess.STDOUT}
-            return subprocess.run([*rtlib.guarded(), *words], cwd=self.crate.folder, **how).returncode
+            started = subprocess.Popen([*rtlib.guarded(), *words], cwd=self.crate.folder, **how)
+            _, status, used = os.wait4(started.pid, 0)
+        started.returncode = os.waitstatus_to_exitcode(status)
+        self.seconds += used.ru_utime + used.ru_stime
+        return started.returncode
 
     def do(self, jobs):
         """Proves the crate, builds it where it is a program, and gives whether that went well."""
-        stamp, start = self.stamp(), time.monotonic()
-        for path in (self.file("stamp"), self.file("log")):
-            if os.path.exists(path):
-                os.remove(path)
-        shutil.rmtree(self.made, ignore_errors=True)
+        for name in ("stamp", "log"):
+            remove(self.file(name))
+        remove(self.made)
         os.makedirs(self.room, exist_ok=True)
         status = self.run(self.words(jobs))
+        if status == -signal.SIGKILL and jobs > 1:
+            # most likely for want of memory
+            status = self.run(self.words(1))
         is_proved = status == 0 and re.search(r"^logic=proved ", rtlib.text_of(self.file("log")), re.M)
         if not is_proved or (self.crate.is_program and self.run(self.link())):
             return False
         # A text that changed in the meantime is proved again the next time.
-        if stamp == self.stamp():
-            self.note("stamp", stamp)
-            self.note("seconds", f"{jobs * (time.monotonic() - start):.0f}")
+        if self.source == self.source_sum():
+            self.note("stamp", self.stamp)
+            self.note("seconds", f"{self.seconds:.0f}")
         return True
 
     def note(self, name, text):
@@ -234,10 +250,16 @@ def main(words):
     for work in works:
         if work.crate.is_program and work.name in names and not is_check:
             leave(work)
-    minutes = (time.monotonic() - schedule.start) / 60
-    print(f"{len(works)} crates are proved, in {minutes:.1f} minutes. The verdict on a change is `rt ci`.")
+    minutes, spent = (time.monotonic() - schedule.start) / 60, sum(it.seconds for it in works) / 60
+    print(f"{len(works)} crates are proved; it took {minutes:.1f} minutes, and {spent:.1f} of processor time.")
+    print("The verdict on a change is `rt ci`, which proves everything from nothing.")
     return 0
 
 
 if __name__ == "__main__":
-    sys.exit(main(sys.argv[1:]))
+    try:
+        sys.exit(main(sys.argv[1:]))
+    except KeyboardInterrupt:
+        print("stopped", flush=True)
+        # (what was begun ends with this process)
+        os._exit(130)
