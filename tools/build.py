@@ -151,8 +151,9 @@ class Work:
             it.write(text)
 
     def last_lines(self):
+        """The end of what the prover said, without what it loaded."""
         lines = (rtlib.text_of(self.file("log")) or "").rstrip("\n").split("\n")
-        return "\n".join(lines[-SHOWN_LINES:])
+        return "\n".join([it for it in lines if not it.startswith(("statements ", "logic "))][-SHOWN_LINES:])
 
 
 def works_for(names):
