@@ -28,10 +28,10 @@
 
 mod disks;
 mod edits;
+mod printing;
 mod processes;
 mod queries;
 mod questions;
-mod shells;
 mod shown;
 mod system;
 mod texts;
@@ -48,7 +48,7 @@ fn answer(rt: &HostRuntime, paragraph: &[String]) -> io::Result<()> {
     match subject.as_str() {
         "variables" => variables::answer(rt, lines),
         "system" => questions::answer(rt, lines),
-        "shells" => shells::answer(rt, lines),
+        "shells" => printing::answer(rt, lines),
         _ => println!(rt; "no such questions: {subject}"),
     }?;
     println!(rt;)

@@ -23,11 +23,11 @@ pub enum Verdict {
 }
 
 /// Whether unloading undoes what the command did.
-fn is_reversible(record: &Record) -> bool
-    ensures { result ≡ ways.is_reversible (record_view record.now) }
+fn is_reversible(command: &Record) -> bool
+    ensures { result ≡ ways.is_reversible (record_view command.now) }
 {
     !matches!(
-        record,
+        command,
         Record::Unset { value: None, .. }
             | Record::Path {
                 edit: PathEdit::Remove,
