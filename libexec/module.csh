@@ -14,6 +14,9 @@ if ( $#_module_words == 1 ) set _module_words = ( $_module_words:q help )
 switch ( "x$_module_words[2]" )
 case xhelp:
 case x--help:
+    set _module_way = report
+    if ( $#_module_words == 2 ) set _module_way = usage
+    breaksw
 case x--version:
     if ( $#_module_words == 2 ) set _module_way = usage
     breaksw

@@ -11,6 +11,7 @@ import time
 from harness import SECONDS, Failed, case, same, true
 from sessions import Session
 from shells import content
+from ways import pages
 
 # How each shell is started at a terminal.
 AT_TERMINAL = {
@@ -139,6 +140,47 @@ def add(shell, prefixes):
         at.send(f"module load foo | /bin/cat > '{place}/piped'; echo done > '{place}/done'\n")
         at.until(lambda: content(os.path.join(place, "done")) == b"done\n", "the end of the load")
         same(content(os.path.join(place, "piped")), b"", "what a load pipes")
+        at.close()
+
+    @named("says why avail finds nothing")
+    def finds_nothing(folder):
+        here, at, place = start(folder)
+        here.stand_in.write("avail", b"")
+        unset = {"sh": "unset MODULEPATH", "csh": "unsetenv MODULEPATH", "fish": "set -e MODULEPATH"}[shell.family]
+        # What is typed, what the terminal shows, and what the pipe takes.
+        for number, (line, shown) in enumerate(
+            (
+                ("module avail", b"No module is in the directories of MODULEPATH: " + folder.modules),
+                ("module avail 'gcc*'", b'"avail" takes the beginnings of names'),
+                ("ml avail --terse", b"no patterns and no options."),
+                (f"{unset}; module avail", b"No MODULEPATH is set."),
+                ("module avail x", b"No MODULEPATH is set."),
+            )
+        ):
+            at.settle(0.1)
+            at.seen = b""
+            at.send(f"{line} | /bin/cat > '{place}/piped.{number}'\n")
+            at.until(lambda shown=shown: shown in at.seen, f"what is shown for `{line}`")
+            same(content(os.path.join(place, f"piped.{number}")), b"", f"what `{line}` pipes")
+        here.stand_in.write("avail", b"/m:\nfoo/1.0\n")
+        at.settle(0.1)
+        at.send(f"module avail f > '{place}/found'\n")
+        at.until(lambda: content(os.path.join(place, "found")) == b"/m:\nfoo/1.0\n", "what is found")
+        at.settle(0.1)
+        os.remove(os.path.join(here.stand_in.path, "avail"))
+        word = "$?" if shell.family == "sh" else "$status"
+        at.send(f"module avail f > '{place}/refused'; echo {word} > '{place}/status'\n")
+        at.until(lambda: content(os.path.join(place, "status")) == b"1\n", "the status of a refusal")
+        same(content(os.path.join(place, "refused")), b"ERROR: Reading failed\n", "a refusal")
+        at.close()
+
+    @named("pipes what help says of a module")
+    def pipes_help(folder):
+        here, at, place = start(folder)
+        here.stand_in.answer(b"", b"foo/1.0: a foo\n")
+        at.send(f"module help foo | /bin/cat > '{place}/piped'\n")
+        wanted = b"foo/1.0: a foo\n" + b'"module show NAME" says what a module does. Manual pages:\n' + pages(here.prefix)
+        at.until(lambda: content(os.path.join(place, "piped")) == wanted, "what help pipes")
         at.close()
 
     if shell.title not in COMPLETES:

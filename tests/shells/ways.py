@@ -1,6 +1,7 @@
 """What the init files promise besides loads and unloads, over the program that stands in."""
 
 import os
+import shutil
 
 from harness import case, same, true
 from sessions import REFUSAL, Session, same_environment
@@ -150,20 +151,47 @@ def add(shell, prefixes):
     @named("helps, and says its version")
     def helps(folder):
         here = session(folder)
-        here.stand_in.answer()
-        kept, done = here.run(["module help", "status", "module --help", "module", "ml help", "module help foo"])
+        kept, done = here.run(["module help", "status", "module --help", "module", "ml help"])
         help_text, rest = done.stdout[: len(done.stdout) // 4], done.stdout
         same(done.stderr, b"", "standard error")
         same(rest, help_text * 4, "the usage, four times")
         true(help_text.startswith(b"usage: module SUBCOMMAND"), "a usage is written")
         for name in ("load", "unload", "switch", "purge", "list", "avail", "show", "whatis"):
             true(name.encode() in help_text, f"the usage has {name}")
+        true(help_text.endswith(pages(here.prefix)), "the usage ends with where the pages are")
         same(kept.statuses, ["0"], "the status")
-        same(here.stand_in.words(), [[shell.init, "help", "foo"]], "the words that the program was given")
+        same(here.stand_in.words(), [], "the commands that the program was given")
         kept, done = here.run(["module --version", "status", "ml --version"])
         version = done.stdout.split(b"\n")
         same((len(version), version[0], version[2]), (3, version[1], b""), "a line, twice")
         true(version[0].startswith(b"modulecmd "), "it names the program")
+
+    @named("helps about a module by what it is, and where the pages are")
+    def helps_about(folder):
+        here = session(folder)
+        for _ in range(3):
+            here.stand_in.answer(b"", b"foo/1.0: a foo\n")
+        here.stand_in.answer(b"", REFUSAL, 1)
+        lines = ["module help 'a  *' foo", "status", "module --help foo", "ml help foo", "module help nope/1", "status"]
+        kept, done = here.run(lines)
+        more = b'"module show NAME" says what a module does. Manual pages:\n' + pages(here.prefix)
+        same(done.stderr, (b"foo/1.0: a foo\n" + more) * 3 + REFUSAL, "standard error")
+        same((done.stdout, kept.statuses), (b"", ["0", "1"]), "standard output and the statuses")
+        names = [["a  *", "foo"], ["foo"], ["foo"], ["nope/1"]]
+        same(here.stand_in.words(), [[shell.init, "whatis", *given] for given in names], "the words")
+
+    @named("names pages that man finds")
+    def man_pages(folder):
+        here = session(folder, by_program=True)
+        _, done = here.run(["module help"])
+        found = [line.strip() for line in done.stdout.decode().split("\n") if line.startswith("  man -M ")]
+        same([line.split()[-1] for line in found], ["module", "modulefile"], "the pages")
+        for line, name in zip(found, ("man1/module.1", "man5/modulefile.5")):
+            true(content(os.path.join(line.split("'")[1], name)), f"the file of {line}")
+            if shutil.which("man"):
+                kept, done = here.run([f"{line} | /bin/cat"])
+                same(done.stderr, b"", f"what {line} says")
+                true(line.split()[-1].upper().encode() in done.stdout, f"the page that {line} shows")
 
     @named("ml lists, loads and unloads")
     def short(folder):
@@ -197,6 +225,45 @@ def add(shell, prefixes):
         lines = ["module list", "module show a", "module display a", "module whatis a", "ml", "status"]
         kept = here.keeps(lines, err=report * 5)
         same(kept.statuses, ["0"], "the status")
+
+    # In BSD csh an alias has no words behind it that a redirection could be, see module(1).
+    keeps_redirections = named if title != "BSD csh" else lambda _: lambda function: function
+
+    @keeps_redirections("lets every subcommand be redirected and piped")
+    def redirected(folder):
+        here = session(folder)
+        here.stand_in.write("avail", b"said 0\n")
+        words = [["load", "foo"], ["unload", "foo"], ["switch", "foo"], ["purge"], ["list"], ["show", "foo"]]
+        words += [["whatis", "foo"], ["nope"], ["avail", "foo"]]
+        both = ">&" if shell.family == "csh" else "2>"
+        pipe = "|&" if shell.family == "csh" else "2>&1 |"
+        lines, wanted = [], []
+        for number, word in enumerate(words):
+            for way in ("redirected", "piped", "short"):
+                path = os.path.join(folder.path, f"{number}.{way}".encode()).decode()
+                err = b"said 0\n" if word[0] == "avail" else f"said {number} {way}\n".encode()
+                # `ml` loads what isn't its own word.
+                line = f"{'ml' if way == 'short' else 'module'} {' '.join(word)}"
+                if way == "piped":
+                    lines.append(f"{line} {pipe} /bin/cat > '{path}'")
+                else:
+                    lines.append(f"{line} {both} '{path}'")
+                if word[0] != "avail":
+                    here.stand_in.answer(b"", err, 1 if number % 2 else 0)
+                wanted.append((path, err))
+        kept, done = here.run(["show", *lines, "show"])
+        same((done.stdout, done.stderr), (b"", b""), "what is written elsewhere")
+        for path, err in wanted:
+            same(content(path), err, f"what {path.split('/')[-1]} holds")
+        same_environment(kept.shown[1], kept.shown[0], "the environment after")
+
+    @keeps_redirections("lets the usage be redirected and piped")
+    def usage_redirected(folder):
+        here = session(folder)
+        path = folder.path.decode()
+        here.run([f"module help > '{path}/help'", f"module --version | /bin/cat > '{path}/version'"])
+        true(content(f"{path}/help").startswith(b"usage: module"), "the usage is there")
+        true(content(f"{path}/version").startswith(b"modulecmd "), "the version is there")
 
     @named("leaves nothing behind")
     def nothing_left(folder):
@@ -339,6 +406,11 @@ def add(shell, prefixes):
             block = ["foreach n ( 1 2 )", "module load foo/1.0", "module unload foo", "end", "if ( 1 ) then"]
             kept = here.keeps(["show", *block, "module load foo/1.0", "endif", "show"])
             same_environment(kept.shown[1], here.loaded(kept.shown[0]), "the environment")
+
+
+def pages(prefix):
+    """The lines that name the pages."""
+    return f"  man -M '{prefix}/share/man' module\n  man -M '{prefix}/share/man' modulefile\n".encode()
 
 
 def volatile(line):
