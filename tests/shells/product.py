@@ -333,6 +333,7 @@ def add_names(prefixes):
 
         same(names("avail"), ["bar/1", "foo/1.0", "foo/2.0"], "what can be loaded")
         same(names("avail", "fo"), ["foo/1.0", "foo/2.0"], "what can be loaded and begins so")
+        same(names("avail", "'fo"), ["bar/1", "foo/1.0", "foo/2.0"], "what can be loaded, where a quote is typed")
         same(names("loaded"), ["foo/1.0", "baz/3"], "what is loaded")
         for line, wanted in (
             ("module load fo", ["foo/1.0", "foo/2.0"]),
@@ -341,6 +342,8 @@ def add_names(prefixes):
             ("module unload f", ["foo/1.0", "baz/3"]),
             ("module switch b", ["foo/1.0", "baz/3", "bar/1"]),
             ("module switch foo b", ["bar/1"]),
+            ("module avail fo", ["foo/1.0", "foo/2.0"]),
+            ("module help ba", ["bar/1"]),
             ("module purge ", []),
             ("ml -b", ["-foo/1.0", "-baz/3"]),
         ):

@@ -29,7 +29,25 @@ STARTS = {"zsh": ["autoload -Uz compinit && compinit -u -D"]}
 
 COMPLETES = ("bash", "zsh", "tcsh", "fish")
 
-AVAIL = b"/m:\nbar/1\nbar/2(default)\nfoo/1.0\nodd$(>HERE)/1\n/n:\nonly/1\n"
+AVAIL = b"/m:\nbar/1\nbar/2(default)\nfoo/1.0\nodd$(>HERE)/1\nit's!/1\n/n:\nonly/1\n"
+
+
+# What bash completes behind an opened quote or a backslash; the names are quoted by the completion itself.
+IN_QUOTES = (
+    ('module load "\tfo\t', ["load", "foo/1.0"]),
+    ('module load "od\t', ["load", "odd$(>HERE)/1"]),
+    ('module load "odd\\$\t', ["load", "odd$(>HERE)/1"]),
+    ("module load o\\dd\t", ["load", "odd$(>HERE)/1"]),
+    ('module load "it\t', ["load", "it's!/1"]),
+    ("module load 'it\t", ["load", "it's!/1"]),
+    ("module load it\\'\t", ["load", "it's!/1"]),
+    ("module load f\"oo/\t", ["load", "foo/1.0"]),
+    ("module load f'o'\t", ["load", "foo/1.0"]),
+    ("module unload 'ba\t", ["unload", "baz/3"]),
+    ('module "unlo\tfoo/1.0', ["unload", "foo/1.0"]),
+    ('ml -"ba\t', ["unload", "baz/3"]),
+    ("ml 'only\t", ["load", "only/1"]),
+)
 
 
 class Terminal:
@@ -206,6 +224,12 @@ def add(shell, prefixes):
             ("module load od\t", ["load", "odd$(>HERE)/1"]),
             ("ml only\t", ["load", "only/1"]),
             ("ml -ba\t", ["unload", "baz/3"]),
+            ("module help fo\t", ["whatis", "foo/1.0"]),
+            ("module load it\t", ["load", "it's!/1"]),
+            ('module load "fo\t', ["load", "foo/1.0"]),
+            ("module load 'od\t", ["load", "odd$(>HERE)/1"]),
+            ("module load odd\\$\t", ["load", "odd$(>HERE)/1"]),
+            *(IN_QUOTES if shell.title == "bash" else ()),
         ]
         for number, (keys, words) in enumerate(typed):
             here.stand_in.answer()
@@ -221,6 +245,14 @@ def add(shell, prefixes):
             same(here.stand_in.words()[number], [shell.init, *words], f"the words of {keys!r}")
             at.settle(0.1)
         same(os.listdir(place), ["ready"], "the files that completion makes")
+        asked = os.path.join(here.stand_in.path, "asked")
+        at.send("module avail fo")
+        at.settle(0.1)
+        at.send("\t")
+        at.settle(0.3)
+        at.send("\n")
+        wanted = f"{shell.init} avail foo/1.0\n".encode()
+        at.until(lambda: content(asked).endswith(wanted), "the words of a completed avail")
         at.close()
 
     if shell.title == "zsh":
