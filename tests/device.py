@@ -11,17 +11,19 @@ import sys
 
 from harness import FOO, case, loaded, refuser, refuses_each, run_all
 
-# Errors that tell of no absence.
+# Errors that tell of no absence, and those that tell of none where what a look has found is opened or read.
 ERRORS = (errno.EIO, errno.EACCES, errno.EMFILE, errno.ELOOP, errno.ESTALE)
+BEHIND_A_LOOK = (errno.ENOENT, errno.ENOTDIR)
 
 
-def answers_or_fails(folder, words, env):
+def answers_or_fails(folder, words, env, errors=(*ERRORS, *BEHIND_A_LOOK)):
     """The program answers as with a sound device, or changes nothing and says why."""
     shim = refuser(folder.path, "failing_calls")
-    for error in ERRORS:
+    for error in errors:
 
         def run(asked, error=error):
-            done = folder.run(*words, env={**env, **asked, b"FAIL_WITH": b"%d" % error})
+            only = {b"FAIL_SEEN": b"1"} if error in BEHIND_A_LOOK else {}
+            done = folder.run(*words, env={**env, **asked, **only, b"FAIL_WITH": b"%d" % error})
             return done.stdout, done.stderr, done.returncode
 
         refuses_each(shim, run, (b"", b"ERROR: Reading failed\n", 1).__eq__, f"{words} by {errno.errorcode[error]}")
@@ -54,7 +56,7 @@ def a_load_from_the_second_directory(folder):
 
 @case
 def a_name_that_is_not_there(folder):
-    answers_or_fails(folder, ["sh", "load", "nope"], versions(folder))
+    answers_or_fails(folder, ["sh", "load", "nope"], versions(folder), ERRORS)
 
 
 @case
@@ -65,7 +67,7 @@ def an_unload_and_a_switch(folder):
     answers_or_fails(folder, ["sh", "unload", "foo"], env)
     answers_or_fails(folder, ["csh", "switch", "foo", "ver"], env)
     env = loaded(folder, "gone/1")
-    answers_or_fails(folder, ["sh", "unload", "gone"], env)
+    answers_or_fails(folder, ["sh", "unload", "gone"], env, ERRORS)
 
 
 @case

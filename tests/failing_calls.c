@@ -1,5 +1,5 @@
 /* For tests: a system of whose reads one fails, the FAIL_AT-th, or each from the FAIL_FROM-th on: by errno FAIL_WITH, or
- * EIO. */
+ * EIO. With FAIL_SEEN only those are counted that open or read what was looked at before, and was there. */
 #define _GNU_SOURCE
 #include <dlfcn.h>
 #include <dirent.h>
@@ -7,6 +7,7 @@
 #include <fcntl.h>
 #include <stdarg.h>
 #include <stdlib.h>
+#include <string.h>
 #include <sys/stat.h>
 #include <unistd.h>
 
@@ -18,14 +19,43 @@ static long number_in(const char *name)
     return text ? atol(text) : 0;
 }
 
-static int fails(void)
+/* The paths that were there. */
+static char *seen[1024];
+static int seen_count;
+
+static void note(const char *path)
 {
-    static long one, all, with;
-    if (asked == 0) {
+    if (*path && seen_count < 1024)
+        seen[seen_count++] = strdup(path);
+}
+
+/* A call by a file that is open has no path, and the file was there. A directory is opened with a slash at its end. */
+static int was_seen(const char *path)
+{
+    if (!path || !*path)
+        return 1;
+    size_t length = strlen(path);
+    if (path[length - 1] == '/')
+        length -= 1;
+    for (int i = 0; i < seen_count; i++)
+        if (strlen(seen[i]) == length && strncmp(seen[i], path, length) == 0)
+            return 1;
+    return 0;
+}
+
+static int fails(const char *path)
+{
+    static long one, all, with, only_seen;
+    static int is_read;
+    if (!is_read) {
+        is_read = 1;
         one = number_in("FAIL_AT");
         all = number_in("FAIL_FROM");
         with = number_in("FAIL_WITH");
+        only_seen = number_in("FAIL_SEEN");
     }
+    if (only_seen && !was_seen(path))
+        return 0;
     asked += 1;
     if (asked != one && (all == 0 || asked < all))
         return 0;
@@ -47,7 +77,7 @@ int open(const char *path, int flags, ...)
     va_end(rest);
     if (!real)
         real = dlsym(RTLD_NEXT, "open");
-    return fails() ? -1 : real(path, flags, mode);
+    return fails(path) ? -1 : real(path, flags, mode);
 }
 
 int openat(int dir, const char *path, int flags, ...)
@@ -59,7 +89,7 @@ int openat(int dir, const char *path, int flags, ...)
     va_end(rest);
     if (!real)
         real = dlsym(RTLD_NEXT, "openat");
-    return fails() ? -1 : real(dir, path, flags, mode);
+    return fails(path) ? -1 : real(dir, path, flags, mode);
 }
 
 ssize_t read(int file, void *to, size_t count)
@@ -67,7 +97,7 @@ ssize_t read(int file, void *to, size_t count)
     static ssize_t (*real)(int, void *, size_t);
     if (!real)
         real = dlsym(RTLD_NEXT, "read");
-    return fails() ? -1 : real(file, to, count);
+    return fails(NULL) ? -1 : real(file, to, count);
 }
 
 ssize_t getdents64(int dir, void *to, size_t count)
@@ -75,7 +105,9 @@ ssize_t getdents64(int dir, void *to, size_t count)
     static ssize_t (*real)(int, void *, size_t);
     if (!real)
         real = dlsym(RTLD_NEXT, "getdents64");
-    return fails() ? -1 : real(dir, to, count);
+    /* So the system ends the list of a directory that was removed. */
+    int is_end = number_in("FAIL_SEEN") && number_in("FAIL_WITH") == ENOENT;
+    return !is_end && fails(NULL) ? -1 : real(dir, to, count);
 }
 
 int statx(int dir, const char *restrict path, int flags, unsigned int mask, struct statx *restrict to)
@@ -83,5 +115,11 @@ int statx(int dir, const char *restrict path, int flags, unsigned int mask, stru
     static int (*real)(int, const char *, int, unsigned int, struct statx *);
     if (!real)
         real = dlsym(RTLD_NEXT, "statx");
-    return fails() ? -1 : real(dir, path, flags, mask, to);
+    int is_look = *path != 0;
+    if (!(is_look && number_in("FAIL_SEEN")) && fails(path))
+        return -1;
+    int answer = real(dir, path, flags, mask, to);
+    if (answer == 0)
+        note(path);
+    return answer;
 }

@@ -8,13 +8,20 @@ The expected texts are typed by hand from the rules of the program. Whatever is 
 
 import os
 import random
+import re
 import resource
 import socket
 import subprocess
 import sys
 import time
 
+import runs
 from harness import FOO, NOBODY, case, encoded, loaded, run_all, same, true
+from worked import FILES
+
+sys.path.insert(1, os.path.join(os.path.dirname(os.path.abspath(__file__)), "shells"))
+
+from texts import text as text_for  # noqa: E402
 
 SECONDS = 20
 MOST_BYTES = 1_048_576
@@ -669,33 +676,102 @@ def variables_of_junk(folder):
     same((done.stderr, done.returncode), (b"", 0), "a load beside odd entries")
 
 
-# The beginnings of files.
+# The beginnings of files: what each means, by a reader of its own of the commands in the worked files.
 
-FILES = (
-    "setenv FOO on\nprepend-path PATH /opt/foo/bin\n",
-    "prepend-path P /a:/b\n",
-    'append-path MANPATH ""\n',
-    "pushenv CC gcc\n",
-    "conflict k\n",
-    "prereq gcc\nsetenv MPI 1\n",
-    "if {[module-info mode load]} {setenv X 1}\n",
-    "setenv A {b",
-    'setenv MSG "a\\nb"\n',
-    'setenv Q "it\'s!"\n',
-)
+# How many words the commands of modulefiles need behind their names, and how many they take.
+NEEDS = {"setenv": (2, 2), "pushenv": (2, 2), "prepend-path": (2, 99), "append-path": (2, 99)}
+NEEDS.update({"conflict": (1, 99), "prereq": (1, 99)})
+
+ENDS = {"{": "}", '"': '"'}
+UNCLOSED = {"{": "Missing close-brace at byte {}", '"': "Missing close-quote at byte {}"}
+
+
+class Said(Exception):
+    """A file is refused, with this text."""
+
+
+def word_at(text, at):
+    """A word: what it means, and where it ends. A word in braces isn't substituted, nor are there brackets in others."""
+    first = text[at]
+    if first not in ENDS:
+        end = at + len(re.match(r"\S+", text[at:])[0])
+        return text[at:end], end
+    depth, end = 1, at + 1
+    while end < len(text) and depth:
+        depth += text[end] == "{" == first
+        depth -= text[end] == ENDS[first]
+        end += 2 if text[end] == "\\" else 1
+    if depth:
+        raise Said(UNCLOSED[first].format(at))
+    word = text[at + 1 : end - 1]
+    return (word.replace("\\n", "\n") if first == '"' else word), end
+
+
+def commands_of(text):
+    """The commands behind the first line, each with the number of its line and its words."""
+    found, words, at = [], [], len(COOKIE)
+    while at < len(text):
+        if text[at] == "\n":
+            found, words, at = found + [words], [], at + 1
+        elif text[at] == " ":
+            at += 1
+        else:
+            word, at = word_at(text, at)
+            words.append(word)
+    return [(number + 2, words) for number, words in enumerate(found + [words]) if words]
+
+
+def records_of(line, words):
+    """What a command of a worked file means: records as the model of loads and unloads has them."""
+    name, *rest = words
+    if name in NEEDS:
+        least, most = NEEDS[name]
+        if not least <= len(rest) <= most:
+            raise Said("Bad arguments")
+        if name.endswith("path"):
+            return [(name, ":", rest[0], ":".join(rest[1:]).split(":"))]
+        return [(name, rest)] if least == 1 else [(name, *rest)]
+    if name == "if" and len(rest) == 2:
+        return records_of(line, rest[1].split())
+    if name == "catch" and rest:
+        raise Said("Too many commands")
+    if name in ("if", "set", "append", "catch"):
+        raise Said(f'wrong # args for "{name}" (line {line})')
+    raise Said(f'invalid command name "{name}" (line {line})')
+
+
+def meaning(name, path, whole, start):
+    """What a load of a file with this text says, or the text that it prints."""
+    if not whole.startswith(COOKIE[:-1].decode()):
+        raise Said(f"Unable to locate a modulefile for '{name}'")
+    records = [record for line, words in commands_of(whole) for record in records_of(line, words)]
+    for record in records:
+        if record[0] == "prereq":
+            raise Said(f"Missing one of '{' '.join(record[1])}'")
+    after = runs.moved(start, "load", (name, path, records))
+    return text_for("sh", {key: after.get(key) for key in {*start, *after} if start.get(key) != after.get(key)})
 
 
 @case
 def beginnings_of_files(folder):
-    for number, text in enumerate(FILES):
-        whole = COOKIE + text.encode()
-        for end in range(len(whole)):
-            folder.file(f"part/{number}", whole[:end])
+    """Every beginning of every worked file, the whole file with them."""
+    counts = {"accepted": 0, "refused": 0}
+    for number, text in enumerate(FILES.values()):
+        whole = COOKIE.decode() + text
+        for end in range(len(whole) + 1):
+            name = f"part/{number}"
+            path = folder.file(name, whole[:end])
             what = f"a load of {whole[:end]!r}"
-            done = ends_well(folder, ["sh", "load", f"part/{number}"], folder.environment(), what)
-            if end < len(COOKIE) - 1:
-                said = f"ERROR: Unable to locate a modulefile for 'part/{number}'\n"
-                same(done.stderr, said.encode(), what)
+            done = within(folder, ["sh", "load", name], folder.environment())
+            try:
+                wanted = (meaning(name, path.decode(), whole[:end], {"MODULEPATH": folder.modules.decode()}), b"", 0)
+                counts["accepted"] += 1
+            except Said as said:
+                wanted = (b"", b"ERROR: " + str(said).encode() + b"\n", 1)
+                counts["refused"] += 1
+            same((done.stdout, done.stderr, done.returncode), wanted, what)
+    same(len(FILES), 23, "the files")
+    true(min(counts.values()) > 100, f"the counts {counts}")
 
 
 if __name__ == "__main__":

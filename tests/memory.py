@@ -1,8 +1,10 @@
 """What the built program does where memory is refused: what it does with ample memory, or `Out of memory` alone."""
 
+import os
 import sys
 
 from harness import FOO, case, encoded, loaded, refuser, refuses_each, run_all
+from worked import FILES
 
 
 def answers_or_refuses(folder, words, env):
@@ -85,6 +87,53 @@ def a_search_with_too_little_memory(folder):
     folder.module("other/1", "")
     for words in (["load", "ver"], ["avail"], ["show", "ver"], ["whatis", "ver", "ver/1.10"], ["load", "other"]):
         answers_or_refuses(folder, ["sh", *words], folder.environment())
+
+
+def worked(folder, modulepath="m"):
+    """The files of the worked rows, and an environment with this directory alone."""
+    for path, text in FILES.items():
+        place = folder.path + path.encode()
+        os.makedirs(os.path.dirname(place), exist_ok=True)
+        with open(place, "wb") as file:
+            file.write(b"#%Module\n" + text.encode())
+    return {b"MODULEPATH": os.path.join(folder.path, modulepath.encode())}
+
+
+@case
+def the_worked_unload_with_too_little_memory(folder):
+    env = worked(folder)
+    lists = {b"LOADEDMODULES": b"foo/1.0", b"_LMFILES_": folder.path + b"/m/foo/1.0"}
+    env = {**env, **lists, b"FOO": b"on", b"PATH": b"/opt/foo/bin:/usr/bin:/bin"}
+    text = b"unset FOO;\nunset LOADEDMODULES;\nPATH='/usr/bin:/bin'; export PATH;\nunset _LMFILES_;\n"
+    for name in ("foo/1.0", "foo"):
+        folder.accepts(["sh", "unload", name], text, env=env)
+        answers_or_refuses(folder, ["sh", "unload", name], env)
+
+
+@case
+def the_worked_needs_with_too_little_memory(folder):
+    env = worked(folder)
+    answers_or_refuses(folder, ["sh", "load", "gcc", "mpi"], env)
+    folder.refuses(["sh", "load", "mpi"], "Missing one of 'gcc'", env=env)
+    answers_or_refuses(folder, ["sh", "load", "mpi"], env)
+    paths = folder.path + b"/m/gcc/9:" + folder.path + b"/m/mpi/1"
+    lists = {b"LOADEDMODULES": b"gcc/9:mpi/1", b"_LMFILES_": paths, b"__MODULES_LMPREREQ": b"mpi/1&gcc"}
+    env = {**env, **lists, b"GCC": b"9", b"MPI": b"1"}
+    folder.refuses(["sh", "unload", "gcc"], "Still needed by 'mpi/1'", env=env)
+    for words in (["unload", "gcc"], ["unload", "gcc", "mpi"]):
+        answers_or_refuses(folder, ["sh", *words], env)
+
+
+@case
+def the_worked_default_file_with_too_little_memory(folder):
+    env = worked(folder, "n")
+    for report in (b"ver/1.9\n", b"ver/1.9(default)\n"):
+        report = folder.path + b"/n:\n" + report + b"ver/1.10\nver/1.10-rc\n"
+        folder.answers(["sh", "avail"], b"", report, 0, env=env)
+        for words in (["load", "ver"], ["avail"]):
+            answers_or_refuses(folder, ["sh", *words], env)
+        with open(folder.path + b"/n/ver/.version", "wb") as file:
+            file.write(b'#%Module\nset ModulesVersion "1.9"\n')
 
 
 @case
