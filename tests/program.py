@@ -832,6 +832,125 @@ def words_that_are_refused(folder):
     folder.answers(["sh", "avail"], b"", b"%s:\nfoo/1.0\n" % folder.modules, 0, env=env)
 
 
+# What the manual pages say of differences, and of ways out.
+
+
+@case
+def what_the_pages_say_of_names_and_versions(folder):
+    """The differences by which another module is loaded, or a conflict isn't seen."""
+    for name in ("gcc/9", "gcc/9~", "CVS/1", "abc/a", "abc/B", "num/1.9", "num/1.009", "only/sub/1", "sub/a/1", "sub/a/2"):
+        folder.module(name, "")
+    folder.module("sub/.modulerc", "module-version sub/a/1 default\n")
+    folder.module("two/1", "")
+    folder.module("two/2", "")
+    folder.module("two/.version", "module-version two/1 default\n")
+    folder.module("hidden/.1", "")
+    folder.module("blank/1 0", "")
+    found = {"gcc": "gcc/9~", "CVS": "CVS/1", "abc": "abc/a", "num": "num/1.9", "sub/a": "sub/a/2", "two": "two/2"}
+    for name, module in found.items():
+        folder.accepts(["sh", "load", name], b"".join(new_lists(folder, module)))
+    for name in ("only", "sub", "gcc/default", "gcc/latest", "GCC", "hidden", "blank"):
+        folder.refuses(["sh", "load", name], f"Unable to locate a modulefile for '{name}'")
+    for name in ("hidden/.1", "blank/1 0"):
+        folder.refuses(["sh", "load", name], f"Bad module name '{name}'")
+    folder.module("old/9.3.0", "")
+    for name in ("against", "needs", "asks"):
+        folder.module(f"{name}/1", {"against": "conflict old/9\n", "needs": "prereq old/9\n"}.get(name, ""))
+    folder.module("asks/1", "setenv A [is-loaded old/9][is-loaded old][is-loaded old/9.3.0]\n")
+    env = loaded(folder, "old/9.3.0")
+    true(folder.run("sh", "load", "against", env=env).returncode == 0, "conflict old/9 beside old/9.3.0")
+    folder.refuses(["sh", "load", "needs"], "Missing one of 'old/9'", env=env)
+    folder.refuses(["sh", "load", "old/9"], "Unable to locate a modulefile for 'old/9'", env=env)
+    true(folder.run("sh", "load", "asks", env=env).stdout.startswith(b"A='011'; "), "what is-loaded answers")
+    home = folder.environment(HOME=folder.path, MODULEPATH="$HOME/m")
+    folder.refuses(["sh", "load", "gcc"], "Unable to locate a modulefile for 'gcc'", env=home)
+    for word in ("gcc*", "*", "GCC", "--terse", "blank", "hidden"):
+        folder.answers(["sh", "avail", word], b"", b"", 0)
+    report = folder.modules + b":\ngcc/9\ngcc/9~\n"
+    twice = folder.environment(MODULEPATH=folder.modules + b":" + folder.modules)
+    folder.answers(["sh", "avail", "gcc"], b"", report * 2, 0, env=twice)
+
+
+@case
+def what_the_page_says_of_modulefiles(folder):
+    """The differences that a modulefile meets."""
+    folder.module("ends/1", "setenv A b\nreturn\nsetenv A c\n")
+    folder.accepts(["sh", "load", "ends"], b"".join([b"A='b'; export A;\n", *new_lists(folder, "ends/1")]))
+    folder.module("back/1", "setenv R /opt\nprepend-path PATH $env(R)/bin\n")
+    said = "can't read \"env(R)\": no such variable (line 3)"
+    for words in (["show", "back"], ["whatis", "back"], ["show", "ends", "back"], ["whatis", "ends", "back"]):
+        folder.refuses(["sh", *words], said)
+    folder.refuses(["sh", "unload", "back"], said, env=loaded(folder, "back/1", R="/opt", PATH="/opt/bin"))
+    for name in ("reportWarning", "reportError", "require-fullname", "always-load", "module-version"):
+        folder.module("foo/1", f"{name} x\n")
+        folder.refuses(["sh", "load", "foo"], f'invalid command name "{name}" (line 2)')
+    rows = (
+        ("setenv A $ModuleTool\n", 'can\'t read "ModuleTool": no such variable (line 2)'),
+        ("prepend-path -d :: P a\n", "Bad arguments"),
+        ("setenv a.b c\n", "Bad variable name 'a.b'"),
+        ("set env(A) b\n", "'env' is left out"),
+        ("setenv A $tcl_platform(os)\n", "'array' is left out"),
+        ("puts stdout a\n", "'puts' is left out"),
+        ("puts stderr a\nexit\n", "Stopped by the modulefile"),
+        ("puts stderr a\nbreak\n", "Stopped by the modulefile"),
+        ("puts stderr a\nerror {use foo/2}\n", "use foo/2 (line 3)"),
+        ("set a b\nerror here\nsetenv A\n", "here (line 3)"),
+        ("set a b\nsetenv A\nerror here\n", "Bad arguments"),
+        ('setenv A b\nif 1 {\n  setenv A "b\n}\n', "Missing close-quote at byte 12"),
+        ("setenv A [expr {1 +}]\n", "Bad expression at byte 3"),
+        *((f"module-info {word}\n", f"'module-info {word}' is left out") for word in ("type", "version", "symbols", "tags")),
+    )
+    for text, said in rows:
+        folder.module("foo/1", text)
+        folder.refuses(["sh", "load", "foo"], said)
+    folder.refuses(["sh", "purge", "x"], "Bad arguments")
+    folder.refuses(["sh", "load"], "Bad arguments")
+
+
+@case
+def what_the_page_says_of_files_from_windows(folder):
+    lists = b"".join(new_lists(folder, "foo/1"))
+    rows = (
+        (b"setenv A b\r\nsetenv B c\r\n", b"A='b'; export A;\nB='c'; export B;\n"),
+        (b"foreach x {B\r\nA} {\r\nsetenv $x 1\r\n}\r\n", b"A='1'; export A;\nB='1'; export B;\n"),
+        (b'setenv A "b\r\nc"\r\n', b"A='b\r\nc'; export A;\n"),
+    )
+    for text, out in rows:
+        folder.module("foo/1", text)
+        folder.accepts(["sh", "load", "foo"], out + lists)
+    folder.module("foo/1", b"prepend-path P /b \\\r\nsetenv X 1\r\n")
+    done = folder.run("sh", "load", "foo")
+    true(b"P='/b:\r'; export P;\n" in done.stdout and b"X='1'; export X;\n" in done.stdout, f"found {done.stdout!r}")
+    folder.module("foo/1", b"prepend-path P /b \\\r\n  /c\r\n")
+    folder.refuses(["sh", "load", "foo"], 'invalid command name "/c" (line 3)')
+
+
+@case
+def ways_out_of_refusals(folder):
+    """What the page advises works: a loaded module goes by an empty file, and GNU find names what can't be read."""
+    path = folder.module("kept/1", "")
+    env = folder.environment(LOADEDMODULES="gone/1:kept/1", _LMFILES_=folder.at("gone/1") + b":" + path)
+    said = b"No file at '" + folder.at("gone/1") + b"'"
+    folder.refuses(["sh", "purge"], said, env=env)
+    true(folder.run("sh", "unload", "kept", env=env).returncode == 0, "the other one goes")
+    other = folder.module("empty", "")
+    written = folder.environment(LOADEDMODULES="gone/1:kept/1", _LMFILES_=other + b":" + path)
+    for start in (written, env):
+        folder.accepts(["sh", "purge"], b"unset LOADEDMODULES;\nunset _LMFILES_;\n", env=start)
+        folder.module("gone/1", "")
+    os.chmod(folder.module("bad/1", ""), 0)
+    folder.module("shut/1", "")
+    os.chmod(os.path.dirname(folder.at("shut/1")), 0)
+    for name in ("bad", "shut"):
+        folder.refuses(["sh", "load", name], "Reading failed", user=NOBODY)
+    find = ["find", "-L", folder.modules, "(", "!", "-readable", "-o", "-type", "d", "!", "-executable", ")"]
+    user = {"user": NOBODY, "group": NOBODY, "extra_groups": []} if os.geteuid() == 0 else {}
+    done = subprocess.run(find, cwd="/", capture_output=True, check=False, **user)
+    os.chmod(os.path.join(folder.modules, b"shut"), 0o755)
+    wanted = [os.path.join(folder.modules, name) for name in (b"bad/1", b"shut")]
+    same(sorted(done.stdout.split(b"\n")[:-1]), wanted, "what find names")
+
+
 # Standard output and standard error.
 
 
