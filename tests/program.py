@@ -838,14 +838,11 @@ def words_that_are_refused(folder):
 @case
 def what_the_pages_say_of_names_and_versions(folder):
     """The differences by which another module is loaded, or a conflict isn't seen."""
-    for name in ("gcc/9", "gcc/9~", "CVS/1", "abc/a", "abc/B", "num/1.9", "num/1.009", "only/sub/1", "sub/a/1", "sub/a/2"):
+    names = ["gcc/9", "gcc/9~", "CVS/1", "abc/a", "abc/B", "num/1.9", "num/1.009", "only/sub/1", "sub/a/1", "sub/a/2"]
+    for name in [*names, "two/1", "two/2", "hidden/.1", "blank/1 0", "old/9.3.0"]:
         folder.module(name, "")
     folder.module("sub/.modulerc", "module-version sub/a/1 default\n")
-    folder.module("two/1", "")
-    folder.module("two/2", "")
     folder.module("two/.version", "module-version two/1 default\n")
-    folder.module("hidden/.1", "")
-    folder.module("blank/1 0", "")
     found = {"gcc": "gcc/9~", "CVS": "CVS/1", "abc": "abc/a", "num": "num/1.9", "sub/a": "sub/a/2", "two": "two/2"}
     for name, module in found.items():
         folder.accepts(["sh", "load", name], b"".join(new_lists(folder, module)))
@@ -853,9 +850,8 @@ def what_the_pages_say_of_names_and_versions(folder):
         folder.refuses(["sh", "load", name], f"Unable to locate a modulefile for '{name}'")
     for name in ("hidden/.1", "blank/1 0"):
         folder.refuses(["sh", "load", name], f"Bad module name '{name}'")
-    folder.module("old/9.3.0", "")
-    for name in ("against", "needs", "asks"):
-        folder.module(f"{name}/1", {"against": "conflict old/9\n", "needs": "prereq old/9\n"}.get(name, ""))
+    folder.module("against/1", "conflict old/9\n")
+    folder.module("needs/1", "prereq old/9\n")
     folder.module("asks/1", "setenv A [is-loaded old/9][is-loaded old][is-loaded old/9.3.0]\n")
     env = loaded(folder, "old/9.3.0")
     true(folder.run("sh", "load", "against", env=env).returncode == 0, "conflict old/9 beside old/9.3.0")
@@ -898,7 +894,7 @@ def what_the_page_says_of_modulefiles(folder):
         ("set a b\nsetenv A\nerror here\n", "Bad arguments"),
         ('setenv A b\nif 1 {\n  setenv A "b\n}\n', "Missing close-quote at byte 12"),
         ("setenv A [expr {1 +}]\n", "Bad expression at byte 3"),
-        *((f"module-info {word}\n", f"'module-info {word}' is left out") for word in ("type", "version", "symbols", "tags")),
+        *((f"module-info {word}\n", f"'module-info {word}' is left out") for word in ("type", "version", "tags")),
     )
     for text, said in rows:
         folder.module("foo/1", text)

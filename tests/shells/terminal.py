@@ -155,9 +155,14 @@ def add(shell, prefixes):
         at.send(f"module list; echo {word} > '{place}/status'\n")
         at.until(lambda: content(os.path.join(place, "status")) == b"7\n", "the status")
         at.settle(0.1)
-        at.send(f"module load foo | /bin/cat > '{place}/piped'; echo done > '{place}/done'\n")
+        both = ">&" if shell.family == "csh" else "2>"
+        at.settle(0.1)
+        here.stand_in.answer(b"", b"ERROR: no\n", 1)
+        at.send(f"module load foo | /bin/cat > '{place}/piped'; module load nope {both} '{place}/redirected'\n")
+        at.send(f"echo done > '{place}/done'\n")
         at.until(lambda: content(os.path.join(place, "done")) == b"done\n", "the end of the load")
         same(content(os.path.join(place, "piped")), b"", "what a load pipes")
+        same(content(os.path.join(place, "redirected")), b"ERROR: no\n", "what a refused load says")
         at.close()
 
     @named("says why avail finds nothing")

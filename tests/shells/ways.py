@@ -234,7 +234,8 @@ def add(shell, prefixes):
         here = session(folder)
         here.stand_in.write("avail", b"said 0\n")
         words = [["load", "foo"], ["unload", "foo"], ["switch", "foo"], ["purge"], ["list"], ["show", "foo"]]
-        words += [["whatis", "foo"], ["nope"], ["avail", "said"]]
+        words += [["whatis", "foo"], ["nope"], ["avail", "said"], ["add", "foo"], ["rm", "foo"], ["swap", "a", "b"]]
+        words += [["display", "foo"], ["del", "foo"], ["remove", "foo"]]
         both = ">&" if shell.family == "csh" else "2>"
         pipe = "|&" if shell.family == "csh" else "2>&1 |"
         lines, wanted = [], []
