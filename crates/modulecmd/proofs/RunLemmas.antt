@@ -17,7 +17,7 @@ use Rattle.requests.specs.Steps.{Done, RequestStep}
 use Rattle.modules.specs.Replies.{site_in}
 use Rattle.modulecmd.specs.Command.{Effect, CommandDoes, standard, with_shell}
 use Rattle.modulecmd.specs.Output.{LeadsBack}
-use Rattle.modulecmd.specs.Runs.{Accepted, ShellsHold, moves_of, CommandsReturn}
+use Rattle.modulecmd.specs.Runs.{PrintedCommand, ShellsHold, moves_in, ShellsReturn}
 use Rattle.modulecmd.proofs.CommandLemmas.{leads_back}
 
 -- ---- moves, cut in two
@@ -54,17 +54,17 @@ command_back returns one makes arguments e files listings f text (Ok r, is, (ste
 -- ---- all of them
 
 each : requests.CommandsReturn → OneEffect → DifferenceMakes → (ways : Text → Way) (files : Files) (listings : Listings) (start : Environment) → IsStart ways start
-    → (cs : List Accepted) (live : List Module) (e last : Environment) → Holds ways start live e → AreFit ways live → ShellsHold files listings e cs last
-    → AreNew start (moves_of cs) → AreFitting ways live (moves_of cs) → Holds ways start (live_after live (moves_of cs)) last
+    → (cs : List PrintedCommand) (live : List Module) (e last : Environment) → Holds ways start live e → AreFit ways live → ShellsHold files listings e cs last
+    → AreNew start (moves_in cs) → AreFitting ways live (moves_in cs) → Holds ways start (live_after live (moves_in cs)) last
 each returns one makes ways files listings start begin [] live e last holds fit is news fits = subst (Holds ways start live) (sym is) holds
 each returns one makes ways files listings start begin (c ∷ cs) live e last holds fit (does, says, next, made, after) news fits =
     let ms = c.effect.1.moves in
-    let n = new_front start ms (moves_of cs) news in
-    let f = fitting_front ways live ms (moves_of cs) fits in
+    let n = new_front start ms (moves_in cs) news in
+    let f = fitting_front ways live ms (moves_in cs) fits in
     let h = command_back returns one makes c.arguments e files listings c.effect c.text does says ways start next live begin holds.order holds.stands fit n.0 f.0 made in
-    subst (λ l. Holds ways start l last) (sym (live_together live ms (moves_of cs)))
+    subst (λ l. Holds ways start l last) (sym (live_together live ms (moves_in cs)))
     (each returns one makes ways files listings start begin cs (live_after live ms) next last h.0 h.1 after n.1 f.1)
 
-pub commands_return : RunsReturn → requests.CommandsReturn → OneEffect → DifferenceMakes → CommandsReturn
+pub commands_return : RunsReturn → requests.CommandsReturn → OneEffect → DifferenceMakes → ShellsReturn
 commands_return runs returns one makes ways files listings start last cs begin holds news fits =
     each returns one makes ways files listings start begin cs [] start last (runs ways start start [] begin tt refl) tt holds news fits

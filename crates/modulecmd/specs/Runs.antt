@@ -14,28 +14,28 @@ use Rattle.shelltext.specs.Reading.{MakesOf, SaysDifference}
 use Rattle.modulecmd.specs.Command.{Effect, CommandDoes}
 
 -- a command that was accepted: its arguments, what it did, and the text that it printed
-pub record Accepted : Type 0 where
+pub record PrintedCommand : Type 0 where
   pub arguments : List Text
   pub effect : Effect
   pub text : Text
 
 -- Over these files and folders each command comes to its effect in the environment that the shell holds, and its text
 -- says what that changes; the shell that ran it holds the next environment, and after all of them the last.
-abbrev pub ShellsHold : Files → Listings → Environment → List Accepted → Environment → Type 0
+abbrev pub ShellsHold : Files → Listings → Environment → List PrintedCommand → Environment → Type 0
 ShellsHold files listings e [] last = last ≡ e
 ShellsHold files listings e (c ∷ cs) last =
     CommandDoes c.arguments e files listings (Ok c.effect) × SaysDifference c.effect.0 c.text e c.effect.1.env
     × (next : Environment) × MakesOf c.effect.0 c.text e next × ShellsHold files listings next cs last
 
-abbrev pub moves_of : List Accepted → List Move
-moves_of cs = flat_map (λ c. c.effect.1.moves) cs
+abbrev pub moves_in : List PrintedCommand → List Move
+moves_in cs = flat_map (λ c. c.effect.1.moves) cs
 
 -- From a start in order, after any commands that unload no module of the start, load modules that are reversible and
 -- apart, and unload each with the records of its load: what the shell holds is in order and stands over the start with
 -- the modules that are live then. With none it is the start.
-abbrev pub CommandsReturn : Type 0
-CommandsReturn =
-    (ways : Text → Way) (files : Files) (listings : Listings) (start last : Environment) (cs : List Accepted)
+abbrev pub ShellsReturn : Type 0
+ShellsReturn =
+    (ways : Text → Way) (files : Files) (listings : Listings) (start last : Environment) (cs : List PrintedCommand)
     → IsStart ways start → ShellsHold files listings start cs last
-    → AreNew start (moves_of cs) → AreFitting ways [] (moves_of cs)
-    → Holds ways start (live_after [] (moves_of cs)) last
+    → AreNew start (moves_in cs) → AreFitting ways [] (moves_in cs)
+    → Holds ways start (live_after [] (moves_in cs)) last

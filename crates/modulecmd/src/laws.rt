@@ -1,11 +1,11 @@
 //! The law of commands one after another. It is a function that does nothing: its contract is the law.
-ghost use Rattle.modulecmd.specs.Runs.{CommandsReturn};
+ghost use Rattle.modulecmd.specs.Runs.{ShellsReturn};
 
 /// From a start in order, a shell that ran the text of each accepted command, whatever commands they were and whatever
 /// stood between that was refused, holds an environment that is in order and stands over the start; with none of the
 /// modules loaded it is the start. The commands are of new modules that are reversible and apart, over one tree.
 pub fn commands_return()
-    ensures { CommandsReturn }
+    ensures { ShellsReturn }
 {
     reversal::laws::runs();
     requests::command_returns();
