@@ -435,15 +435,22 @@ class Maker:
     def procedure(self):
         r = self.random
         name = "f%d" % len(self.procedures)
-        kind = r.randrange(4)
-        words = [("a", "b", "c"), ("a", "{b 3}", "{c {p q}}"), ("a", "args"), ("a", "{b 2}", "args")][kind]
-        whole = ["a", "::i0", "::i1"] + (["b"] if kind in (1, 3) else [])
-        texts = ["::s0"] + (["b"] if kind == 0 else [])
-        lists = ["::l0"] + (["args"] if "args" in words else ["c"])
+        kind = r.randrange(6)
+        words = [
+            ("a", "b", "c"),
+            ("a", "{b 3}", "{c {p q}}"),
+            ("a", "args"),
+            ("a", "{b 2}", "args"),
+            ("a", "b", "a"),
+            ("a", "{b 2}", "{b 5}", "{a 7}", "args"),
+        ][kind]
+        whole = ["a", "::i0", "::i1"] + (["b"] if kind in (1, 3, 5) else [])
+        texts = ["::s0"] + (["b"] if kind in (0, 4) else [])
+        lists = ["::l0"] + [name for name in ("args", "c") if any(name in word for word in words)]
         scope = Scope(whole, texts, lists, True)
         body = []
         if r.randrange(3) == 0:
-            body.append(command("global i2 l1"))
+            body.append(command(r.choice(["global i2 l1", "global i2 l1 i2"])))
             scope.whole.append("i2")
             scope.lists.append("l1")
         if r.randrange(3):
@@ -468,6 +475,12 @@ class Maker:
             parts = [self.whole(scope, 1), self.whole(scope, 1), self.list(scope, 1)][: r.randint(1, 3)]
         elif kind == 2:
             parts = [self.whole(scope, 1)] + [self.value(scope) for _ in range(r.randrange(4))]
+        elif kind == 4:
+            parts = [self.whole(scope, 1), self.text(scope, 1), self.value(scope)]
+        elif kind == 5:
+            parts = [self.whole(scope, 1) for _ in range(r.randint(1, 4))]
+            if len(parts) == 4:
+                parts += [self.value(scope) for _ in range(r.randrange(3))]
         else:
             parts = [self.whole(scope, 1), self.whole(scope, 1)][: r.randint(1, 2)]
             if len(parts) == 2:

@@ -9,7 +9,7 @@ use tclcommands::{
     Value, append, consult, define, exists, get, global, increase, list_append, put, set, unset,
 };
 use tclexpr::own_expr;
-use tclforms::{Form, core_form};
+use tclforms::{Form, Simple, core_form};
 use tclrules::{Limits, Recorder};
 use tclsteps::{Context, Control, Halt, Step, Stop, advance};
 use tclvalue::elements;
@@ -47,20 +47,20 @@ impl State {
     }
 }
 
-fn performed<'a>(alloc: Global, state: &mut State, form: Form<'a>) -> Result<Value<'a>, Stop> {
+fn performed<'a>(alloc: Global, state: &mut State, form: Simple<'a>) -> Result<Value<'a>, Stop> {
     let variables = &mut state.variables;
     let host = &mut state.host;
     match form {
-        Form::Get(name) => get(alloc, variables, host, name),
-        Form::Set(name, value) => set(alloc, variables, LIMIT, name, value),
-        Form::Unset(quiet, names) => unset(alloc, variables, quiet, names),
-        Form::Append(name, values) => append(alloc, variables, LIMIT, name, values),
-        Form::ListAppend(name, values) => list_append(alloc, variables, LIMIT, name, values),
-        Form::Increase(name, increases) => increase(alloc, variables, LIMIT, name, increases),
-        Form::Define(name, list, body) => define(alloc, variables, name, list, body),
-        Form::Exists(name) => exists(alloc, variables, host, name),
-        Form::Global(names) => global(alloc, variables, names),
-        Form::Put(words) => put(alloc, variables, host, words),
+        Simple::Get(name) => get(alloc, variables, host, name),
+        Simple::Set(name, value) => set(alloc, variables, LIMIT, name, value),
+        Simple::Unset(quiet, names) => unset(alloc, variables, quiet, names),
+        Simple::Append(name, values) => append(alloc, variables, LIMIT, name, values),
+        Simple::ListAppend(name, values) => list_append(alloc, variables, LIMIT, name, values),
+        Simple::Increase(name, increases) => increase(alloc, variables, LIMIT, name, increases),
+        Simple::Define(name, list, body) => define(alloc, variables, name, list, body),
+        Simple::Exists(name) => exists(alloc, variables, host, name),
+        Simple::Global(names) => global(alloc, variables, names),
+        Simple::Put(words) => put(alloc, variables, host, words),
         _ => Err(Stop::Halted(Halt::Stopped)),
     }
 }
@@ -111,10 +111,11 @@ fn of_form(
     words: &[String],
 ) -> Result<Option<String>, Stop> {
     match core_form(alloc, name, words)? {
-        Some(form) => {
+        Some(Form::Simple(form)) => {
             let value = performed(alloc, state, form)?;
             Ok(Some(value.into_text(alloc, &state.variables)?))
         }
+        Some(_) => Err(Stop::Halted(Halt::Stopped)),
         None => Ok(None),
     }
 }

@@ -1,12 +1,14 @@
 //! What a call gives the parameters of a procedure (proc(n)).
-ghost use Rattle.std.specs.Prelude.{◌≡◌, map, string_bytes};
+ghost use Rattle.std.specs.Prelude.{◌≡◌, OnOk, map, string_bytes};
 ghost use Rattle.tclchars.specs.Answers.{Gives};
 ghost use Rattle.tcloperators.specs.Faults.{reason_of};
 ghost use Rattle.tclrules.specs.Rules.{argument, taken, allotted};
 ghost use Rattle.tclvariables.specs.Views.{parameter_view};
 ghost use Rattle.tclarguments.specs.Views.{named_values, allotment_view};
+ghost use Rattle.tclarguments.specs.Firsts.{AreNamesOf, with_first};
 
-use std::alloc::Global;
+use indexmap::IndexSet;
+use std::alloc::{AllocError, Global};
 use tcloperators::{ValueFault, wrong_words};
 use tclvalue::list_text;
 use tclvariables::Parameter;
@@ -64,7 +66,26 @@ fn taken<'w>(
     argument(alloc, name, parameter, words)
 }
 
-/// The parameters of the procedure of this name, each with its value for these words.
+/// Keeps the value of a name, unless one is kept already.
+fn keep_first<'a>(
+    names: &mut IndexSet<&'a str>,
+    values: &mut Vec<(&'a str, String)>,
+    name: &'a str,
+    value: String,
+) -> Result<(), AllocError>
+    requires { AreNamesOf names.old.keys values.old.items }
+    ensures names { OnOk result (AreNamesOf names.new.keys values.new.items) }
+    ensures values { OnOk result (named_values values.new.items
+        ≡ with_first (named_values values.old.items) name.entry.now (string_bytes value)) }
+{
+    if names.insert(name)? {
+        values.push((name, value))?;
+    }
+    Ok(())
+}
+
+/// The parameters of the procedure of this name, each with its value for these words. Of a parameter that comes again
+/// the first value stands.
 ///
 /// Errors: `TclError` (13) where the words are too few or too many; `OutOfMemory` (11).
 pub fn allotted<'a>(
@@ -76,12 +97,18 @@ pub fn allotted<'a>(
     ensures { Gives reason_of (λ vs. named_values vs.items) result
         (allotted name.now (map parameter_view parameters.entry.now) (map string_bytes words.now)) }
 {
+    let mut names = IndexSet::new(alloc);
     let mut values = Vec::new(alloc);
     let mut rest = words;
     let mut parameters = parameters;
     while let [parameter, behind @ ..] = parameters {
         let allotment = taken(alloc, name, parameter, behind, rest)?;
-        values.push((parameter.name.as_str(), allotment.value))?;
+        keep_first(
+            &mut names,
+            &mut values,
+            parameter.name.as_str(),
+            allotment.value,
+        )?;
         rest = allotment.rest;
         parameters = behind;
     }

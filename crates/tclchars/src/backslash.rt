@@ -1,3 +1,4 @@
+//! What a backslash and the characters behind it stand for (Tcl(n), rule 9).
 ghost use Rattle.std.specs.Prelude.{true, ◌≡◌, ◌<◌, ◌≤◌, ◌^◌, ◌-◌, encode_utf8, option_map};
 ghost use Rattle.std.specs.Char.{digit_value};
 ghost use Rattle.tclchars.specs.Backslash.{after_backslash, letter_value, is_octal, begins_wide, digit_at, octal_at, hexadecimal_at, character, code_at, wide_code_at, begins_hexadecimal};

@@ -1,3 +1,4 @@
+//! The text that braces enclose (Tcl(n), rule 6).
 ghost use Rattle.std.specs.Prelude.{◌≡◌, ◌≤◌, ◌++◌, length, IfOk, OnOk, string_bytes};
 ghost use Rattle.tclchars.specs.BracedText.{braced_text, behind_backslash};
 

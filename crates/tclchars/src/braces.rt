@@ -1,3 +1,4 @@
+//! The brace that closes an open one (Tcl(n), rule 6).
 ghost use Rattle.std.specs.Prelude.{◌≡◌, ◌<◌, false, option_map};
 ghost use Rattle.tclchars.specs.Braces.{brace_step, braced_at};
 

@@ -1,3 +1,4 @@
+//! What can be wrong with a text, and where.
 ghost use Rattle.std.specs.Prelude.{◌≡◌, ◌≤◌, Some};
 ghost use Rattle.message.specs.Messages.{text_of};
 ghost use Rattle.tclchars.specs.Faults.{fault_message, fault_number};

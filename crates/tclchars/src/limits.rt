@@ -1,3 +1,5 @@
+//! How long a text may be, and how deep it may nest.
+
 /// The longest text that is parsed, in bytes.
 pub const MAX_BYTES: usize = 1_048_576;
 

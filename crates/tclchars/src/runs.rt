@@ -1,3 +1,4 @@
+//! Runs of characters of one class (Tcl(n), rules 1 to 9).
 ghost use Rattle.std.specs.Prelude.{◌≡◌, ◌<◌, ◌∷◌, false, MatchOption};
 ghost use Rattle.tclchars.specs.Bytes.{is_blank, is_end, is_gap, is_special, is_plain, is_space};
 ghost use Rattle.tclchars.specs.Runs.{front, back, begins};

@@ -50,7 +50,6 @@ fn is_there(variables: &Variables, global: bool, name: &str) -> bool
 }
 
 /// info exists, of info(n).
-#[tactic(none)]
 pub fn exists<'a, H: Host>(
     alloc: Global,
     variables: &Variables,

@@ -645,7 +645,9 @@ impl Evaluator {
             Form::Catch(body, name) => {
                 within(limits, self.catch(host, limits, left, body, name))
             }
-            form => plain(self.alloc, &mut self.variables, host, limits, wanted, form),
+            Form::Simple(form) => {
+                plain(self.alloc, &mut self.variables, host, limits, wanted, form)
+            }
         }
     }
 

@@ -76,7 +76,7 @@ fn truth_of(limits: Limits, made: Computed) -> Option<bool>
 {
     match made {
         Computed::Truth(holds) if limits.value_bytes > 0 => Some(holds),
-        _ => None,
+        Computed::Truth(_) | Computed::Whole(_) => None,
     }
 }
 

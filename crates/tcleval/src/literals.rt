@@ -14,7 +14,7 @@ ghost use Rattle.tclforms.specs.Views.{form_view};
 ghost use Rattle.tclsteps.specs.Machine.{shown, bounds};
 
 use crate::words::literal;
-use tclforms::Form;
+use tclforms::{Form, Simple};
 use tclrules::Limits;
 use tclscript::{ByteRange, Word};
 
@@ -41,8 +41,8 @@ fn form_alone(name: &str) -> Option<Form<'_>>
         × (command_value (name.entry.now ∷ []) limit ≡ Ok None)) }
 {
     match name {
-        "break" => Some(Form::Break),
-        "continue" => Some(Form::Continue),
+        "break" => Some(Form::Simple(Simple::Break)),
+        "continue" => Some(Form::Simple(Simple::Continue)),
         _ => None,
     }
 }
@@ -55,8 +55,8 @@ fn form_of_one<'t>(name: &str, word: &'t str) -> Option<Form<'t>>
         × (command_value (name.now ∷ word.entry.now ∷ []) limit ≡ Ok None)) }
 {
     match name {
-        "incr" => Some(Form::Increase(word, &[])),
-        "set" => Some(Form::Get(word)),
+        "incr" => Some(Form::Simple(Simple::Increase(word, &[]))),
+        "set" => Some(Form::Simple(Simple::Get(word))),
         _ => None,
     }
 }
@@ -69,7 +69,7 @@ fn form_of_two<'t>(name: &str, first: &'t str, second: &'t str) -> Option<Form<'
         × (command_value (name.now ∷ first.entry.now ∷ second.entry.now ∷ []) limit ≡ Ok None)) }
 {
     match name {
-        "set" => Some(Form::Set(first, second)),
+        "set" => Some(Form::Simple(Simple::Set(first, second))),
         _ => None,
     }
 }

@@ -5,7 +5,7 @@ ghost use Rattle.tclrules.specs.Variables.{State};
 ghost use Rattle.tclrules.specs.Plans as plans;
 ghost use Rattle.tclrules.specs.Plans.{Bounds, Job, Next, ended, raise, sized};
 ghost use Rattle.tclrules.specs.Rules as rules;
-ghost use Rattle.tclforms.specs.Views.{form_view};
+ghost use Rattle.tclforms.specs.Views.{simple_view};
 ghost use Rattle.tclsteps.specs.Machine.{bounds};
 ghost use Rattle.tclsteps.specs.Stops.{after, stopped};
 ghost use Rattle.tclcommands.specs.Does.{value_text};
@@ -17,7 +17,7 @@ use tclarguments::is_left_out;
 use tclcommands::{
     Value, append, consult, define, exists, get, global, increase, list_append, put, set, unset,
 };
-use tclforms::Form;
+use tclforms::Simple;
 use tclrules::{Host, Limits};
 use tclsteps::{Halt, Stop};
 use tclvariables::Variables;
@@ -42,55 +42,37 @@ fn raised(alloc: Global, message: &str) -> Stop
     }
 }
 
-/// What the form of a command does that ends its script.
-fn ending_of(alloc: Global, form: &Form<'_>) -> Stop
-    ensures { (most : ℕ) (b : Bounds) (r : Job → plans.Step) (k : Next) (s : State) (x : Point)
-        → Leads most r (rules.form b (form_view form.now) s k) x (stopped result s) x }
-{
-    match form {
-        Form::Return(text) => returned(alloc, text),
-        Form::Error(message) => raised(alloc, message),
-        Form::Break => Stop::Broken,
-        Form::Continue => Stop::Continued,
-        Form::Exit => Stop::Halted(Halt::Stopped),
-        _ => Stop::Halted(Halt::OutOfMemory),
-    }
-}
-
-fn ending(alloc: Global, form: Form<'_>) -> Stop
-    ensures { (most : ℕ) (b : Bounds) (r : Job → plans.Step) (k : Next) (s : State) (x : Point)
-        → Leads most r (rules.form b (form_view form.entry) s k) x (stopped result s) x }
-{
-    ending_of(alloc, &form)
-}
-
 /// What the form of a command does that evaluates no script.
 fn plain_value<'a, H: Host>(
     alloc: Global,
     variables: &mut Variables,
     host: &mut H,
     limits: Limits,
-    form: Form<'a>,
+    form: Simple<'a>,
 ) -> Result<Value<'a>, Stop>
     ensures { (most left used : ℕ) (r : Job → plans.Step) (k : Next) → Leads most r
-        (rules.form (bounds limits.value_bytes left) (form_view form.entry) variables.old k)
+        (rules.form (bounds limits.value_bytes left) (simple_view form.entry) variables.old k)
         (point (H.oracle host.old) (H.told host.old) used)
         (after result (λ v s. k (value_text v s) s) variables.new)
         (point (H.oracle host.new) (H.told host.new) used) }
 {
     let limit = limits.value_bytes;
     match form {
-        Form::Get(name) => get(alloc, variables, host, name),
-        Form::Set(name, value) => set(alloc, variables, limit, name, value),
-        Form::Append(name, values) => append(alloc, variables, limit, name, values),
-        Form::ListAppend(name, values) => list_append(alloc, variables, limit, name, values),
-        Form::Increase(name, numbers) => increase(alloc, variables, limit, name, numbers),
-        Form::Exists(name) => exists(alloc, variables, host, name),
-        Form::Global(names) => global(alloc, variables, names),
-        Form::Unset(quiet, names) => unset(alloc, variables, quiet, names),
-        Form::Define(name, parameters, body) => define(alloc, variables, name, parameters, body),
-        Form::Put(words) => put(alloc, variables, host, words),
-        form => Err(ending(alloc, form)),
+        Simple::Get(name) => get(alloc, variables, host, name),
+        Simple::Set(name, value) => set(alloc, variables, limit, name, value),
+        Simple::Append(name, values) => append(alloc, variables, limit, name, values),
+        Simple::ListAppend(name, values) => list_append(alloc, variables, limit, name, values),
+        Simple::Increase(name, numbers) => increase(alloc, variables, limit, name, numbers),
+        Simple::Exists(name) => exists(alloc, variables, host, name),
+        Simple::Global(names) => global(alloc, variables, names),
+        Simple::Unset(quiet, names) => unset(alloc, variables, quiet, names),
+        Simple::Define(name, parameters, body) => define(alloc, variables, name, parameters, body),
+        Simple::Put(words) => put(alloc, variables, host, words),
+        Simple::Return(text) => Err(returned(alloc, text)),
+        Simple::Error(message) => Err(raised(alloc, message)),
+        Simple::Break => Err(Stop::Broken),
+        Simple::Continue => Err(Stop::Continued),
+        Simple::Exit => Err(Stop::Halted(Halt::Stopped)),
     }
 }
 
@@ -123,10 +105,10 @@ pub(crate) fn plain<H: Host>(
     host: &mut H,
     limits: Limits,
     wanted: bool,
-    form: Form<'_>,
+    form: Simple<'_>,
 ) -> Result<String, Stop>
     ensures { ComesToText wanted limits.value_bytes result (λ t. (most left used : ℕ) (r : Job → plans.Step) (k : Next)
-        → Leads most r (rules.form (bounds limits.value_bytes left) (form_view form.entry) variables.old
+        → Leads most r (rules.form (bounds limits.value_bytes left) (simple_view form.entry) variables.old
         (λ u s. sized limits.value_bytes u (k u s)))
         (point (H.oracle host.old) (H.told host.old) used)
         (after result (λ _ s. k t s) variables.new)

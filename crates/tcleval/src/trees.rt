@@ -1,5 +1,5 @@
 //! The trees of texts that are evaluated, and the values of whole expressions.
-ghost use Rattle.std.specs.Prelude.{◌≡◌, IfOk, None, MatchOption, MatchResult, drop, option_map, string_bytes};
+ghost use Rattle.std.specs.Prelude.{◌≡◌, if◌then◌else◌, IfOk, Some, None, MatchOption, MatchResult, drop, option_map, string_bytes};
 ghost use Rattle.std.specs.Fmt.{signed_decimal};
 ghost use Rattle.tclscript.specs.Text.{script_of};
 ghost use Rattle.tclscript.specs.Owned as scripts;
@@ -10,8 +10,10 @@ ghost use Rattle.tclchars.specs.Answers.{Gives};
 ghost use Rattle.tclchars.specs.Whole.{Reads};
 ghost use Rattle.tclchars.specs.declared.fault.TextFault.TheVariants.{OutOfMemory};
 ghost use Rattle.tclvalue.specs.Faults.{reason_of, GivesText, HasReason, left_out};
-ghost use Rattle.tclchars.specs.Runs.{begins};
-ghost use Rattle.tclrules.specs.Expressions.{omitted_at, begins_letter, is_operator, function_named, fault_of, parsed, normal};
+ghost use Rattle.tclchars.specs.Runs.{begins, front};
+ghost use Rattle.tclexpr.specs.Omitted.{begins_power, is_letter, is_operator_word, names_function, omitted_at};
+ghost use Rattle.tclchars.specs.Classes.{is_name, begins_in};
+ghost use Rattle.tclrules.specs.Expressions.{fault_of, parsed, normal};
 ghost use Rattle.tclkept.specs.Kept.{BeginWith};
 ghost use Rattle.tcleval.specs.Runs.{IsTreeOf, IsReasonOf, value_fault};
 
@@ -36,7 +38,7 @@ fn behind(text: &str, place: usize) -> Option<&str>
 }
 
 fn begins_letter(text: &str) -> bool
-    ensures { result ≡ begins_letter text.now }
+    ensures { result ≡ begins_in is_letter text.now }
 {
     match text.as_bytes() {
         [first, ..] => *first == b'_' || first.is_ascii_alphabetic(),
@@ -50,29 +52,36 @@ fn opens(text: &str) -> bool
     text.as_bytes().first() == Some(&b'(')
 }
 
-fn is_operator(text: &str) -> bool
-    ensures { result ≡ is_operator text.now }
+fn is_operator_word(text: &str) -> bool
+    ensures { result ≡ is_operator_word text.now }
 {
     matches!(text, "eq" | "ne" | "in" | "ni")
 }
 
 /// The name of a function before its parenthesis.
 fn function_named(text: &str) -> Option<&str>
-    ensures { option_map (λ name. name.now) result ≡ function_named text.now }
+    ensures { option_map (λ name. name.now) result
+        ≡ (if names_function text.now then Some (front is_name text.now) else None) }
 {
     let (name, rest) = split_front(text, Class::Name);
-    if begins_letter(text) && opens(rest) && !is_operator(name) {
+    if begins_letter(text) && opens(rest) && !is_operator_word(name) {
         Some(name)
     } else {
         None
     }
 }
 
+fn begins_power(text: &str) -> bool
+    ensures { result ≡ begins_power text.now }
+{
+    matches!(text.as_bytes(), [b'*', b'*', ..])
+}
+
 /// The name of the operator or function that is left out, where a text begins with one.
 fn omitted_at(text: &str) -> Option<&str>
     ensures { option_map (λ name. name.now) result ≡ omitted_at text.now }
 {
-    if text.strip_prefix("**").is_some() {
+    if begins_power(text) {
         return Some("**");
     }
     function_named(text)

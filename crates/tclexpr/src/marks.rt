@@ -1,3 +1,4 @@
+//! The operators and parentheses of an expression, read (expr(n), OPERATORS).
 ghost use Rattle.std.specs.Prelude.{◌≡◌, ◌<◌, option_map, length, drop, slice_index};
 ghost use Rattle.tclexpr.specs.Grammar.{operator_level, level, sign_of};
 ghost use Rattle.tclexpr.specs.Marks.{after_white, two_bytes, one_byte, word_mark, symbol_at, mark_at, begins_white};

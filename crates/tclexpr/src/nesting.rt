@@ -1,3 +1,4 @@
+//! How deep brackets and the parentheses of indexes nest in an operand.
 ghost use Rattle.std.specs.Prelude.{◌≡◌, ◌≤◌, max};
 ghost use Rattle.tclchars.specs.Runs.{Text};
 ghost use Rattle.tclscript.specs.Tree.{nesting, words_nesting, parts_nesting, part_nesting};

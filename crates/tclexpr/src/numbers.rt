@@ -1,3 +1,4 @@
+//! The spelling of numbers (expr(n), OPERANDS).
 ghost use Rattle.std.specs.Prelude.{◌≡◌, ◌<◌, option_map};
 ghost use Rattle.tclexpr.specs.Operands.{is_digit, begins_digit, after_digits, announced, after_based, after_sign, after_exponent, after_fraction, begins_point, after_decimal, after_number};
 

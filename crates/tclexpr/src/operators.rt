@@ -1,3 +1,4 @@
+//! The operators of expressions, and how they bind (expr(n), OPERATORS).
 ghost use Rattle.std.specs.Prelude.{◌≡◌};
 ghost use Rattle.tclexpr.specs.Symbols.{unary_symbol, binary_symbol};
 

@@ -1,3 +1,4 @@
+//! An expression that holds its text.
 ghost use Rattle.std.specs.Prelude.{◌≡◌, string_bytes, IfOk, IfErr, MatchResult};
 ghost use Rattle.tclchars.specs.declared.fault.TextFault.TheVariants.{OutOfMemory};
 ghost use Rattle.tclchars.specs.Whole.{Reads};

@@ -1,3 +1,4 @@
+//! The tree of an expression.
 ghost use Rattle.std.specs.Prelude.{◌≡◌};
 
 use crate::operators::{BinaryOperator, UnaryOperator};

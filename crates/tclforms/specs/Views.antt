@@ -8,6 +8,8 @@ use Rattle.tcloperators.specs.Faults.{Answer}
 use Rattle.tclrules.specs.Forms as forms
 use Rattle.tclforms.specs.declared.form.Form.{Form}
 use Rattle.tclforms.specs.declared.form.Form.TheVariants as form
+use Rattle.tclforms.specs.declared.form.Simple.{Simple}
+use Rattle.tclforms.specs.declared.form.Simple.TheVariants as simple
 use Rattle.tclforms.specs.declared.form.Patterns.{Patterns}
 use Rattle.tclforms.specs.declared.form.Patterns.TheVariants as patterns
 
@@ -28,29 +30,32 @@ abbrev pub pattern_texts : Patterns → List Text
 pattern_texts (patterns.Words ws) = texts_of ws.now
 pattern_texts (patterns.Elements es) = texts_of es.items
 
+abbrev pub simple_view : Simple → forms.Form
+simple_view (simple.Get v) = forms.Get v.now
+simple_view (simple.Set v x) = forms.Set v.now x.now
+simple_view (simple.Unset quiet vs) = forms.Unset quiet (texts_of vs.now)
+simple_view (simple.Append v xs) = forms.Append v.now (texts_of xs.now)
+simple_view (simple.ListAppend v xs) = forms.ListAppend v.now (texts_of xs.now)
+simple_view (simple.Increase v ns) = forms.Increase v.now (texts_of ns.now)
+simple_view (simple.Define n ps b) = forms.Define n.now ps.now b.now
+simple_view (simple.Return x) = forms.Return x.now
+simple_view simple.Break = forms.Break
+simple_view simple.Continue = forms.Continue
+simple_view simple.Exit = forms.Exit
+simple_view (simple.Error m) = forms.Error m.now
+simple_view (simple.Exists v) = forms.Exists v.now
+simple_view (simple.Global vs) = forms.Global (texts_of vs.now)
+simple_view (simple.Put ws) = forms.Put (texts_of ws.now)
+
 abbrev pub form_view : Form → forms.Form
-form_view (form.Get v) = forms.Get v.now
-form_view (form.Set v x) = forms.Set v.now x.now
-form_view (form.Unset quiet vs) = forms.Unset quiet (texts_of vs.now)
-form_view (form.Append v xs) = forms.Append v.now (texts_of xs.now)
-form_view (form.ListAppend v xs) = forms.ListAppend v.now (texts_of xs.now)
-form_view (form.Increase v ns) = forms.Increase v.now (texts_of ns.now)
+form_view (form.Simple s) = simple_view s
 form_view (form.Express xs) = forms.Express (texts_of xs.now)
 form_view (form.If ps other) = forms.If (pair_texts ps.items) (option_map (λ b. b.now) other)
 form_view (form.While c b) = forms.While c.now b.now
 form_view (form.For s c n b) = forms.For s.now c.now n.now b.now
 form_view (form.Foreach ps b) = forms.Foreach (pair_texts ps.items) b.now
 form_view (form.Switch by_glob t ps) = forms.Switch by_glob t.now (in_twos (pattern_texts ps))
-form_view (form.Define n ps b) = forms.Define n.now ps.now b.now
-form_view (form.Return x) = forms.Return x.now
-form_view form.Break = forms.Break
-form_view form.Continue = forms.Continue
-form_view form.Exit = forms.Exit
-form_view (form.Error m) = forms.Error m.now
 form_view (form.Catch s v) = forms.Catch s.now (option_map (λ v. v.now) v)
-form_view (form.Exists v) = forms.Exists v.now
-form_view (form.Global vs) = forms.Global (texts_of vs.now)
-form_view (form.Put ws) = forms.Put (texts_of ws.now)
 
 -- an answer that may be none
 abbrev pub turned : {A : Type 0} → Option (Answer A) → Answer (Option A)

@@ -8,7 +8,7 @@ ghost use Rattle.tclforms.specs.Views.{form_view, turned};
 
 use crate::conditional::if_form;
 use crate::foreach::foreach_form;
-use crate::form::Form;
+use crate::form::{Form, Simple};
 use crate::switch::switch_form;
 use crate::words::{
     alone, append_form, catch_form, error_form, exit_form, expr_form, for_form, incr_form,
@@ -45,13 +45,13 @@ pub fn core_form<'a>(
         "switch" => switch_form(alloc, words).map(Some),
         "proc" => proc_form(alloc, words).map(Some),
         "return" => return_form(alloc, words).map(Some),
-        "break" => alone(alloc, "break", Form::Break, words).map(Some),
-        "continue" => alone(alloc, "continue", Form::Continue, words).map(Some),
+        "break" => alone(alloc, "break", Form::Simple(Simple::Break), words).map(Some),
+        "continue" => alone(alloc, "continue", Form::Simple(Simple::Continue), words).map(Some),
         "exit" => exit_form(alloc, words).map(Some),
         "error" => error_form(alloc, words).map(Some),
         "catch" => catch_form(alloc, words).map(Some),
         "info" => info_form(alloc, words).map(Some),
-        "global" => Ok(Some(Form::Global(words))),
+        "global" => Ok(Some(Form::Simple(Simple::Global(words)))),
         "puts" => puts_form(alloc, words).map(Some),
         _ => Ok(None),
     }

@@ -5,18 +5,8 @@ ghost use Rattle.std.specs.Prelude.{◌≡◌, map, string_bytes};
 /// The form of a core command, with its words.
 #[derive(Drop)]
 pub enum Form<'a> {
-    /// `set v`
-    Get(&'a str),
-    /// `set v x`
-    Set(&'a str, &'a str),
-    /// `unset v...`; whether an absent variable is no error.
-    Unset(bool, &'a [String]),
-    /// `append v x...`
-    Append(&'a str, &'a [String]),
-    /// `lappend v x...`
-    ListAppend(&'a str, &'a [String]),
-    /// `incr v n...`, of which the number of words isn't judged yet.
-    Increase(&'a str, &'a [String]),
+    /// A command that evaluates no script.
+    Simple(Simple<'a>),
     /// `expr a...`
     Express(&'a [String]),
     /// `if`: conditions with their bodies, and the last body.
@@ -29,6 +19,25 @@ pub enum Form<'a> {
     Foreach(Vec<(&'a str, &'a str)>, &'a str),
     /// `switch`: whether patterns are compared by glob, the text, and the patterns with their bodies.
     Switch(bool, &'a str, Patterns<'a>),
+    /// `catch s v`
+    Catch(&'a str, Option<&'a str>),
+}
+
+/// The form of a core command that evaluates no script.
+#[derive(Clone, Copy)]
+pub enum Simple<'a> {
+    /// `set v`
+    Get(&'a str),
+    /// `set v x`
+    Set(&'a str, &'a str),
+    /// `unset v...`; whether an absent variable is no error.
+    Unset(bool, &'a [String]),
+    /// `append v x...`
+    Append(&'a str, &'a [String]),
+    /// `lappend v x...`
+    ListAppend(&'a str, &'a [String]),
+    /// `incr v n...`, of which the number of words isn't judged yet.
+    Increase(&'a str, &'a [String]),
     /// `proc n args b`
     Define(&'a str, &'a str, &'a str),
     /// `return x`
@@ -41,8 +50,6 @@ pub enum Form<'a> {
     Exit,
     /// `error m`
     Error(&'a str),
-    /// `catch s v`
-    Catch(&'a str, Option<&'a str>),
     /// `info exists v`
     Exists(&'a str),
     /// `global v...`

@@ -10,5 +10,5 @@ mod switch;
 mod words;
 
 pub use commands::core_form;
-pub use form::{Form, Patterns};
+pub use form::{Form, Patterns, Simple};
 pub use words::increase_of;

@@ -6,7 +6,7 @@ ghost use Rattle.tclrules.specs.Forms.{set_form, after_dashes, unset_form, appen
 ghost use Rattle.tclforms.specs.Views.{form_view, texts_of};
 ghost use Rattle.std.specs.Prelude.{◌≡◌};
 
-use crate::form::Form;
+use crate::form::{Form, Simple};
 use crate::messages::{left_out, left_out_info};
 use std::alloc::Global;
 use tcloperators::{ValueFault, wrong_words};
@@ -16,8 +16,8 @@ pub(crate) fn set_form(alloc: Global, words: &[String]) -> Result<Form<'_>, Valu
     ensures { Gives reason_of form_view result (set_form (map string_bytes words.entry.now)) }
 {
     match words {
-        [name] => Ok(Form::Get(name)),
-        [name, value] => Ok(Form::Set(name, value)),
+        [name] => Ok(Form::Simple(Simple::Get(name))),
+        [name, value] => Ok(Form::Simple(Simple::Set(name, value))),
         _ => Err(wrong_words(alloc, "set")),
     }
 }
@@ -38,9 +38,9 @@ pub(crate) fn unset_form(words: &[String]) -> Form<'_>
 {
     match words {
         [word, rest @ ..] if word.as_str() == "-nocomplain" => {
-            Form::Unset(true, after_dashes(rest))
+            Form::Simple(Simple::Unset(true, after_dashes(rest)))
         }
-        _ => Form::Unset(false, after_dashes(words)),
+        _ => Form::Simple(Simple::Unset(false, after_dashes(words))),
     }
 }
 
@@ -49,7 +49,7 @@ pub(crate) fn append_form(alloc: Global, words: &[String]) -> Result<Form<'_>, V
     ensures { Gives reason_of form_view result (append_form (map string_bytes words.entry.now)) }
 {
     match words {
-        [name, texts @ ..] => Ok(Form::Append(name, texts)),
+        [name, texts @ ..] => Ok(Form::Simple(Simple::Append(name, texts))),
         [] => Err(wrong_words(alloc, "append")),
     }
 }
@@ -59,7 +59,7 @@ pub(crate) fn lappend_form(alloc: Global, words: &[String]) -> Result<Form<'_>, 
     ensures { Gives reason_of form_view result (lappend_form (map string_bytes words.entry.now)) }
 {
     match words {
-        [name, elements @ ..] => Ok(Form::ListAppend(name, elements)),
+        [name, elements @ ..] => Ok(Form::Simple(Simple::ListAppend(name, elements))),
         [] => Err(wrong_words(alloc, "lappend")),
     }
 }
@@ -69,7 +69,7 @@ pub(crate) fn incr_form(alloc: Global, words: &[String]) -> Result<Form<'_>, Val
     ensures { Gives reason_of form_view result (incr_form (map string_bytes words.entry.now)) }
 {
     match words {
-        [name, numbers @ ..] => Ok(Form::Increase(name, numbers)),
+        [name, numbers @ ..] => Ok(Form::Simple(Simple::Increase(name, numbers))),
         [] => Err(wrong_words(alloc, "incr")),
     }
 }
@@ -109,7 +109,7 @@ pub(crate) fn proc_form(alloc: Global, words: &[String]) -> Result<Form<'_>, Val
     ensures { Gives reason_of form_view result (proc_form (map string_bytes words.entry.now)) }
 {
     match words {
-        [name, parameters, body] => Ok(Form::Define(name, parameters, body)),
+        [name, parameters, body] => Ok(Form::Simple(Simple::Define(name, parameters, body))),
         _ => Err(wrong_words(alloc, "proc")),
     }
 }
@@ -119,8 +119,8 @@ pub(crate) fn return_form(alloc: Global, words: &[String]) -> Result<Form<'_>, V
     ensures { Gives reason_of form_view result (return_form (map string_bytes words.entry.now)) }
 {
     match words {
-        [] => Ok(Form::Return("")),
-        [value] => Ok(Form::Return(value)),
+        [] => Ok(Form::Simple(Simple::Return(""))),
+        [value] => Ok(Form::Simple(Simple::Return(value))),
         _ => Err(left_out(alloc, "return")),
     }
 }
@@ -130,7 +130,7 @@ pub(crate) fn exit_form(alloc: Global, words: &[String]) -> Result<Form<'_>, Val
     ensures { Gives reason_of form_view result (exit_form (map string_bytes words.entry.now)) }
 {
     match words {
-        [] | [_] => Ok(Form::Exit),
+        [] | [_] => Ok(Form::Simple(Simple::Exit)),
         _ => Err(wrong_words(alloc, "exit")),
     }
 }
@@ -140,7 +140,7 @@ pub(crate) fn error_form(alloc: Global, words: &[String]) -> Result<Form<'_>, Va
     ensures { Gives reason_of form_view result (error_form (map string_bytes words.entry.now)) }
 {
     match words {
-        [message] | [message, _] | [message, _, _] => Ok(Form::Error(message)),
+        [message] | [message, _] | [message, _, _] => Ok(Form::Simple(Simple::Error(message))),
         _ => Err(wrong_words(alloc, "error")),
     }
 }
@@ -161,7 +161,7 @@ fn exists_form(alloc: Global, words: &[String]) -> Result<Form<'_>, ValueFault>
     ensures { Gives reason_of form_view result (exists_form (map string_bytes words.entry.now)) }
 {
     match words {
-        [name] => Ok(Form::Exists(name)),
+        [name] => Ok(Form::Simple(Simple::Exists(name))),
         _ => Err(wrong_words(alloc, "info")),
     }
 }
@@ -212,7 +212,7 @@ fn to_stderr<'a>(alloc: Global, channel: &str, words: &'a [String]) -> Result<Fo
     ensures { Gives reason_of form_view result (to_stderr channel.now (map string_bytes words.entry.now)) }
 {
     if channel == "stderr" {
-        Ok(Form::Put(words))
+        Ok(Form::Simple(Simple::Put(words)))
     } else {
         Err(left_out(alloc, "puts"))
     }

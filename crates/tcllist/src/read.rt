@@ -1,3 +1,4 @@
+//! The elements of a list (list(n)).
 ghost use Rattle.std.specs.Prelude.{◌≡◌, ℕ, suc, ◌≤◌, List, length, map, false, not, IfOk, IfErr, MatchResult, string_bytes};
 ghost use Rattle.tclchars.specs.Runs.{Text, front, back};
 ghost use Rattle.tclchars.specs.Braces.{braced_at};

@@ -1,3 +1,4 @@
+//! Elements as the text of a list (list(n)).
 ghost use Rattle.std.specs.Prelude.{◌≡◌, ◌++◌, ◌≤◌, ◌<◌, ◌∷◌, [], length, map, flat_map, false, true, IfOk, OnOk, MatchOption, string_bytes};
 ghost use Rattle.std.specs.List.{list_all};
 ghost use Rattle.tclchars.specs.Bytes.{is_plain, is_gap, is_special};

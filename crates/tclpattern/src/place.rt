@@ -1,3 +1,4 @@
+//! A pattern and a text read side by side, up to a star (string(n), match).
 ghost use Rattle.std.specs.Prelude.{◌≡◌, ◌+◌, ◌≤◌, ◌<◌, ◌↔◌, length};
 ghost use Rattle.std.specs.Str.{chars};
 ghost use Rattle.tclpattern.specs.Patterns.{IsMatch};

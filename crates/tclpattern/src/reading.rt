@@ -1,3 +1,4 @@
+//! The parts of a pattern without a star (string(n), match).
 ghost use Rattle.std.specs.Prelude.{◌≡◌, ℕ, List, ◌∷◌, [], ◌++◌, ◌≤◌, ◌<◌, ◌≢◌, length, option_map, MatchOption, IfSome};
 ghost use Rattle.std.specs.Str.{chars};
 ghost use Rattle.tclpattern.specs.Patterns.{star, is_between, behind_close};

@@ -1,8 +1,7 @@
 -- Expressions (expr(n)): what is evaluated of them, and in which order.
-use Rattle.std.specs.Prelude.{[], ◌∷◌, Bool, true, false, not, ◌||◌, ◌&&◌, nat_le, if◌then◌else◌, Option, Some, None, Result, Ok, Err, codes, drop, bytes_eq}
+use Rattle.std.specs.Prelude.{[], Bool, true, false, Option, Some, None, Result, Ok, Err, codes, drop}
 use Rattle.std.specs.Fmt.{signed_decimal}
-use Rattle.tclchars.specs.Runs.{Text, front, back, begins}
-use Rattle.tclchars.specs.Classes.{is_name}
+use Rattle.tclchars.specs.Runs.{Text}
 use Rattle.tclchars.specs.BracedText.{braced_text}
 use Rattle.tclchars.specs.declared.fault.TextFault.{TextFault}
 use Rattle.tclchars.specs.declared.fault.TextFault.TheVariants.{BadExpression}
@@ -13,9 +12,9 @@ use Rattle.tclexpr.specs.Tree.{Expr, operand, unary, binary, conjunction, disjun
 use Rattle.tclexpr.specs.Operands as operands
 use Rattle.tclexpr.specs.Operands.{Operand}
 use Rattle.tclexpr.specs.Text.{expr_of}
+use Rattle.tclexpr.specs.Omitted.{omitted_at}
 use Rattle.tclvalue.specs.Faults as value
 use Rattle.tclvalue.specs.Faults.{Answer, number_too_large, fraction, left_out}
-use Rattle.tclvalue.specs.Indexes.{after_front}
 use Rattle.tclvalue.specs.Operators.{truth, truth_text, unary_value, binary_value}
 use Rattle.tclrules.specs.Derivation.{Runs}
 use Rattle.tclrules.specs.Variables.{State}
@@ -24,26 +23,7 @@ use Rattle.tclrules.specs.Words.{parts, read, read_element}
 
 -- Texts
 
--- a word that is no operator, directly before a parenthesis, is the name of a function; ** and functions are left out
-abbrev pub begins_letter : Text → Bool
-begins_letter [] = false
-begins_letter (b ∷ bs) = is_name b && not (nat_le 48 b && nat_le b 57)
-
-abbrev pub is_operator : Text → Bool
-is_operator t = bytes_eq t (codes "eq") || bytes_eq t (codes "ne") || bytes_eq t (codes "in") || bytes_eq t (codes "ni")
-
-abbrev pub function_named : Text → Option Text
-function_named t =
-    if begins_letter t && begins 40 (back is_name t) && not (is_operator (front is_name t)) then Some (front is_name t)
-    else None
-
-abbrev pub or_function : Text → Option Text → Option Text
-or_function t (Some rest) = Some (codes "**")
-or_function t None = function_named t
-
-abbrev pub omitted_at : Text → Option Text
-omitted_at t = or_function t (after_front (codes "**") t)
-
+-- what is left out has a reason of its own, by its name
 abbrev pub or_omitted : TextFault → Option Text → value.Reason
 or_omitted f (Some name) = left_out name
 or_omitted f None = value.text f

@@ -20,7 +20,7 @@ use Rattle.tclvalue.specs.Commands.{command_value}
 use Rattle.tclrules.specs.Derivation.{BadText, LeftOut, Stopped, Counts, Consults, Reads, Runs, Reply, Says, NotKnown}
 use Rattle.tclrules.specs.Messages.{no_command, not_to_unset, outside_loop, no_loop_variable, is_taken}
 use Rattle.tclrules.specs.Names.{is_among, left_out_commands, is_reserved}
-use Rattle.tclrules.specs.Variables.{Place, Plain, Element, Parameter, Procedure, Frame, State, in_frame, lookup, store, env, place_named, writable, value_at, with_value, without_value, sharable, shared_in}
+use Rattle.tclrules.specs.Variables.{Place, Plain, Element, Parameter, Procedure, Frame, State, in_frame, lookup, store, without, env, place_named, writable, value_at, with_value, without_value, sharable, shared_in}
 use Rattle.tclrules.specs.Forms.{Form, Get, Set, Unset, Append, ListAppend, Increase, Express, If, While, For, Foreach, Switch, Define, Return, Break, Continue, Exit, Error, Catch, Exists, Global, Put, increase_of, core_form}
 use Rattle.tclrules.specs.Plans as job
 use Rattle.tclrules.specs.Plans.{Ending, Normal, Raised, Returned, Broken, Continued, Items, Job, File, Script, Bracket, Step, Next, Bounds, ended, halt, raise, on_normal, given, sized, begin, inside}
@@ -227,11 +227,12 @@ argument name (p, None) [] = Err (error (wrong_words name))
 abbrev pub taken : Text → Parameter → List Parameter → List Text → Answer (Text × List Text)
 taken name p ps ws = if bytes_eq p.0 (codes "args") && is_empty ps then Ok (list_text ws, []) else argument name p ws
 
--- the parameters with their values. A wrong number of words is judged before any of them is bound
+-- the parameters with their values. A wrong number of words is judged before any of them is bound; of a name that comes
+-- again the first value stands
 abbrev pub allotted : Text → List Parameter → List Text → Answer (List (Text × Text))
 allotted name [] [] = Ok []
 allotted name [] (w ∷ ws) = Err (error (wrong_words name))
-allotted name (p ∷ ps) ws = taken name p ps ws >>= (λ a. allotted name ps a.1 >>= (λ vs. Ok ((p.0, a.0) ∷ vs)))
+allotted name (p ∷ ps) ws = taken name p ps ws >>= (λ a. allotted name ps a.1 >>= (λ vs. Ok ((p.0, a.0) ∷ without vs p.0)))
 
 -- a procedure gives back the caller's variables; break and continue don't leave it
 abbrev pub after_call : Option Frame → Next → Ending → Step

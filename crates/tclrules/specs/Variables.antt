@@ -1,6 +1,6 @@
 -- Variables, and where their names lead (Tcl(n), rule 7; global(n), variable(n); the element of an array is of env
 -- alone).
-use Rattle.std.specs.Prelude.{ℕ, List, [], ◌∷◌, Bool, true, false, not, ◌||◌, ◌&&◌, ◌==◌, ◌-◌, length, take, reverse, if◌then◌else◌, Option, Some, None, Ok, Err, codes, bytes_eq}
+use Rattle.std.specs.Prelude.{ℕ, List, [], ◌∷◌, ◌++◌, Bool, true, false, not, ◌||◌, ◌&&◌, ◌==◌, ◌-◌, length, take, reverse, if◌then◌else◌, Option, Some, None, Ok, Err, codes, bytes_eq}
 use Rattle.std.specs.List.{list_any}
 use Rattle.tclchars.specs.Runs.{Text, front, back, begins}
 use Rattle.tclvalue.specs.Faults.{Answer, ◌>>=◌, left_out}
@@ -140,10 +140,14 @@ with_value s p value = with_variables s p.0 (store (variables s p.0) p.1 value)
 abbrev pub without_value : State → Bool × Text → State
 without_value s p = with_variables s p.0 (without (variables s p.0) p.1)
 
+-- a name behind others, where it isn't among them
+abbrev pub with_name : List Text → Text → List Text
+with_name names name = if list_any (bytes_eq name) names then names else names ++ name ∷ []
+
 -- global: the name leads to the global variable from now on
 abbrev pub shared_in : Option Frame → Text → Option Frame
 shared_in None name = None
-shared_in (Some f) name = Some (record { own = without f.own name; shared = name ∷ f.shared })
+shared_in (Some f) name = Some (record { own = without f.own name; shared = with_name f.shared name })
 
 abbrev pub sharable : Place → Answer Text
 sharable (Plain global name) = Ok name

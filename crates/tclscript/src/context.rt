@@ -1,3 +1,4 @@
+//! Where the parts of a word stand, and what ends words, commands and scripts there (Tcl(n), rules 1 to 6).
 ghost use Rattle.std.specs.Prelude.{◌≡◌};
 ghost use Rattle.tclscript.specs.Ends.{word_ends, command_ends, script_ends, stands_before, parts_end, bare, class_of};
 

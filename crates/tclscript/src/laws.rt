@@ -1,3 +1,4 @@
+//! What holds of the definitions that the contracts cite.
 ghost use Rattle.std.specs.Prelude.{◌≡◌, ◌≢◌, ◌↔◌, ◌≤◌, suc, [], ◌∷◌, ◌++◌, length, Ok, Err, None};
 ghost use Rattle.tclchars.specs.Runs.{Text};
 ghost use Rattle.tclchars.specs.Bytes.{backslash, left_parenthesis};

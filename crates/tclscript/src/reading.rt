@@ -1,3 +1,4 @@
+//! The words and commands of a script, read (Tcl(n), rules 1 to 9).
 ghost use Rattle.std.specs.Prelude.{◌≡◌, ◌∷◌, ◌<◌, length, suc, option_map};
 ghost use Rattle.tclchars.specs.Bytes.{dollar, backslash};
 ghost use Rattle.tclchars.specs.Answers.{Gives};

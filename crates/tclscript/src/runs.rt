@@ -1,3 +1,4 @@
+//! The runs of a text that are passed over: blanks, gaps, comments and names (Tcl(n), rules 3, 8 and 10).
 ghost use Rattle.std.specs.Prelude.{◌≡◌};
 ghost use Rattle.tclchars.specs.Runs.{begins};
 ghost use Rattle.tclchars.specs.Bytes.{is_blank, is_gap};

@@ -1,3 +1,5 @@
+//! The tree of a script.
+
 /// A script: its commands, in order. A piece of its text is a `P`: a slice of the source, or a range of bytes.
 #[cycle(tree)]
 #[derive(Debug, Drop)]

@@ -97,7 +97,6 @@ fn read_plain(
     value_at(alloc, variables, spelled, false, name)
 }
 
-#[tactic(none)]
 fn read_env<H: Host>(
     alloc: Global,
     variables: &Variables,

@@ -1,3 +1,4 @@
+//! What holds of the definitions that the contracts cite.
 ghost use Rattle.std.specs.Prelude.{◌≡◌, ◌≢◌, ◌↔◌, ◌++◌, ℕ, Bool, Some, None};
 ghost use Rattle.tclchars.specs.Runs.{Text};
 ghost use Rattle.tcltext.specs.declared.number.Numeral.TheVariants as numerals;

@@ -1,3 +1,4 @@
+//! Whole numbers as text (expr(n)).
 ghost use Rattle.std.specs.Prelude.{◌≡◌, ◌≤◌, ◌<◌, ◌-◌, ◌^◌, min, option_map, IfSome, Some};
 ghost use Rattle.std.specs.Char.{digit_value};
 ghost use Rattle.tclchars.specs.Runs.{back};

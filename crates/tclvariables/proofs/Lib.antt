@@ -1,3 +1,4 @@
 pub mod Apart
 pub mod Frames
 pub mod Stores
+pub mod Names

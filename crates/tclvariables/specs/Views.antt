@@ -1,5 +1,5 @@
 -- What the variables of the program stand for.
-use Rattle.std.specs.Prelude.{List, map, reverse, string_bytes, option_map, String}
+use Rattle.std.specs.Prelude.{List, map, string_bytes, option_map, String}
 use Rattle.std.specs.declared.alloc.Global.{Global}
 use Rattle.tclchars.specs.Runs.{Text}
 use Rattle.tclrules.specs.Variables as rules
@@ -12,9 +12,8 @@ use Rattle.tclvariables.specs.declared.variables.Variables.TheInside.{Inside}
 abbrev pub texts_of : List (String Global × Text) → rules.Variables
 texts_of entries = map (λ e. (string_bytes e.0, e.1)) entries
 
--- the name that was shared last comes first
 abbrev pub local_view : local.Inside → rules.Frame
-local_view l = record { own = texts_of l.own.entries; shared = reverse (map string_bytes l.shared.items) }
+local_view l = record { own = texts_of l.own.entries; shared = map string_bytes l.shared.keys }
 
 abbrev pub parameter_view : Parameter → rules.Parameter
 parameter_view p = (string_bytes p.name, option_map string_bytes p.default)

@@ -1,22 +1,21 @@
 //! The frame of a procedure that runs.
-ghost use Rattle.std.specs.Prelude.{◌≡◌, [], ◌∷◌, true, OnOk, OnErr, option_map, bytes_eq, string_bytes};
+ghost use Rattle.std.specs.Prelude.{◌≡◌, [], true, map, OnOk, OnErr, option_map, bytes_eq, string_bytes};
 ghost use Rattle.tclchars.specs.Runs.{Text};
 ghost use Rattle.tclvariables.specs.Contents.{HoldsList};
 ghost use Rattle.std.specs.List.{list_any};
-ghost use Rattle.tclrules.specs.Variables.{Frame, lookup, store, without};
+ghost use Rattle.tclrules.specs.Variables.{Frame, lookup, store, without, with_name};
 
 use crate::content::Content;
 use crate::table::{Table, holds_list, put, remove, take, text_in};
-use indexmap::IndexMap;
+use indexmap::{IndexMap, IndexSet};
 use std::alloc::{AllocError, Global};
 use std::marker::Model;
-use tclvalue::is_among;
 
 /// The variables of a procedure that runs, and the names of the global ones that it sees.
 #[derive(Drop)]
 pub struct Local {
     own: Table,
-    shared: Vec<String>,
+    shared: IndexSet<String>,
 }
 
 impl Model for Local {
@@ -36,7 +35,7 @@ impl Local {
     {
         Local {
             own: IndexMap::new(alloc),
-            shared: Vec::new(alloc),
+            shared: IndexSet::new(alloc),
         }
     }
 
@@ -44,7 +43,7 @@ impl Local {
     pub(crate) fn sees(&self, name: &str) -> bool
         ensures { result ≡ list_any (bytes_eq name.now) self.now.shared }
     {
-        is_among(&self.shared, name)
+        self.shared.contains(name)
     }
 
     pub(crate) fn get(&self, name: &str) -> Option<&str>
@@ -88,11 +87,24 @@ impl Local {
     /// Lets a name lead to the global variable from now on.
     pub(crate) fn share(&mut self, alloc: Global, name: &str) -> Result<(), AllocError>
         ensures ok { OnOk result (self.new
-            ≡ record { own = without self.old.own name.now; shared = name.now ∷ self.old.shared }) }
+            ≡ record { own = without self.old.own name.now; shared = with_name self.old.shared name.now }) }
         ensures err { OnErr result (self.new ≡ self.old) }
     {
-        self.shared.push(String::from_str(alloc, name)?)?;
+        add_name(&mut self.shared, alloc, name)?;
         remove(&mut self.own, name);
         Ok(())
     }
+}
+
+/// Adds a name behind others, unless it is among them.
+fn add_name(names: &mut IndexSet<String>, alloc: Global, name: &str) -> Result<(), AllocError>
+    ensures ok { OnOk result
+        (map string_bytes names.new.keys ≡ with_name (map string_bytes names.old.keys) name.now) }
+    ensures err { OnErr result (names.new.keys ≡ names.old.keys) }
+{
+    if names.contains(name) {
+        return Ok(());
+    }
+    let _ = names.insert(String::from_str(alloc, name)?)?;
+    Ok(())
 }

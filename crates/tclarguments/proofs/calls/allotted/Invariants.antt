@@ -2,11 +2,14 @@ use Rattle.std.proofs.Common.{◌≡◌, map, length, string_bytes}
 use Rattle.tclrules.specs.Rules.{allotted}
 use Rattle.tclvariables.specs.Views.{parameter_view}
 use Rattle.tclarguments.specs.Views.{named_values}
-use Rattle.tclarguments.specs.Lists.{behind}
+use Rattle.tclarguments.specs.Firsts.{AreNamesOf, firsts_behind}
 use Rattle.tclarguments.proofs.calls.allotted.Given as goal
 
 abbrev pub invariant-loop-parameters : goal.invariant-loop-parameters
-invariant-loop-parameters l = allotted l.name (map parameter_view l.fn.parameters) (map string_bytes l.words) ≡ behind (named_values l.values.items) (allotted l.name (map parameter_view l.parameters) (map string_bytes l.rest))
+invariant-loop-parameters l = record {
+  names : AreNamesOf l.names.keys l.values.items;
+  allotted : allotted l.name (map parameter_view l.fn.parameters) (map string_bytes l.words) ≡ firsts_behind (named_values l.values.items) (allotted l.name (map parameter_view l.parameters) (map string_bytes l.rest));
+}
 
 abbrev pub decreases-loop-parameters : goal.decreases-loop-parameters
 decreases-loop-parameters l = length l.parameters

@@ -1,4 +1,5 @@
 use Rattle.tclrules.specs.Leads.{point}
+use Rattle.tclrules.proofs.Leading.{stay}
 use Rattle.tclsteps.specs.Machine.{bounds}
 use Rattle.tcleval.proofs.plain.plain_value.Goals as goal
 
@@ -32,5 +33,17 @@ returns-in-Define g c = λ most left used r k. rw c.in-Define.is (c.define.ensur
 pub returns-in-Put : goal.returns-in-Put
 returns-in-Put g c = λ most left used r k. rw c.in-Put.is (c.put.ensures most used (bounds c.args.limits.value_bytes left) r k)
 
-pub returns-in_default : goal.returns-in_default
-returns-in_default g c = λ most left used r k. c.ending.ensures most (bounds c.args.limits.value_bytes left) r k _ (point (g.H.Host.oracle c.args.host.now) (g.H.Host.told c.args.host.now) used)
+pub returns-in-Return : goal.returns-in-Return
+returns-in-Return g c = λ most left used r k. rw c.in-Return.is (c.returned.ensures most r c.args.variables.now (point (g.H.Host.oracle c.args.host.now) (g.H.Host.told c.args.host.now) used))
+
+pub returns-in-Error : goal.returns-in-Error
+returns-in-Error g c = λ most left used r k. rw c.in-Error.is (c.raised.ensures most r c.args.variables.now (point (g.H.Host.oracle c.args.host.now) (g.H.Host.told c.args.host.now) used))
+
+pub returns-in-Break : goal.returns-in-Break
+returns-in-Break g c = λ most left used r k. rw c.in-Break.is stay
+
+pub returns-in-Continue : goal.returns-in-Continue
+returns-in-Continue g c = λ most left used r k. rw c.in-Continue.is stay
+
+pub returns-in-Exit : goal.returns-in-Exit
+returns-in-Exit g c = λ most left used r k. rw c.in-Exit.is stay

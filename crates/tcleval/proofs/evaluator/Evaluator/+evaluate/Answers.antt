@@ -576,11 +576,11 @@ form-returns-in-While-clause-comes g t c =
 pub form-returns-in-While-clause-later : goal.form-returns-in-While-clause-later
 form-returns-in-While-clause-later g t c = c.while_turns.ensures.later
 
-pub form-returns-in_default : goal.form-returns-in_default
-form-returns-in_default g t c = record {
-  comes = (c.plain.ensures.0, c.plain.ensures.1, λ k. c.plain.ensures.2 _ c.args.left c.args.self.now.used _ k);
-  later = later_still refl refl;
-}
+pub form-returns-in-Simple-clause-comes : goal.form-returns-in-Simple-clause-comes
+form-returns-in-Simple-clause-comes g t c = (c.plain.ensures.0, c.plain.ensures.1, λ k. rw c.in-Simple.is (c.plain.ensures.2 _ c.args.left c.args.self.now.used _ k))
+
+pub form-returns-in-Simple-clause-later : goal.form-returns-in-Simple-clause-later
+form-returns-in-Simple-clause-later g t c = later_still refl refl
 
 pub form-returns-in_err-text-in-Express-clause-comes : goal.form-returns-in_err-text-in-Express-clause-comes
 form-returns-in_err-text-in-Express-clause-comes g t c =
