@@ -7,12 +7,15 @@ A failure is never taken as an absence.
 """
 
 import errno
+import os
+import resource
+import subprocess
 import sys
 
-from harness import FOO, case, loaded, refuser, refuses_each, run_all
+from harness import FOO, case, loaded, refuser, refuses_each, run_all, same, true
 
-# Errors that tell of no absence, and those that tell of none where what a look has found is opened or read.
-ERRORS = (errno.EIO, errno.EACCES, errno.EMFILE, errno.ELOOP, errno.ESTALE)
+# Errors that tell of no absence, and those that tell of none where the same path was seen before.
+ERRORS = (errno.EIO, errno.EACCES, errno.EMFILE, errno.ELOOP, errno.ESTALE, errno.EINVAL)
 BEHIND_A_LOOK = (errno.ENOENT, errno.ENOTDIR)
 
 
@@ -75,6 +78,57 @@ def reports(folder):
     env = versions(folder)
     for words in (["avail"], ["show", "ver"], ["whatis", "ver"]):
         answers_or_fails(folder, ["sh", *words], env)
+
+
+# Bytes of a file that is no module; of memory that the program may ask for, so that one that reads it whole ends soon;
+# and of memory that it may take, which is more than Python itself takes before it becomes the program.
+HUGE = 50 * 2**30
+ROOM = 2**30
+MOST = 64 * 2**20
+
+
+def measured(folder, words, env):
+    """What the program wrote, its status, and how many bytes of memory it took."""
+    started = subprocess.Popen(
+        [folder.program, *words],
+        env=env,
+        stdin=subprocess.DEVNULL,
+        stdout=subprocess.PIPE,
+        stderr=subprocess.PIPE,
+        preexec_fn=lambda: resource.setrlimit(resource.RLIMIT_AS, (ROOM, ROOM)),
+    )
+    with started.stdout, started.stderr:
+        out, err = started.stdout.read(), started.stderr.read()
+    _, status, usage = os.wait4(started.pid, 0)
+    started.returncode = os.waitstatus_to_exitcode(status)
+    return (out, err, started.returncode), 1024 * usage.ru_maxrss
+
+
+def huge(folder, name):
+    """A file of 50 GB, of which nothing is on the disk, and which doesn't begin as a modulefile."""
+    with open(folder.file(name, ""), "wb") as out:
+        out.truncate(HUGE)
+
+
+@case
+def files_that_are_no_modules_and_huge(folder):
+    folder.module("foo/1.0", FOO)
+    env = folder.environment(PATH="/bin")
+    commands = (["sh", "avail"], ["sh", "load", "foo"], ["sh", "show", "foo"], ["sh", "load", "foo/1.0"])
+    small = [measured(folder, words, env)[0] for words in commands]
+    for out, err, status in small:
+        true(status == 0, f"without them: {out!r} {err!r}")
+    for name in ("foo/core", "foo/.modulerc", "foo/.version", "core"):
+        huge(folder, name)
+    for words, wanted in zip(commands, small):
+        found, memory = measured(folder, words, env)
+        same(found, wanted, f"{words} beside files of 50 GB")
+        true(memory < MOST, f"{words} took {memory} bytes of memory")
+    for words in (["sh", "load", "core"], ["sh", "load", "foo/core"]):
+        found, memory = measured(folder, words, env)
+        text = f"ERROR: Unable to locate a modulefile for '{words[2]}'\n"
+        same(found, (b"", text.encode(), 1), f"{words}, a file of 50 GB")
+        true(memory < MOST, f"{words} took {memory} bytes of memory")
 
 
 if __name__ == "__main__":

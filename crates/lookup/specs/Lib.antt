@@ -1,7 +1,4 @@
-pub mod Agreement
-pub mod Answers
-pub mod Causes
-pub mod Contents
-pub mod Devices
-pub mod Search
-pub mod Utf8
+pub mod Places
+pub mod Lines
+pub mod PlaceViews
+pub mod LineViews

@@ -1,17 +1,11 @@
-//! Files and directories by their paths, in memory or on a disk, what a path holds as a modulefile, and why none is
-//! found.
+//! Which module a name means, and all modules along MODULEPATH, with default files by their evaluation.
 #![tactic(auto)]
 
-mod disk;
-mod laws;
-mod memory;
-mod modulefile;
-mod search;
-mod tree;
+mod listings;
+mod places;
 
-pub use disk::DiskTree;
-pub use laws::{contents_agree, some_pair_agrees};
-pub use memory::MemoryTree;
-pub use modulefile::{Modulefile, holds_module, read_modulefile};
-pub use search::FindFault;
-pub use tree::{Tree, TreeFault};
+pub use filetree::{DiskTree, FindFault, MemoryTree, Tree, TreeFault};
+pub use listings::{Listing, available};
+pub use moduleversion::version_order;
+pub use places::{Found, locate};
+pub use tclrules::Limits;

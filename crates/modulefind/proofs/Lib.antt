@@ -1,5 +1,4 @@
 pub mod SayingLemmas
 pub mod NamedLemmas
-pub mod CandidateLemmas
 pub mod VersionLemmas
 pub mod StepLemmas

@@ -3,11 +3,11 @@ use Rattle.std.proofs.Common.{◌≡◌, ◌≤◌, ◌-◌, true, false, List, 
 use Rattle.std.specs.Prelude.{◌==◌}
 use Rattle.std.proofs.lemmas.Bool.Decides.{nat_tests}
 use Rattle.modulename.specs.ModuleName.{Text}
-use Rattle.lookup.specs.Agreement.{Files, Listings, InEachPair}
-use Rattle.lookup.specs.Causes.{Cause, memory, device, because, Applies}
-use Rattle.lookup.specs.Search.{Held, absent, no_cookie, not_utf8, script, modulefile, is_module, is_empty, path_of}
-use Rattle.lookup.specs.declared.search.FindFault.{FindFault}
-use Rattle.lookup.specs.declared.search.FindFault.TheVariants as faults
+use Rattle.filetree.specs.Agreement.{Files, Listings, InEachPair}
+use Rattle.filetree.specs.Causes.{Cause, memory, device, because, Applies}
+use Rattle.filetree.specs.Search.{Held, absent, no_cookie, not_utf8, script, modulefile, is_module, is_empty, path_of}
+use Rattle.filetree.specs.declared.search.FindFault.{FindFault}
+use Rattle.filetree.specs.declared.search.FindFault.TheVariants as faults
 use Rattle.relations.specs.Relations.{Then, Where}
 use Rattle.modulesearch.specs.Reasons.{Reason}
 use Rattle.modulesearch.specs.DefaultFiles.{Left}
@@ -29,6 +29,14 @@ tells_fault agrees failed before view view' Comes Comes' (faults.NotFound n) lat
 tells_fault agrees failed before view view' Comes Comes' (faults.BadName n) later then h = λ files listings a. then files listings _ a (h files listings a)
 tells_fault agrees failed before view view' Comes Comes' (faults.BadDefaultFile p) later then h = λ files listings a. then files listings _ a (h files listings a)
 tells_fault agrees failed before view view' Comes Comes' (faults.NotUtf8 p) later then h = λ files listings a. then files listings _ a (h files listings a)
+
+-- what comes to more than a step does
+pub tells_weaker : {X Y : Type 0} (agrees : Files → Listings → Type 0) (failed before : Type 0) (view : X → Y) (result : Result X FindFault)
+    (Comes Comes' : Files → Listings → Result Y Reason → Type 0) → (failed → before)
+    → ((files : Files) (listings : Listings) (o : Result Y Reason) → agrees files listings → Comes files listings o → Comes' files listings o)
+    → Tells agrees failed view result Comes → Tells agrees before view result Comes'
+tells_weaker agrees failed before view (Ok x) Comes Comes' later then h = λ files listings a. then files listings (Ok (view x)) a (h files listings a)
+tells_weaker agrees failed before view (Err e) Comes Comes' later then h = tells_fault agrees failed before view view Comes Comes' e later (λ files listings r. then files listings (Err r)) h
 
 -- the default candidate of a folder
 module _ (leaves : Text → Text → Option Left → Type 0) (files : Files) (listings : Listings) (dir name : Text) where

@@ -15,8 +15,8 @@ use Rattle.std.proofs.lemmas.Slice.Eq.{bytes_eq-Decides}
 use Rattle.modulename.specs.ModuleName.{Text, is_module_name}
 use Rattle.moduleversion.specs.Versions.{version_order}
 use Rattle.moduleversion.proofs.OrderLemmas.{total}
-use Rattle.lookup.specs.Agreement.{Files, Listings}
-use Rattle.lookup.specs.Search.{path_of}
+use Rattle.filetree.specs.Agreement.{Files, Listings}
+use Rattle.filetree.specs.Search.{path_of}
 use Rattle.modulesearch.specs.Single.{is_single}
 use Rattle.modulesearch.specs.Found.{IsCandidate}
 use Rattle.modulefind.specs.Versions.{is_version, is_module_in, goes_before, IsGreatestOf}
@@ -157,6 +157,13 @@ module _ (files : Files) (listings : Listings) (dir name : Text) (entries : List
 
   is_entry_of : (v : Text) → IsCandidate files listings dir name v → has v entries ≡ true
   is_entry_of v c = ap (has v) (sym (same_entries entries c.entry.0 (listings (path_of dir name)) listed c.entry.1)) ∙ c.entry.2
+
+  -- no entry can be a version
+  pub no_candidates : list_any (is_version name) entries ≡ false → IsGreatestOf files listings dir name None
+  no_candidates none (v, c) =
+      let (k, lt, at) = contains_from v entries (is_entry_of v c) in
+      let some : list_any (is_version name) entries ≡ true = list_any-from_Any (is_version name) entries (k, v, lt, at, is_version_of v c) in
+      let clash : true ≡ false = sym some ∙ none in absurd (cc)
 
   greatest_from : (xs : List Text) → ((v : Text) → has v xs ≡ true → has v (filter (is_version name) entries) ≡ true) → ((v : Text) → has v (filter (is_version name) entries) ≡ true → has v xs ≡ true)
       → (o : Option Text) → IsFirstDown (is_module_in files dir name) xs o → IsGreatestOf files listings dir name o

@@ -1,10 +1,10 @@
 -- How the answers of a search show what the definitions say.
 use Rattle.std.specs.Prelude.{Result, string_bytes}
-use Rattle.lookup.specs.Agreement.{Files, Listings}
-use Rattle.lookup.specs.Causes as causes
-use Rattle.lookup.specs.Causes.{Cause, memory, device, because}
-use Rattle.lookup.specs.declared.search.FindFault.{FindFault}
-use Rattle.lookup.specs.declared.search.FindFault.TheVariants as faults
+use Rattle.filetree.specs.Agreement.{Files, Listings}
+use Rattle.filetree.specs.Causes as causes
+use Rattle.filetree.specs.Causes.{Cause, memory, device, because}
+use Rattle.filetree.specs.declared.search.FindFault.{FindFault}
+use Rattle.filetree.specs.declared.search.FindFault.TheVariants as faults
 use Rattle.modulesearch.specs.Reasons.{Reason, bad_name, not_found, bad_default, not_utf8_at}
 use Rattle.modulesearch.specs.Found.{FoundModule}
 use Rattle.modulefind.specs.declared.search.Found.{Found}

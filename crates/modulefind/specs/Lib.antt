@@ -1,5 +1,4 @@
 pub mod Answers
-pub mod Candidates
 -- for this crate's own contracts alone
 pub mod Sayings
 pub mod Versions

@@ -1,15 +1,13 @@
 -- What default files say, as the code has it.
 use Rattle.std.specs.Prelude.{◌≡◌, Option, Some, None, Result, Ok, Err, string_bytes, codes}
 use Rattle.modulename.specs.ModuleName.{Text}
-use Rattle.lookup.specs.Agreement.{Files, Listings}
+use Rattle.filetree.specs.Agreement.{Files, Listings}
 use Rattle.relations.specs.Relations.{Is, Where, ◌>>◌}
 use Rattle.modulesearch.specs.Reasons.{Reason, bad_default}
 use Rattle.modulesearch.specs.DefaultFiles.{Left, VersionIn, Names, by_command, by_variable}
 use Rattle.modulesearch.specs.Found.{IsCandidate, IsOneOf, default_file}
 use Rattle.modulefind.specs.declared.sayings.DefaultFile.{DefaultFile}
 use Rattle.modulefind.specs.declared.sayings.DefaultFile.TheVariants.{Modulerc, Version}
-use Rattle.modulefind.specs.Candidates.{version_of}
-use Rattle.modulefind.specs.declared.candidates.Candidate.{Candidate}
 use Rattle.modulefind.specs.declared.defaults.Said.{Said}
 use Rattle.modulefind.specs.declared.defaults.Said.TheVariants as said
 use Rattle.modulefind.specs.declared.defaults.Named.{Named}
@@ -32,18 +30,13 @@ said_view (said.BadFile path) = Err (bad_default (string_bytes path))
 -- a candidate, none, or the path of a default file with a fault
 abbrev pub named_view : Named → Result (Option Text) Reason
 named_view named.Nothing = Ok None
-named_view (named.Candidate candidate) = Ok (Some (version_of candidate))
+named_view (named.Candidate version) = Ok (Some (string_bytes version))
 named_view (named.BadFile path) = Err (bad_default (string_bytes path))
 
-abbrev pub candidate_named : Named → Option Candidate
-candidate_named named.Nothing = None
-candidate_named (named.Candidate candidate) = Some candidate
-candidate_named (named.BadFile path) = None
-
 -- the candidate of this version, or none where it is no candidate
-abbrev pub IsCandidateIfAny : (Text → Type 0) → Text → Option Candidate → Type 0
+abbrev pub IsCandidateIfAny : (Text → Type 0) → Text → Option Text → Type 0
 IsCandidateIfAny IsOne version None = IsOne version → ⊥
-IsCandidateIfAny IsOne version (Some candidate) = IsOne version × (version_of candidate ≡ version)
+IsCandidateIfAny IsOne version (Some v) = IsOne version × (v ≡ version)
 
 -- the candidate that one of the default files names, if it names one
 abbrev pub NamedBy : (Text → Text → Option Left → Type 0) → Files → Listings → Text → Text → DefaultFile

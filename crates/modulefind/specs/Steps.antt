@@ -1,13 +1,13 @@
 -- The search, step by step.
 use Rattle.std.specs.Prelude.{Option, Some, None, Result, Ok, Err}
 use Rattle.modulename.specs.ModuleName.{Text}
-use Rattle.lookup.specs.Agreement.{Files, Listings}
-use Rattle.lookup.specs.Search.{Held, absent, no_cookie, not_utf8, script, modulefile, path_of}
+use Rattle.filetree.specs.Agreement.{Files, Listings}
+use Rattle.filetree.specs.Search.{Held, absent, no_cookie, not_utf8, script, modulefile, path_of}
 use Rattle.relations.specs.Relations.{Is, Where, ◌>>◌}
 use Rattle.modulesearch.specs.Reasons.{Reason, not_utf8_at}
 use Rattle.modulesearch.specs.DefaultFiles.{Left}
-use Rattle.lookup.specs.Causes.{Cause, because}
-use Rattle.lookup.specs.declared.search.FindFault.{FindFault}
+use Rattle.filetree.specs.Causes.{Cause, because}
+use Rattle.filetree.specs.declared.search.FindFault.{FindFault}
 use Rattle.modulefind.specs.Answers.{cause_of}
 use Rattle.modulesearch.specs.Found.{FoundModule, IsModuleAt, HasCandidates, Default}
 

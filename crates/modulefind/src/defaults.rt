@@ -1,19 +1,18 @@
 //! The candidate that the default files of a folder name.
 ghost use Rattle.std.specs.Prelude.{◌≡◌, map, Some, IfOk, string_bytes};
-ghost use Rattle.lookup.specs.Agreement.{Files, Listings, InEachPair, HasCause};
-ghost use Rattle.lookup.specs.Search.{path_of};
+ghost use Rattle.filetree.specs.Agreement.{Files, Listings, InEachPair, HasCause};
+ghost use Rattle.filetree.specs.Search.{path_of};
 ghost use Rattle.modulesearch.specs.DefaultFiles.{Names, said};
 ghost use Rattle.modulesearch.specs.Found.{IsCandidate, NamedDefault, default_file};
-ghost use Rattle.modulefind.specs.Candidates.{IsReadIfAny};
-ghost use Rattle.modulefind.specs.Sayings.{file_name, says, said_view, named_view, candidate_named, IsCandidateIfAny, NamedBy};
+ghost use Rattle.modulefind.specs.Sayings.{file_name, says, said_view, named_view, IsCandidateIfAny, NamedBy};
 ghost use Rattle.std.specs.Option.{option_map};
 ghost use Rattle.modulesearch.specs.Ended.{ended_view};
 
-use crate::candidates::{Candidate, module_in};
+use crate::candidates::is_module_in;
 use crate::paths::{has, path_of};
 use crate::sayings::DefaultFile;
 use crate::versions::is_version;
-use lookup::{Modulefile, Tree, TreeFault, read_modulefile};
+use filetree::{Modulefile, Tree, TreeFault, read_modulefile};
 use modulesearch::{DefaultFiles, Ended};
 use std::alloc::{AllocError, Global};
 
@@ -22,8 +21,8 @@ use std::alloc::{AllocError, Global};
 pub enum Named {
     /// No candidate.
     Nothing,
-    /// This candidate.
-    Candidate(Candidate),
+    /// The candidate of this version.
+    Candidate(String),
     /// The default file at this path has a fault.
     BadFile(String),
 }
@@ -95,22 +94,21 @@ fn candidate_of<T: Tree>(
     name: &str,
     entries: &[String],
     version: String,
-) -> Result<Option<Candidate>, TreeFault>
+) -> Result<Option<String>, TreeFault>
     requires { InEachPair (T.agrees tree.old) (λ files listings.
         listings (path_of dir.now name.now) ≡ Some (map string_bytes entries.now)) }
     ensures before { InEachPair (T.agrees tree.new) (λ files listings. T.agrees tree.old files listings) }
     ensures answer { IfOk result (λ r. InEachPair (T.agrees tree.new) (λ files listings.
-        IsCandidateIfAny (IsCandidate files listings dir.now name.now) (string_bytes version) r)) }
-    ensures read { IfOk result (λ r. InEachPair (T.agrees tree.new) (λ files listings.
-        IsReadIfAny files dir.now name.now r)) }
+        IsCandidateIfAny (IsCandidate files listings dir.now name.now) (string_bytes version) (option_map string_bytes r))) }
     ensures cause { HasCause (T.failures tree.old) (T.failures tree.new) result }
 {
     if !has(entries, &version) || !is_version(alloc, name, &version)? {
         return Ok(None);
     }
-    match module_in(alloc, tree, dir, name, &version)? {
-        None => Ok(None),
-        Some(file) => Ok(Some(Candidate { version, file })),
+    if is_module_in(alloc, tree, dir, name, &version)? {
+        Ok(Some(version))
+    } else {
+        Ok(None)
     }
 }
 
@@ -129,8 +127,6 @@ fn named_by<T: Tree, D: DefaultFiles>(
     ensures before { InEachPair (T.agrees tree.new) (λ files listings. T.agrees tree.old files listings) }
     ensures answer { IfOk result (λ n. InEachPair (T.agrees tree.new) (λ files listings.
         NamedBy (D.leaves default_files.now) files listings dir.now name.now file (named_view n))) }
-    ensures read { IfOk result (λ n. InEachPair (T.agrees tree.new) (λ files listings.
-        IsReadIfAny files dir.now name.now (candidate_named n))) }
     ensures cause { HasCause (T.failures tree.old) (T.failures tree.new) result }
 {
     match said_by(alloc, tree, default_files, dir, name, file)? {
@@ -138,14 +134,14 @@ fn named_by<T: Tree, D: DefaultFiles>(
         Said::BadFile(path) => Ok(Named::BadFile(path)),
         Said::Version(version) => match candidate_of(alloc, tree, dir, name, entries, version)? {
             None => Ok(Named::Nothing),
-            Some(candidate) => Ok(Named::Candidate(candidate)),
+            Some(version) => Ok(Named::Candidate(version)),
         },
     }
 }
 
 /// The candidate that the default files in the folder of a name say, in which are these entries: `.modulerc`, or else
 /// `.version`, which isn't read where `.modulerc` names a candidate. A default file without the cookie says nothing,
-/// and so does one that names no candidate. The file of the candidate is read once.
+/// and so does one that names no candidate.
 ///
 /// It fails as the tree does, and for want of memory.
 pub fn named_default<T: Tree, D: DefaultFiles>(
@@ -161,8 +157,6 @@ pub fn named_default<T: Tree, D: DefaultFiles>(
     ensures before { InEachPair (T.agrees tree.new) (λ files listings. T.agrees tree.old files listings) }
     ensures answer { IfOk result (λ n. InEachPair (T.agrees tree.new) (λ files listings.
         NamedDefault (D.leaves default_files.now) files listings dir.now name.now (named_view n))) }
-    ensures read { IfOk result (λ n. InEachPair (T.agrees tree.new) (λ files listings.
-        IsReadIfAny files dir.now name.now (candidate_named n))) }
     ensures cause { HasCause (T.failures tree.old) (T.failures tree.new) result }
 {
     match named_by(

@@ -8,7 +8,6 @@ mod sayings;
 mod search;
 mod versions;
 
-pub use candidates::Candidate;
 pub use defaults::{Named, named_default};
 pub use paths::{is_single, path_of};
 pub use search::{Found, directories, locate};

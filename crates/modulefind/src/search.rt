@@ -2,20 +2,18 @@
 ghost use Rattle.std.specs.Prelude.{◌≡◌, ◌<◌, ◌≤◌, map, false, Some, IfOk, string_bytes};
 ghost use Rattle.std.specs.Option.{option_map};
 ghost use Rattle.modulename.specs.ModuleName.{is_module_name};
-ghost use Rattle.lookup.specs.Agreement.{Files, Listings, InEachPair};
-ghost use Rattle.lookup.specs.Search.{path_of, directories};
+ghost use Rattle.filetree.specs.Agreement.{Files, Listings, InEachPair};
+ghost use Rattle.filetree.specs.Search.{path_of, directories};
 ghost use Rattle.relations.specs.Relations.{Is};
 ghost use Rattle.modulesearch.specs.Found as meaning;
-ghost use Rattle.lookup.specs.Answers.{modulefile_view};
+ghost use Rattle.filetree.specs.Answers.{modulefile_view};
 ghost use Rattle.modulefind.specs.Answers.{Tells, found_view};
-ghost use Rattle.modulefind.specs.Candidates.{version_of, IsReadIfAny};
 ghost use Rattle.modulefind.specs.Steps.{caused, because_of, module_in, module_at, DefaultIn, Below};
 
-use crate::candidates::Candidate;
 use crate::defaults::{Named, named_default};
 use crate::paths::path_of;
-use crate::versions::greatest_candidate;
-use lookup::{FindFault, Modulefile, Tree, read_modulefile};
+use crate::versions::{greatest_candidate, has_version};
+use filetree::{FindFault, Modulefile, Tree, read_modulefile};
 use modulename::is_module_name;
 use modulesearch::DefaultFiles;
 use std::alloc::{AllocError, Global};
@@ -61,7 +59,8 @@ fn module_at<T: Tree>(
     found_in(String::from_str(alloc, name)?, path, file)
 }
 
-/// The default candidate of a name, in whose folder are these entries, if one of them is a candidate.
+/// The default candidate of a name, in whose folder are these entries, if one of them is a candidate. Default files are
+/// read only where one of them can be a version.
 fn default_of<T: Tree, D: DefaultFiles>(
     alloc: Global,
     tree: &mut T,
@@ -69,18 +68,19 @@ fn default_of<T: Tree, D: DefaultFiles>(
     dir: &str,
     name: &str,
     entries: &[String],
-) -> Result<Option<Candidate>, FindFault>
+) -> Result<Option<String>, FindFault>
     requires { InEachPair (T.agrees tree.old) (λ files listings.
         listings (path_of dir.now name.now) ≡ Some (map string_bytes entries.now)) }
     ensures before { InEachPair (T.agrees tree.new) (λ files listings. T.agrees tree.old files listings) }
     ensures later { T.failures tree.old ≤ T.failures tree.new }
-    ensures told { Tells (T.agrees tree.new) (T.failures tree.old < T.failures tree.new) (option_map version_of) result
+    ensures told { Tells (T.agrees tree.new) (T.failures tree.old < T.failures tree.new) (option_map string_bytes) result
         (λ files listings. DefaultIn (D.leaves default_files.now) files listings dir.now name.now) }
-    ensures read { IfOk result (λ r. InEachPair (T.agrees tree.new) (λ files listings.
-        IsReadIfAny files dir.now name.now r)) }
 {
+    if !has_version(alloc, name, entries)? {
+        return Ok(None);
+    }
     match named_default(alloc, tree, default_files, dir, name, entries)? {
-        Named::Candidate(candidate) => Ok(Some(candidate)),
+        Named::Candidate(version) => Ok(Some(version)),
         Named::Nothing => Ok(greatest_candidate(alloc, tree, dir, name, entries)?),
         Named::BadFile(path) => match greatest_candidate(alloc, tree, dir, name, entries)? {
             None => Ok(None),
@@ -96,13 +96,11 @@ fn default_in<T: Tree, D: DefaultFiles>(
     default_files: &D,
     dir: &str,
     name: &str,
-) -> Result<Option<Candidate>, FindFault>
+) -> Result<Option<String>, FindFault>
     ensures before { InEachPair (T.agrees tree.new) (λ files listings. T.agrees tree.old files listings) }
     ensures later { T.failures tree.old ≤ T.failures tree.new }
-    ensures told { Tells (T.agrees tree.new) (T.failures tree.old < T.failures tree.new) (option_map version_of) result
+    ensures told { Tells (T.agrees tree.new) (T.failures tree.old < T.failures tree.new) (option_map string_bytes) result
         (λ files listings. DefaultIn (D.leaves default_files.now) files listings dir.now name.now) }
-    ensures read { IfOk result (λ r. InEachPair (T.agrees tree.new) (λ files listings.
-        IsReadIfAny files dir.now name.now r)) }
 {
     let folder = path_of(alloc, dir, name)?;
     match tree.entries(&folder)? {
@@ -129,10 +127,9 @@ fn module_below<T: Tree, D: DefaultFiles>(
     }
     match default_in(alloc, tree, default_files, dir, name)? {
         None => Ok(None),
-        Some(candidate) => {
-            let full = path_of(alloc, name, &candidate.version)?;
-            let path = path_of(alloc, dir, &full)?;
-            found_in(full, path, candidate.file)
+        Some(version) => {
+            let full = path_of(alloc, name, &version)?;
+            module_at(alloc, tree, dir, &full)
         }
     }
 }

@@ -3,14 +3,13 @@ ghost use Rattle.std.specs.Prelude.{◌≡◌, map, filter, find, Some, OnOk, If
 ghost use Rattle.std.specs.List.{list_any};
 ghost use Rattle.std.specs.List.Sorted.{IsPermutation, IsSortedBy};
 ghost use Rattle.std.specs.Option.{option_map};
-ghost use Rattle.lookup.specs.Agreement.{Files, Listings, InEachPair, HasCause};
-ghost use Rattle.lookup.specs.Search.{path_of};
-ghost use Rattle.modulefind.specs.Candidates.{version_of, IsReadIfAny};
+ghost use Rattle.filetree.specs.Agreement.{Files, Listings, InEachPair, HasCause};
+ghost use Rattle.filetree.specs.Search.{path_of};
 ghost use Rattle.modulefind.specs.Versions.{is_version, is_module_in, goes_before, IsGreatestOf};
 
-use crate::candidates::{Candidate, module_in};
+use crate::candidates::is_module_in;
 use crate::paths::{is_single, path_of};
-use lookup::{Tree, TreeFault};
+use filetree::{Tree, TreeFault};
 use modulename::is_module_name;
 use moduleversion::version_order;
 use std::alloc::{AllocError, Global};
@@ -25,6 +24,20 @@ pub(crate) fn is_version(alloc: Global, name: &str, entry: &str) -> Result<bool,
     }
     let full = path_of(alloc, name, entry)?;
     Ok(is_module_name(&full))
+}
+
+/// Whether an entry of the folder of a name can be a version.
+pub(crate) fn has_version(alloc: Global, name: &str, entries: &[String]) -> Result<bool, AllocError>
+    ensures { IfOk result (λ r. r ≡ list_any (is_version name.now) (map string_bytes entries.now)) }
+{
+    let mut rest = entries;
+    while let [entry, after @ ..] = rest {
+        if is_version(alloc, name, entry)? {
+            return Ok(true);
+        }
+        rest = after;
+    }
+    Ok(false)
 }
 
 /// The entries of the folder of a name that can be versions.
@@ -63,27 +76,24 @@ fn first_module<T: Tree>(
     dir: &str,
     name: &str,
     versions: &[&str],
-) -> Result<Option<Candidate>, TreeFault>
+) -> Result<Option<String>, TreeFault>
     ensures before { InEachPair (T.agrees tree.new) (λ files listings. T.agrees tree.old files listings) }
     ensures answer { IfOk result (λ r. InEachPair (T.agrees tree.new) (λ files listings.
-        option_map version_of r ≡ find (is_module_in files dir.now name.now) (map (λ v. v.now) versions.now))) }
-    ensures read { IfOk result (λ r. InEachPair (T.agrees tree.new) (λ files listings.
-        IsReadIfAny files dir.now name.now r)) }
+        option_map string_bytes r ≡ find (is_module_in files dir.now name.now) (map (λ v. v.now) versions.now))) }
     ensures cause { HasCause (T.failures tree.old) (T.failures tree.new) result }
 {
     let mut rest = versions;
     while let [version, after @ ..] = rest {
-        if let Some(file) = module_in(alloc, tree, dir, name, version)? {
-            let version = String::from_str(alloc, version)?;
-            return Ok(Some(Candidate { version, file }));
+        if is_module_in(alloc, tree, dir, name, version)? {
+            return Ok(Some(String::from_str(alloc, version)?));
         }
         rest = after;
     }
     Ok(None)
 }
 
-/// The greatest candidate of a name, in whose folder are these entries. It reads versions from the greatest down to
-/// the first that is a candidate.
+/// The greatest candidate of a name, in whose folder are these entries. It asks for the files of
+/// versions from the greatest down to the first that is a candidate.
 ///
 /// It fails as the tree does, and for want of memory.
 pub(crate) fn greatest_candidate<T: Tree>(
@@ -92,14 +102,12 @@ pub(crate) fn greatest_candidate<T: Tree>(
     dir: &str,
     name: &str,
     entries: &[String],
-) -> Result<Option<Candidate>, TreeFault>
+) -> Result<Option<String>, TreeFault>
     requires { InEachPair (T.agrees tree.old) (λ files listings.
         listings (path_of dir.now name.now) ≡ Some (map string_bytes entries.now)) }
     ensures before { InEachPair (T.agrees tree.new) (λ files listings. T.agrees tree.old files listings) }
     ensures answer { IfOk result (λ r. InEachPair (T.agrees tree.new) (λ files listings.
-        IsGreatestOf files listings dir.now name.now (option_map version_of r))) }
-    ensures read { IfOk result (λ r. InEachPair (T.agrees tree.new) (λ files listings.
-        IsReadIfAny files dir.now name.now r)) }
+        IsGreatestOf files listings dir.now name.now (option_map string_bytes r))) }
     ensures cause { HasCause (T.failures tree.old) (T.failures tree.new) result }
 {
     let mut versions = versions_in(alloc, name, entries)?;

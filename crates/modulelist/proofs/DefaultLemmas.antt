@@ -3,8 +3,8 @@ use Rattle.std.proofs.Common.{◌≡◌, true, [], ◌∷◌, ◌++◌, Option, 
 use Rattle.std.specs.Prelude.{bytes_eq}
 use Rattle.std.proofs.lemmas.Slice.Eq.{bytes_eq-Decides}
 use Rattle.modulename.specs.ModuleName.{Text, slash, parts}
-use Rattle.lookup.specs.Agreement.{Files, Listings}
-use Rattle.lookup.specs.Search.{path_of}
+use Rattle.filetree.specs.Agreement.{Files, Listings}
+use Rattle.filetree.specs.Search.{path_of}
 use Rattle.modulesearch.specs.Single.{is_single}
 use Rattle.modulesearch.specs.Reasons.{Reason}
 use Rattle.modulesearch.specs.DefaultFiles.{Left}

@@ -16,7 +16,7 @@ use Rattle.std.proofs.lemmas.Slice.Eq.{bytes_eq-Decides}
 use Rattle.modulename.specs.ModuleName.{Text, parts}
 use Rattle.moduleversion.specs.Versions.{version_order}
 use Rattle.moduleversion.proofs.OrderLemmas.{total, equal}
-use Rattle.lookup.specs.Agreement.{Files, Listings}
+use Rattle.filetree.specs.Agreement.{Files, Listings}
 use Rattle.modulesearch.specs.DefaultFiles.{Left}
 use Rattle.modulesearch.specs.Listed as listed
 use Rattle.modulesearch.specs.Listed.{LeadsThrough, IsBelow, IsNamed, IsListing, names_of, is_marked}

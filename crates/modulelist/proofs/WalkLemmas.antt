@@ -5,7 +5,7 @@ use Rattle.std.proofs.lemmas.Bool.{or_cases, or_left, or_right}
 use Rattle.std.proofs.lemmas.List.{take_all}
 use Rattle.std.proofs.lemmas.Slice.Eq.{bytes_eq-Decides}
 use Rattle.modulename.specs.ModuleName.{Text, parts}
-use Rattle.lookup.specs.Agreement.{Files, Listings}
+use Rattle.filetree.specs.Agreement.{Files, Listings}
 use Rattle.modulesearch.specs.DefaultFiles.{Left}
 use Rattle.modulesearch.specs.Listed.{Row}
 use Rattle.modulefind.proofs.VersionLemmas.{has}

@@ -2,8 +2,8 @@
 use Rattle.std.specs.Prelude.{◌≡◌, ◌↔◌, ◌⊎◌, Bool, true, List, [], map, filter, Option, Some, None, bytes_eq}
 use Rattle.std.specs.List.{list_any, AllByRecursion}
 use Rattle.modulename.specs.ModuleName.{Text, parts, is_module_name}
-use Rattle.lookup.specs.Agreement.{Files, Listings}
-use Rattle.lookup.specs.Search.{modulefile, is_module, path_of}
+use Rattle.filetree.specs.Agreement.{Files, Listings}
+use Rattle.filetree.specs.Search.{modulefile, is_module, path_of}
 use Rattle.modulesearch.specs.Single.{is_single}
 use Rattle.modulesearch.specs.DefaultFiles.{Left}
 use Rattle.modulesearch.specs.Found.{IsModuleAt}

@@ -1,14 +1,14 @@
 //! The modules below a folder.
 ghost use Rattle.std.specs.Prelude.{◌≡◌, ◌++◌, ◌+◌, ◌≤◌, List, map, Some, length, OnOk, IfOk, string_bytes};
 ghost use Rattle.std.specs.Option.{option_map};
-ghost use Rattle.lookup.specs.Agreement.{Files, Listings, InEachPair, HasCause};
+ghost use Rattle.filetree.specs.Agreement.{Files, Listings, InEachPair, HasCause};
 ghost use Rattle.modulesearch.specs.Listed as listed;
 ghost use Rattle.modulelist.specs.Below.{folder_path, parts_of, names_in, IsUnder, AreFiles, AreRows, IsDefaultOf};
 ghost use Rattle.modulelist.specs.Rows.{row_view};
 
 use crate::names::{folder_path, modules_among, names_in};
 use crate::rows::{Row, push_rows};
-use lookup::{Tree, TreeFault};
+use filetree::{Tree, TreeFault};
 use modulefind::{Named, named_default, path_of};
 use modulesearch::DefaultFiles;
 use std::alloc::Global;
@@ -51,9 +51,7 @@ impl<D: DefaultFiles> Walk<'_, D> {
             front,
             entries,
         )? {
-            Named::Candidate(candidate) => {
-                Ok(Some(path_of(self.alloc, front, &candidate.version)?))
-            }
+            Named::Candidate(version) => Ok(Some(path_of(self.alloc, front, &version)?)),
             Named::Nothing => Ok(None),
             Named::BadFile(_) => Ok(None),
         }

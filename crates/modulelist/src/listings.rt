@@ -1,13 +1,13 @@
 //! The modules of each directory of a MODULEPATH.
 ghost use Rattle.std.specs.Prelude.{◌≡◌, map, IfOk, string_bytes};
-ghost use Rattle.lookup.specs.Agreement.{Files, Listings, InEachPair, HasCause};
+ghost use Rattle.filetree.specs.Agreement.{Files, Listings, InEachPair, HasCause};
 ghost use Rattle.modulesearch.specs.Listed.{IsListing, AreListings, Listed};
 ghost use Rattle.modulelist.specs.Rows.{row_view};
 ghost use Rattle.modulelist.specs.Listings.{listing_view};
 
 use crate::folders::Walk;
 use crate::rows::{Row, drop_repeats, sort_rows};
-use lookup::{Tree, TreeFault};
+use filetree::{Tree, TreeFault};
 use modulefind::directories;
 use modulename::MOST_PARTS;
 use modulesearch::DefaultFiles;

@@ -1,11 +1,11 @@
 //! Names below a directory.
 ghost use Rattle.std.specs.Prelude.{◌≡◌, map, filter, IfOk, string_bytes};
 ghost use Rattle.std.specs.Option.{option_map};
-ghost use Rattle.lookup.specs.Agreement.{Files, Listings, InEachPair, HasCause};
+ghost use Rattle.filetree.specs.Agreement.{Files, Listings, InEachPair, HasCause};
 ghost use Rattle.modulesearch.specs.Single.{is_single};
 ghost use Rattle.modulelist.specs.Below.{folder_path, name_below, names_in, is_module_below};
 
-use lookup::{Tree, TreeFault, holds_module};
+use filetree::{Tree, TreeFault, holds_module};
 use modulefind::{is_single, path_of};
 use modulename::is_module_name;
 use std::alloc::{AllocError, Global};

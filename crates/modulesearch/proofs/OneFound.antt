@@ -1,8 +1,8 @@
 -- A name means one module at most, since an evaluation leaves one thing and a set has one greatest member.
 use Rattle.std.proofs.Common.{◌≡◌, List, [], ◌∷◌, Option, Some, None, Ok, Err, ap, sym, ◌∙◌}
 use Rattle.modulename.specs.ModuleName.{Text, is_module_name}
-use Rattle.lookup.specs.Agreement.{Files, Listings}
-use Rattle.lookup.specs.Search.{Held, absent, no_cookie, not_utf8, script, modulefile, path_of, directories}
+use Rattle.filetree.specs.Agreement.{Files, Listings}
+use Rattle.filetree.specs.Search.{Held, absent, no_cookie, not_utf8, script, modulefile, path_of, directories}
 use Rattle.relations.specs.Relations.{IsOne}
 use Rattle.relations.proofs.One.{one_is, one_then, one_if, one_where}
 use Rattle.modulesearch.specs.Reasons.{bad_name, bad_default, not_found}

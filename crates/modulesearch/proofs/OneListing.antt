@@ -7,8 +7,8 @@ use Rattle.std.proofs.lemmas.Bool.{or_cases, or_left, or_right, and_parts, and_f
 use Rattle.std.proofs.lemmas.Cmp.{tied_itself}
 use Rattle.std.proofs.lemmas.Slice.Eq.{bytes_eq-Decides}
 use Rattle.modulename.specs.ModuleName.{Text}
-use Rattle.lookup.specs.Agreement.{Files, Listings}
-use Rattle.lookup.specs.Search.{directories}
+use Rattle.filetree.specs.Agreement.{Files, Listings}
+use Rattle.filetree.specs.Search.{directories}
 use Rattle.modulesearch.specs.DefaultFiles.{Left}
 use Rattle.moduleversion.specs.Versions.{version_order}
 use Rattle.modulesearch.specs.Listed.{Row, names_of, is_marked, IsListing, Listing, AreListings, Listed}

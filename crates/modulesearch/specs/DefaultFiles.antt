@@ -4,8 +4,8 @@ use Rattle.std.specs.Prelude.{◌≡◌, List, [], ◌∷◌, ◌++◌, codes, b
 use Rattle.std.specs.Option.{option_or}
 use Rattle.std.specs.List.{list_any}
 use Rattle.modulename.specs.ModuleName.{Text, slash}
-use Rattle.lookup.specs.Search.{Held, absent, no_cookie, not_utf8, script, modulefile}
-use Rattle.lookup.specs.Agreement.{Files}
+use Rattle.filetree.specs.Search.{Held, absent, no_cookie, not_utf8, script, modulefile}
+use Rattle.filetree.specs.Agreement.{Files}
 use Rattle.relations.specs.Relations.{Is}
 use Rattle.modulesearch.specs.Reasons.{Reason, bad_default}
 

@@ -3,8 +3,8 @@
 use Rattle.std.specs.Prelude.{◌≡◌, true, List, [], ◌∷◌, bytes_eq, codes, Option, Some, None, Result, Ok, Err}
 use Rattle.std.specs.List.{list_any}
 use Rattle.modulename.specs.ModuleName.{Text, is_module_name}
-use Rattle.lookup.specs.Agreement.{Files, Listings}
-use Rattle.lookup.specs.Search.{Held, absent, no_cookie, not_utf8, script, modulefile, is_module, directories, path_of}
+use Rattle.filetree.specs.Agreement.{Files, Listings}
+use Rattle.filetree.specs.Search.{Held, absent, no_cookie, not_utf8, script, modulefile, is_module, directories, path_of}
 use Rattle.relations.specs.Relations.{Is, If, Where, ◌>>◌}
 use Rattle.moduleversion.specs.Versions.{IsGreatest}
 use Rattle.modulesearch.specs.Single.{is_single}

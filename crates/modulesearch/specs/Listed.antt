@@ -4,8 +4,8 @@ use Rattle.std.specs.Prelude.{◌≡◌, ◌↔◌, Bool, true, ◌&&◌, List, 
 use Rattle.std.specs.List.{list_any}
 use Rattle.std.specs.List.Sorted.{IsStrictlySortedBy}
 use Rattle.modulename.specs.ModuleName.{Text, parts, is_module_name}
-use Rattle.lookup.specs.Agreement.{Files, Listings}
-use Rattle.lookup.specs.Search.{directories, path_of}
+use Rattle.filetree.specs.Agreement.{Files, Listings}
+use Rattle.filetree.specs.Search.{directories, path_of}
 use Rattle.moduleversion.specs.Versions.{version_order}
 use Rattle.modulesearch.specs.DefaultFiles.{Left}
 use Rattle.modulesearch.specs.Found.{IsModuleAt, HasEntry, NamedDefault}

@@ -1,7 +1,7 @@
 //! What holds of the definitions that the contracts cite.
 ghost use Rattle.std.specs.Prelude.{◌≡◌, [], ◌∷◌, List, Result, codes, Some, None};
 ghost use Rattle.modulename.specs.ModuleName.{Text};
-ghost use Rattle.lookup.specs.Agreement.{Files, Listings};
+ghost use Rattle.filetree.specs.Agreement.{Files, Listings};
 ghost use Rattle.modulesearch.specs.Reasons.{Reason};
 ghost use Rattle.modulesearch.specs.DefaultFiles.{last_default};
 ghost use Rattle.modulesearch.specs.Found.{FoundModule, Found};

@@ -1,6 +1,6 @@
 use Rattle.std.proofs.Common.{subst}
 use Rattle.std.proofs.lemmas.Result.{IfOk-weaker}
-use Rattle.lookup.specs.Agreement.{InEachPair}
+use Rattle.filetree.specs.Agreement.{InEachPair}
 use Rattle.modulesearch.specs.Found.{NamedDefault}
 use Rattle.modulefind.specs.Sayings.{named_view, NamedBy}
 use Rattle.modulefind.specs.declared.sayings.DefaultFile.TheVariants.{Modulerc, Version}

@@ -1,5 +1,5 @@
 use Rattle.std.proofs.Common.{◌≤◌, Result, length, map}
-use Rattle.lookup.specs.Agreement.{InEachPair}
+use Rattle.filetree.specs.Agreement.{InEachPair}
 use Rattle.modulesearch.specs.Reasons.{Reason}
 use Rattle.modulesearch.specs.Found.{FoundModule, FoundAlong}
 use Rattle.modulefind.proofs.search.module_along.Given as goal

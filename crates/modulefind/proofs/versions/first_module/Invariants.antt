@@ -1,5 +1,5 @@
 use Rattle.std.proofs.Common.{◌≡◌, ◌≤◌, length, map, find}
-use Rattle.lookup.specs.Agreement.{InEachPair}
+use Rattle.filetree.specs.Agreement.{InEachPair}
 use Rattle.modulefind.specs.Versions.{is_module_in}
 use Rattle.modulefind.proofs.versions.first_module.Given as goal
 

@@ -1,7 +1,6 @@
 use Rattle.std.proofs.Common.{◌≡◌, map, find, string_bytes, option_map, ap, ◌∙◌}
 use Rattle.std.proofs.lemmas.Result.{IfOk-weaker}
-use Rattle.lookup.specs.Agreement.{InEachPair}
-use Rattle.modulefind.specs.Candidates.{version_of}
+use Rattle.filetree.specs.Agreement.{InEachPair}
 use Rattle.modulefind.specs.Versions.{is_module_in, IsGreatestOf}
 use Rattle.modulefind.proofs.VersionLemmas.{greatest_is}
 use Rattle.modulefind.proofs.versions.greatest_candidate.Goals as goal
@@ -12,10 +11,10 @@ returns-clause-answer g c =
     let name = c.args.name.now in
     let agrees = g.T.Tree.agrees c.first_module.new.tree in
     IfOk-weaker c.first_module.result
-    (λ r. InEachPair agrees (λ files listings. option_map version_of r ≡ find (is_module_in files dir name) (map (λ v. v.now) c.deref.result.now)))
-    (λ r. InEachPair agrees (λ files listings. IsGreatestOf files listings dir name (option_map version_of r)))
+    (λ r. InEachPair agrees (λ files listings. option_map string_bytes r ≡ find (is_module_in files dir name) (map (λ v. v.now) c.deref.result.now)))
+    (λ r. InEachPair agrees (λ files listings. IsGreatestOf files listings dir name (option_map string_bytes r)))
     (λ r h files listings agree.
     greatest_is files listings dir name (map string_bytes c.args.entries.now) (c.requires files listings (c.first_module.ensures.before files listings agree))
-    (λ v. v.now) c.in_ok-versions.versions.items c.sort_down.new.versions.items c.in_ok-versions.ensures c.in_ok-sort_down.ensures.same c.in_ok-sort_down.ensures.sorted (option_map version_of r)
+    (λ v. v.now) c.in_ok-versions.versions.items c.sort_down.new.versions.items c.in_ok-versions.ensures c.in_ok-sort_down.ensures.same c.in_ok-sort_down.ensures.sorted (option_map string_bytes r)
     (h files listings agree ∙ ap (λ vs. find (is_module_in files dir name) (map (λ v. v.now) vs)) c.deref.ensures.value))
     c.first_module.ensures.answer

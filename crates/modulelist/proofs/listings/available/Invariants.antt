@@ -1,5 +1,5 @@
 use Rattle.std.proofs.Common.{◌≤◌, ◌++◌, List, length, map}
-use Rattle.lookup.specs.Agreement.{InEachPair}
+use Rattle.filetree.specs.Agreement.{InEachPair}
 use Rattle.modulesearch.specs.Listed as listed
 use Rattle.modulesearch.specs.Listed.{AreListings}
 use Rattle.modulelist.specs.Listings.{listing_view}

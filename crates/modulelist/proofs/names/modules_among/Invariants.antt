@@ -1,5 +1,5 @@
 use Rattle.std.proofs.Common.{◌≡◌, ◌≤◌, ◌++◌, length, filter, map, string_bytes}
-use Rattle.lookup.specs.Agreement.{InEachPair}
+use Rattle.filetree.specs.Agreement.{InEachPair}
 use Rattle.modulelist.specs.Below.{is_module_below}
 use Rattle.modulelist.proofs.names.modules_among.Given as goal
 

@@ -1,5 +1,5 @@
 use Rattle.std.proofs.Common.{◌≡◌, ◌≤◌, ◌++◌, ◌-◌, [], ◌∷◌, length, map, option_map, string_bytes, take, drop, Some, None, refl, sym, ap, ◌∙◌, append_assoc, append-nil, arith, rules}
-use Rattle.lookup.specs.Agreement.{listing_answer}
+use Rattle.filetree.specs.Agreement.{listing_answer}
 use Rattle.modulelist.specs.Rows.{row_view}
 use Rattle.modulelist.specs.Below.{folder_path, parts_of, IsUnder}
 use Rattle.modulelist.proofs.UnderLemmas.{none_under, deep_under}

@@ -1,5 +1,5 @@
 use Rattle.std.proofs.Common.{◌≡◌, ◌++◌, ◌≤◌, List, length, map, string_bytes}
-use Rattle.lookup.specs.Agreement.{InEachPair}
+use Rattle.filetree.specs.Agreement.{InEachPair}
 use Rattle.modulename.specs.ModuleName.{Text}
 use Rattle.modulesearch.specs.Listed as listed
 use Rattle.modulelist.specs.Rows.{row_view}

@@ -1,5 +1,5 @@
 use Rattle.std.proofs.Common.{string_bytes, option_map, Ok, Err, None, Some, sym, ap, ◌∙◌, subst}
-use Rattle.lookup.specs.Search.{path_of}
+use Rattle.filetree.specs.Search.{path_of}
 use Rattle.modulesearch.specs.Reasons.{bad_default}
 use Rattle.modulesearch.specs.Found.{NamedDefault}
 use Rattle.modulefind.specs.Sayings.{named_view}
@@ -15,9 +15,9 @@ returns-in-Candidate-clause-answer g c = λ files folders a.
     let front = c.in-Some.front.now in
     let default = string_bytes c.in_ok-path_of-in-Candidate.field-0 in
     subst (λ f. IsDefaultOf leaves files folders dir (option_map (λ x. x.now) f) (Some default)) (sym c.in-Some.is)
-    (default_candidate leaves law files folders dir front (string_bytes c.in-Candidate.candidate.version) default
+    (default_candidate leaves law files folders dir front (string_bytes c.in-Candidate.version) default
     (c.in_ok-path_of-in-Candidate.ensures ∙ ap (path_of front) c.deref.ensures)
-    (subst (λ n. NamedDefault leaves files folders dir front (named_view n)) c.in-Candidate.is (c.in_ok-candidate.ensures.answer files folders a)))
+    (subst (λ n. NamedDefault leaves files folders dir front (named_view n)) c.in-Candidate.is (c.in_ok-version.ensures.answer files folders a)))
 
 pub returns-in-Nothing-clause-answer : goal.returns-in-Nothing-clause-answer
 returns-in-Nothing-clause-answer g c = λ files folders a.
@@ -27,7 +27,7 @@ returns-in-Nothing-clause-answer g c = λ files folders a.
     let front = c.in-Some.front.now in
     subst (λ f. IsDefaultOf leaves files folders dir (option_map (λ x. x.now) f) None) (sym c.in-Some.is)
     (default_nothing leaves law files folders dir front (Ok None)
-    (subst (λ n. NamedDefault leaves files folders dir front (named_view n)) c.in-Nothing.is (c.in_ok-candidate.ensures.answer files folders a)) (λ v q. absurd (cc)))
+    (subst (λ n. NamedDefault leaves files folders dir front (named_view n)) c.in-Nothing.is (c.in_ok-version.ensures.answer files folders a)) (λ v q. absurd (cc)))
 
 pub returns-clause-answer : goal.returns-clause-answer
 returns-clause-answer g c = λ files folders a.
@@ -37,4 +37,4 @@ returns-clause-answer g c = λ files folders a.
     let front = c.in-Some.front.now in
     subst (λ f. IsDefaultOf leaves files folders dir (option_map (λ x. x.now) f) None) (sym c.in-Some.is)
     (default_nothing leaves law files folders dir front (Err (bad_default (string_bytes c.in-BadFile.field-0)))
-    (subst (λ n. NamedDefault leaves files folders dir front (named_view n)) c.in-BadFile.is (c.in_ok-candidate.ensures.answer files folders a)) (λ v q. absurd (cc)))
+    (subst (λ n. NamedDefault leaves files folders dir front (named_view n)) c.in-BadFile.is (c.in_ok-version.ensures.answer files folders a)) (λ v q. absurd (cc)))

@@ -1,0 +1,34 @@
+-- What agrees with the answers of a disk that are kept.
+use Rattle.std.proofs.Common.{ap, ◌∙◌}
+use Rattle.std.specs.Prelude.{◌≡◌, ℕ, Bool, List, map, Option, Some, None, String, bytes_eq, string_bytes, vec_items}
+use Rattle.std.specs.List.{list_any}
+use Rattle.std.specs.declared.alloc.Global.{Global}
+use Rattle.std.specs.declared.vec.Vec.{Vec}
+use Rattle.filetree.specs.Agreement.{BeginAlike, begins_with, file_answer, listing_answer, kept, kept-answer}
+use Rattle.filetree.specs.declared.front.Front.{Front}
+
+-- whether the device failed at a path, by the paths that were noted
+abbrev pub has_failed : Vec (String Global) Global → List ℕ → Bool
+has_failed failed path = list_any (bytes_eq path) (map string_bytes (vec_items failed))
+
+abbrev pub file_at : Option (Option (Vec ℕ Global)) → Option Front → Option (List ℕ)
+file_at (Some answer) front = file_answer answer
+file_at None None = None
+file_at None (Some front) = file_answer front.bytes
+
+abbrev pub listing_at : Option (Option (Vec (String Global) Global)) → Option (List (List ℕ))
+listing_at = kept listing_answer
+
+pub kept-file : (had : Option (Option (Vec ℕ Global))) (front : Option Front) (answer : Option (Vec ℕ Global))
+    → had ≡ Some answer → file_at had front ≡ file_answer answer
+kept-file had front answer e = ap (λ h. file_at h front) e
+
+pub kept-listing : (had : Option (Option (Vec (String Global) Global))) (answer : Option (Vec (String Global) Global))
+    → had ≡ Some answer → listing_at had ≡ listing_answer answer
+kept-listing had answer e = kept-answer listing_answer had answer e
+
+pub kept-front : (had : Option (Option (Vec ℕ Global))) (read : Option Front) (front : Front) → had ≡ None
+    → read ≡ Some front → BeginAlike front.size (file_at had read) (file_answer front.bytes)
+kept-front had read front none e =
+    let same : file_at had read ≡ file_answer front.bytes = ap (λ h. file_at h read) none ∙ ap (λ r. file_at None r) e in
+    λ begin short. ap (begins_with begin) same

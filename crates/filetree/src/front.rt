@@ -1,0 +1,79 @@
+//! How files begin.
+ghost use Rattle.std.specs.Prelude.{◌≡◌, ◌≤◌, length, take, IfOk, IfSome, is_some, true};
+ghost use Rattle.filetree.specs.Agreement.{BeginAlike, begins_with, file_answer};
+ghost use Rattle.filetree.specs.Devices.{is_file};
+
+use crate::look::Thing;
+use crate::tree::TreeFault;
+use std::alloc::Global;
+use std::io::Read;
+use std::rt::Files;
+use std::{fs, io};
+
+/// How a file begins, as far as it was read.
+#[derive(Drop)]
+pub(crate) struct Front {
+    /// How many bytes were asked for.
+    pub(crate) size: usize,
+    /// So many, or all of a file that has fewer; none where no file was there.
+    pub(crate) bytes: Option<Vec<u8>>,
+}
+
+/// Whether what was answered for a path begins with these bytes.
+pub(crate) fn begins(answer: &Option<Vec<u8>>, front: &[u8]) -> bool
+    ensures { result ≡ begins_with front.now (file_answer answer.now) }
+{
+    match answer {
+        None => false,
+        Some(bytes) => bytes.as_slice().starts_with(front),
+    }
+}
+
+/// The first bytes that a reader gives, at most so many. No more is read.
+fn first_bytes<F: Read + Drop>(alloc: Global, file: F, size: usize) -> io::Result<Vec<u8>>
+    ensures { IfSome (F.remaining file) (λ bytes. IfOk result (λ front. front.items ≡ take size bytes)) }
+{
+    let mut front = Vec::new(alloc);
+    file.take(size as u64).read_to_end(&mut front)?;
+    Ok(front)
+}
+
+/// How the file begins at a path where this thing is. No other thing is opened.
+pub(crate) fn load_front<R: Files + AllocGlobal>(
+    rt: &R,
+    path: &str,
+    thing: Thing,
+    size: usize,
+) -> Result<Front, TreeFault>
+    ensures size { IfOk result (λ front. front.size ≡ size) }
+    ensures there { IfOk result (λ front. is_some front.bytes ≡ is_file thing) }
+{
+    let bytes = match thing {
+        Thing::File => Some(first_bytes(rt.alloc(), fs::open(rt, path)?, size)?),
+        Thing::Nothing | Thing::Directory | Thing::Other => None,
+    };
+    Ok(Front { size, bytes })
+}
+
+/// The first bytes, at most so many.
+fn first(bytes: &[u8], size: usize) -> &[u8]
+    ensures { result.now ≡ take size bytes.entry.now }
+{
+    if size < bytes.len() {
+        &bytes[..size]
+    } else {
+        bytes
+    }
+}
+
+/// Whether what was read of a path begins as its front.
+pub(crate) fn is_alike(answer: &Option<Vec<u8>>, front: &Front) -> bool
+    ensures { result ≡ true
+        → BeginAlike front.now.size (file_answer answer.now) (file_answer front.now.bytes) }
+{
+    match (answer, &front.bytes) {
+        (None, None) => true,
+        (Some(bytes), Some(begin)) => first(bytes, front.size) == begin.as_slice(),
+        (None, Some(_)) | (Some(_), None) => false,
+    }
+}

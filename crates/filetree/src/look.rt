@@ -1,0 +1,89 @@
+//! What the system says is at a path.
+ghost use Rattle.std.specs.Prelude.{◌≡◌, ◌≢◌, ◌↔◌, true, Ok};
+ghost use Rattle.std.specs.Fs.{IsDir, IsFile, file_type};
+ghost use Rattle.std.specs.IoError.{error_kind};
+ghost use Rattle.filetree.specs.Devices.{Finds, fault_of_kind, has_nul, is_absence};
+
+use crate::tree::TreeFault;
+use std::io::ErrorKind;
+use std::rt::Files;
+use std::{fs, io};
+
+/// What is at a path.
+#[derive(Clone, Copy)]
+pub(crate) enum Thing {
+    /// No name leads to anything.
+    Nothing,
+    File,
+    Directory,
+    /// A pipe, a socket or a device.
+    Other,
+}
+
+fn fault_of(e: &io::Error) -> TreeFault
+    ensures { result ≡ fault_of_kind (error_kind e.now) }
+{
+    match e.kind() {
+        ErrorKind::OutOfMemory => TreeFault::OutOfMemory,
+        _ => TreeFault::Device,
+    }
+}
+
+impl From<io::Error> for TreeFault {
+    ghost from_gives = { λ e fault. fault ≡ fault_of_kind (error_kind e) };
+
+    fn from(e: io::Error) -> TreeFault {
+        fault_of(&e)
+    }
+}
+
+/// No name leads to anything there.
+fn is_absence(e: &io::Error) -> bool
+    ensures { result ≡ is_absence (error_kind e.now) }
+{
+    match e.kind() {
+        ErrorKind::NotFound => true,
+        ErrorKind::NotADirectory => true,
+        _ => false,
+    }
+}
+
+fn thing_of(found: &fs::Metadata) -> Thing
+    ensures something { result ≢ Thing.Nothing }
+    ensures file { (result ≡ Thing.File) ↔ IsFile (file_type found.now) }
+    ensures directory { result ≡ Thing.Directory → IsDir (file_type found.now) }
+{
+    if found.is_file() {
+        Thing::File
+    } else if found.is_dir() {
+        Thing::Directory
+    } else {
+        Thing::Other
+    }
+}
+
+/// What the system's answer says is there.
+fn found(answer: io::Result<fs::Metadata>) -> Result<Thing, TreeFault>
+    ensures { Finds answer result }
+{
+    match answer {
+        Ok(found) => Ok(thing_of(&found)),
+        Err(e) => {
+            if is_absence(&e) {
+                Ok(Thing::Nothing)
+            } else {
+                Err(fault_of(&e))
+            }
+        }
+    }
+}
+
+/// Looks at a path, behind its links. A text with NUL is no path, so the system isn't asked.
+pub(crate) fn look<R: Files>(rt: &R, path: &str) -> Result<Thing, TreeFault>
+    ensures { has_nul path.now ≡ true → result ≡ Ok Thing.Nothing }
+{
+    if path.as_bytes().contains(&0) {
+        return Ok(Thing::Nothing);
+    }
+    found(fs::metadata(rt, path))
+}

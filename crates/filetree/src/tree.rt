@@ -1,0 +1,122 @@
+//! What every tree of files keeps.
+ghost use Rattle.std.specs.Prelude.{◌≡◌, ℕ, Bool, true, List, Some, IfOk};
+ghost use Rattle.filetree.specs.declared.tree.TreeFault.TheVariants.{OutOfMemory};
+ghost use Rattle.message.specs.Messages.{text_of};
+ghost use Rattle.filetree.specs.Agreement.{FailsAt, Files, Listings, InEachPair, HasCause, IsAgreeable, begins_with, file_answer, is_device, listing_answer, tree_message, tree_number, Narrows};
+
+use message::Message;
+use std::alloc::{AllocError, AllocFailed};
+use std::error::Error;
+use std::fmt;
+use std::fmt::Display;
+
+/// Why a tree gave no answer.
+#[derive(Clone, Copy, Debug, PartialEq, Eq)]
+pub enum TreeFault {
+    /// No memory was left for the answer.
+    OutOfMemory,
+    /// The device failed: what is at the path could not be read or listed.
+    Device,
+}
+
+impl TreeFault {
+    /// The number of the fault: 41 for want of memory, 43 for the device.
+    pub fn number(&self) -> u16
+        ensures { result ≡ tree_number self.now }
+    {
+        match self {
+            TreeFault::OutOfMemory => 41,
+            TreeFault::Device => 43,
+        }
+    }
+
+    /// What the fault says.
+    pub fn message(&self) -> Message<'static>
+        ensures { text_of result ≡ tree_message self.now }
+    {
+        match self {
+            TreeFault::OutOfMemory => Message::plain("Out of memory"),
+            TreeFault::Device => Message::plain("Reading failed"),
+        }
+    }
+}
+
+impl fmt::Display for TreeFault {
+    ghost output = { λ fault. Some (tree_message fault) };
+
+    fn fmt<W: fmt::Write>(&self, f: &mut fmt::Formatter<W>) -> fmt::Result {
+        self.message().fmt(f)
+    }
+}
+
+impl Error for TreeFault {}
+
+impl From<AllocError> for TreeFault {
+    ghost from_gives = { λ _ e. e ≡ OutOfMemory };
+
+    fn from(_e: AllocError) -> TreeFault {
+        TreeFault::OutOfMemory
+    }
+}
+
+impl<T: Drop> From<AllocFailed<T>> for TreeFault {
+    ghost from_gives = { λ _ e. e ≡ OutOfMemory };
+
+    fn from(_e: AllocFailed<T>) -> TreeFault {
+        TreeFault::OutOfMemory
+    }
+}
+
+/// Files and directories by their paths.
+///
+/// What a tree says of the files and directories behind it is the set of pairs of maps that agree with it. A call only
+/// makes this set smaller, and its answer is what each pair that is left has at the path.
+pub trait Tree {
+    /// How often the device has failed.
+    ghost failures: { Self → ℕ };
+
+    /// At which paths the device may have failed. A tree that does not say so has each path here.
+    ghost failed: { Self → List ℕ → Bool } = { λ _ _. true };
+
+    /// Which files and directories agree with the answers so far.
+    ghost agrees: { Self → Files → Listings → Type 0 };
+
+    /// The bytes of the file at the path, or `None` where no file is there.
+    ///
+    /// It fails with `OutOfMemory`, or with `Device` where the device failed in this call.
+    fn read(&mut self, path: &str) -> Result<Option<Vec<u8>>, TreeFault>
+        ensures before { Narrows (agrees self.old) (agrees self.new) }
+        ensures answer { IfOk result (λ answer.
+            InEachPair (agrees self.new) (λ files listings. files path.now ≡ file_answer answer)) }
+        ensures cause { HasCause (failures self.old) (failures self.new) result }
+        ensures failed { FailsAt is_device (failed self.old) (failed self.new) result (λ at. at ≡ path.now) };
+
+    /// Whether a file is at the path that begins with these bytes. A tree may answer it without reading more of the file.
+    ///
+    /// It fails as `read` does.
+    fn begins_with(&mut self, path: &str, front: &[u8]) -> Result<bool, TreeFault>
+        ensures before { Narrows (agrees self.old) (agrees self.new) }
+        ensures answer { IfOk result (λ answer.
+            InEachPair (agrees self.new) (λ files listings. begins_with front.now (files path.now) ≡ answer)) }
+        ensures cause { HasCause (failures self.old) (failures self.new) result }
+        ensures failed { FailsAt is_device (failed self.old) (failed self.new) result (λ at. at ≡ path.now) }
+    {
+        match self.read(path)? {
+            None => Ok(false),
+            Some(bytes) => Ok(bytes.as_slice().starts_with(front)),
+        }
+    }
+
+    /// The names in the directory at the path, or `None` where no directory is there.
+    ///
+    /// It fails as `read` does.
+    fn entries(&mut self, dir: &str) -> Result<Option<Vec<String>>, TreeFault>
+        ensures before { Narrows (agrees self.old) (agrees self.new) }
+        ensures answer { IfOk result (λ answer.
+            InEachPair (agrees self.new) (λ files listings. listings dir.now ≡ listing_answer answer)) }
+        ensures cause { HasCause (failures self.old) (failures self.new) result }
+        ensures failed { FailsAt is_device (failed self.old) (failed self.new) result (λ at. at ≡ dir.now) };
+
+    /// With each tree some pair of maps agrees.
+    ghost agreeable: { (tree : Self) → IsAgreeable (agrees tree) };
+}

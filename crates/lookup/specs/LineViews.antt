@@ -1,0 +1,7 @@
+-- A module of a directory, as contracts see it.
+use Rattle.std.specs.Prelude.{string_bytes}
+use Rattle.lookup.specs.Lines.{Line}
+use Rattle.lookup.specs.declared.listings.Listing.{Listing}
+
+abbrev pub line_view : Listing → Line
+line_view listing = (string_bytes listing.dir, (string_bytes listing.name, listing.is_default))

@@ -1,0 +1,22 @@
+-- Where the module is that a name means.
+use Rattle.std.specs.Prelude.{Option, Result, Ok}
+use Rattle.modulename.specs.ModuleName.{Text}
+use Rattle.filetree.specs.Agreement.{Files, Listings}
+use Rattle.relations.specs.Relations.{Is, Then}
+use Rattle.modulesearch.specs.Reasons.{Reason}
+use Rattle.modulesearch.specs.DefaultFiles.{Left}
+use Rattle.modulesearch.specs.Found.{FoundModule, Found}
+
+-- a module's full name, and the path of its file
+pub record ModulePlace : Type 0 where
+  pub name : Text
+  pub path : Text
+
+abbrev pub place_of : FoundModule → ModulePlace
+place_of found = record { name = found.name; path = found.path }
+
+-- The place of the module that a name means along a MODULEPATH, or the reason that it means none.
+abbrev pub Located : (Text → Text → Option Left → Type 0) → Files → Listings → Text → Text → Result ModulePlace Reason
+    → Type 0
+Located leaves files folders modulepath name =
+    Then (Found leaves files folders modulepath name) (λ found. Is (Ok (place_of found)))

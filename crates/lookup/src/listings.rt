@@ -1,0 +1,87 @@
+//! All modules along MODULEPATH, one after the other.
+ghost use Rattle.std.specs.Prelude.{◌≡◌, ◌<◌, ◌≤◌, ◌++◌, map, IfOk, IfErr, OnOk};
+ghost use Rattle.filetree.specs.Agreement.{Narrows, InEachPair};
+ghost use Rattle.filetree.specs.Causes.{Applies};
+ghost use Rattle.modulefind.specs.Answers.{cause_of};
+ghost use Rattle.modulelist.specs.Listings.{listing_view};
+ghost use Rattle.modulelist.specs.Rows.{row_view};
+ghost use Rattle.defaultfiles.specs.Leaves.{Leaves};
+ghost use Rattle.lookup.specs.Lines.{line_of, lines_of, Available};
+ghost use Rattle.lookup.specs.LineViews.{line_view};
+
+use defaultfiles::Evaluated;
+use filetree::{FindFault, Tree};
+use modulelist::Row;
+use std::alloc::{AllocError, Global};
+use tclrules::Limits;
+
+/// A module of a directory.
+#[derive(Debug, Drop)]
+pub struct Listing {
+    /// The directory, as MODULEPATH spells it.
+    pub dir: String,
+    /// The module's full name, as `foo/1.0`.
+    pub name: String,
+    /// Whether a default file of its folder names it.
+    pub is_default: bool,
+}
+
+/// Adds the modules of a directory.
+fn push_modules(
+    alloc: Global,
+    listings: &mut Vec<Listing>,
+    dir: &str,
+    modules: &[Row],
+) -> Result<(), AllocError>
+    ensures { OnOk result (map line_view listings.new.items
+        ≡ map line_view listings.old.items ++ map (line_of dir.now) (map row_view modules.now)) }
+{
+    let mut rest = modules;
+    while let [module, after @ ..] = rest {
+        listings.push(Listing {
+            dir: String::from_str(alloc, dir)?,
+            name: String::from_str(alloc, &module.name)?,
+            is_default: module.is_default,
+        })?;
+        rest = after;
+    }
+    Ok(())
+}
+
+/// The modules of each directory, behind one another.
+fn joined(alloc: Global, directories: &[modulelist::Listing]) -> Result<Vec<Listing>, AllocError>
+    ensures { IfOk result (λ listings.
+        map line_view listings.items ≡ lines_of (map listing_view directories.now)) }
+{
+    let mut listings = Vec::new(alloc);
+    let mut rest = directories;
+    while let [directory, after @ ..] = rest {
+        push_modules(alloc, &mut listings, &directory.dir, &directory.modules)?;
+        rest = after;
+    }
+    Ok(listings)
+}
+
+/// All modules along a MODULEPATH, a list parted by colons: for each directory in turn, a repeated one again, the
+/// well-spelled names of one to four parts of all files below it that begin with `#%Module`, in the order of versions
+/// of the whole name. A module is marked where a default file of its folder names it, each evaluated within the
+/// limits; nothing of a folder is marked where its default file has a fault.
+///
+/// It fails with `Device` only where the device failed in this call, and with `OutOfMemory`.
+pub fn available<T: Tree>(
+    alloc: Global,
+    tree: &mut T,
+    modulepath: &str,
+    limits: Limits,
+) -> Result<Vec<Listing>, FindFault>
+    ensures before { Narrows (T.agrees tree.old) (T.agrees tree.new) }
+    ensures later { T.failures tree.old ≤ T.failures tree.new }
+    ensures listed { IfOk result (λ listings. InEachPair (T.agrees tree.new) (λ files folders.
+        Available (Leaves limits) files folders modulepath.now (map line_view listings.items))) }
+    ensures fault { IfErr result (λ e.
+        Applies (cause_of e) (T.failures tree.old < T.failures tree.new) (λ reason. ⊥)) }
+{
+    let default_files = Evaluated { limits };
+    let directories = modulelist::available(alloc, tree, &default_files, modulepath)?;
+    Ok(joined(alloc, &directories)?)
+}

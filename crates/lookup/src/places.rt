@@ -1,0 +1,52 @@
+//! Where the module is that a name means.
+ghost use Rattle.std.specs.Prelude.{◌≡◌, ◌<◌, ◌≤◌, false};
+ghost use Rattle.modulename.specs.ModuleName.{is_module_name};
+ghost use Rattle.filetree.specs.Agreement.{Narrows};
+ghost use Rattle.modulefind.specs.Answers.{Tells};
+ghost use Rattle.defaultfiles.specs.Leaves.{Leaves};
+ghost use Rattle.lookup.specs.Places.{Located};
+ghost use Rattle.lookup.specs.PlaceViews.{place_view};
+
+use defaultfiles::Evaluated;
+use filetree::{FindFault, Tree};
+use std::alloc::Global;
+use tclrules::Limits;
+
+/// A module that was found.
+#[derive(Debug, Drop)]
+pub struct Found {
+    /// The module's full name, as `foo/1.0`.
+    pub name: String,
+    /// The path of its modulefile: the directory as MODULEPATH spells it, `/`, and the name.
+    pub path: String,
+}
+
+/// Finds the module that a name means: the first directory of MODULEPATH, a list parted by colons, that gives one. A
+/// directory gives the modulefile at directory, `/`, name; or else, where a folder is there with files that begin with
+/// `#%Module`, the one of these that its default files name (`.modulerc`, or else `.version`, each evaluated within the
+/// limits), or else the greatest by version order.
+///
+/// It fails with `BadName` exactly where the name is ill-spelled, before anything is read; with `NotFound` where no
+/// directory gives a module; with `BadDefaultFile` where a default file of the folder that was meant has a fault;
+/// with `NotUtf8` where the module found is not UTF-8; with `Device` only where the device failed in this call; and
+/// with `OutOfMemory`.
+pub fn locate<T: Tree>(
+    alloc: Global,
+    tree: &mut T,
+    modulepath: &str,
+    name: &str,
+    limits: Limits,
+) -> Result<Found, FindFault>
+    ensures before { Narrows (T.agrees tree.old) (T.agrees tree.new) }
+    ensures later { T.failures tree.old ≤ T.failures tree.new }
+    ensures told { Tells (T.agrees tree.new) (T.failures tree.old < T.failures tree.new) place_view result
+        (λ files folders. Located (Leaves limits) files folders modulepath.now name.now) }
+    ensures unread { is_module_name name.now ≡ false → tree.new ≡ tree.old }
+{
+    let default_files = Evaluated { limits };
+    let module = modulefind::locate(alloc, tree, &default_files, modulepath, name)?;
+    Ok(Found {
+        name: module.name,
+        path: module.path,
+    })
+}

@@ -1,4 +1,0 @@
-pub mod Places
-pub mod Lines
-pub mod PlaceViews
-pub mod LineViews

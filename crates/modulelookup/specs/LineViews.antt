@@ -1,7 +1,0 @@
--- A module of a directory, as contracts see it.
-use Rattle.std.specs.Prelude.{string_bytes}
-use Rattle.modulelookup.specs.Lines.{Line}
-use Rattle.modulelookup.specs.declared.listings.Listing.{Listing}
-
-abbrev pub line_view : Listing → Line
-line_view listing = (string_bytes listing.dir, (string_bytes listing.name, listing.is_default))
