@@ -3,7 +3,7 @@
 use crate::system::{System, Told};
 use crate::texts::{bytes_of, parted, push_all};
 use crate::trees::{file_text, folder_text};
-use lookup::{DiskTree, Tree, TreeFault};
+use filetree::{DiskTree, Tree, TreeFault};
 use std::alloc::{AllocError, Global};
 use std::os::unix::fs::PermissionsExt;
 use std::{fs, io};
@@ -80,16 +80,37 @@ fn both_text(
     Ok(text)
 }
 
+/// A disk that holds what a system is told.
+fn told_disk<'r, 't>(
+    rt: &'r HostRuntime,
+    kind: &str,
+    bytes: &'t [u8],
+) -> DiskTree<(System<'r, 't, 'static>, Global)> {
+    let system = System {
+        rt,
+        told: Told::by(kind, bytes),
+        environment: b"",
+    };
+    DiskTree::new((system, rt.alloc()))
+}
+
 /// What a disk answers for the file and the folder of a system that is told them.
 pub(crate) fn told_answer(rt: &HostRuntime, line: &str) -> Result<String, AllocError> {
     let (kind, text) = parted(line);
     let bytes = bytes_of(rt.alloc(), b'\\', text)?;
-    let system = System {
-        rt,
-        told: Told::by(kind, &bytes),
-        environment: b"",
-    };
-    let mut tree = DiskTree::new((system, rt.alloc()));
+    let mut tree = told_disk(rt, kind, &bytes);
     let file = tree.read("/proc/version");
     both_text(rt.alloc(), file, tree.entries("/"))
+}
+
+/// Whether the file of a system that is told it begins with `#%`, on a disk.
+pub(crate) fn begins_answer(rt: &HostRuntime, line: &str) -> Result<String, AllocError> {
+    let (kind, text) = parted(line);
+    let bytes = bytes_of(rt.alloc(), b'\\', text)?;
+    let mut tree = told_disk(rt, kind, &bytes);
+    match tree.begins_with("/proc/version", b"#%") {
+        Ok(true) => String::from_str(rt.alloc(), "yes"),
+        Ok(false) => String::from_str(rt.alloc(), "no"),
+        Err(fault) => format!(in rt.alloc(); "{fault}"),
+    }
 }

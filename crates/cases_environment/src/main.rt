@@ -11,11 +11,11 @@
 //! PATH`, `disk folder PATH` and `disk again PATH` ask a disk, the last for a file twice, and `disk closed PATH` makes
 //! a folder without permission and asks for it. `memory put-file PATH TEXT` and `memory put-folder PATH NAME` put a
 //! file or a folder of one name into a tree in memory, which `memory file PATH` and `memory folder PATH` ask. `told
-//! KIND TEXT` asks a disk that holds what a system is told. `process own` asks for what this process is given, and
-//! `process variable TEXT` for the variable A of an environment. `process given KIND ENTRIES TEXT` asks whose
-//! environment is taken where a process holds these entries and the system's list of it is what is told, and `process
-//! cut COUNT ENTRIES` where the list is only so many bytes of them. A KIND is `whole`, `broken` (reading fails behind
-//! the text), `forbidden`, `missing` or `starved`.
+//! KIND TEXT` asks a disk that holds what a system is told, and `begins KIND TEXT` whether its file begins with `#%`.
+//! `process own` asks for what this process is given, and `process variable TEXT` for the variable A of an environment.
+//! `process given KIND ENTRIES TEXT` asks whose environment is taken where a process holds these entries and the
+//! system's list of it is what is told, and `process cut COUNT ENTRIES` where the list is only so many bytes of them. A
+//! KIND is `whole`, `broken` (reading fails behind the text), `forbidden`, `missing` or `starved`.
 //!
 //! `shells` asks for the texts of changes. A line is the name of a shell, and then changes: `NAME=VALUE`, or `NAME`
 //! where it is unset. Each line is shown behind `> `, and then the text, or behind `!` the number and the text of the

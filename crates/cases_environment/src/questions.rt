@@ -2,7 +2,7 @@
 
 use crate::texts::parted;
 use crate::{disks, processes, trees};
-use lookup::{DiskTree, MemoryTree};
+use filetree::{DiskTree, MemoryTree};
 use std::io;
 
 /// Answers lines, each shown before its answer.
@@ -14,6 +14,7 @@ pub(crate) fn answer(rt: &HostRuntime, lines: &[String]) -> io::Result<()> {
         let answer = match what {
             "disk" => disks::answer(rt, &mut disk, rest)?,
             "told" => disks::told_answer(rt, rest)?,
+            "begins" => disks::begins_answer(rt, rest)?,
             "memory" => trees::answer(rt.alloc(), &mut memory, rest)?,
             "process" => processes::answer(rt, rest)?,
             _ => String::from_str(rt.alloc(), "bad line")?,

@@ -1,7 +1,7 @@
 //! What a tree answers, in words.
 
 use crate::texts::{bytes_of, parted, push_all};
-use lookup::{MemoryTree, Tree, TreeFault};
+use filetree::{MemoryTree, Tree, TreeFault};
 use std::alloc::{AllocError, Global};
 
 /// What was read.

@@ -1,15 +1,16 @@
 //! Calls over one tree and one environment.
+use crate::calls::difference;
 use crate::failing::{Failing, Poor};
 use crate::rehearsed::{request_of, requests, shown_rehearsal};
 use crate::shown::{
-    differences, exit_name, held, marked, shown_done, shown_outcome, shown_refusal, variables,
+    differences, exit_name, held, marked, shown_changed, shown_outcome, shown_refusal, variables,
     verdict_line,
 };
 use crate::texts::{STANDARD, limits_of, meant, number, parted, words};
 use crate::writers::{Limited, kind};
 use anyhow::Result;
 use environment::{Vars, changes};
-use lookup::{MemoryTree, Tree};
+use filetree::{MemoryTree, Tree};
 use modulecmd::{
     CommandFault, Exit, environment_of, modulecmd, print_changes, run_command, write_refusal,
 };
@@ -250,15 +251,26 @@ impl Session {
         run_changes(self.alloc, &request, &self.env, &mut self.tree, self.limits)
     }
 
-    fn ask(&mut self, rest: &str) -> Result<String> {
+    /// The number of what a request for sh is refused by, if it is refused, and what is shown of it.
+    fn answered(&mut self, rest: &str) -> Result<(Option<u16>, String)> {
         match self.changed(rest) {
-            Ok(changed) => {
-                let mut text = differences(self.alloc, changed.changes.as_slice())?;
-                text.push_str(shown_done(self.alloc, &changed.done)?.as_str())?;
-                Ok(text)
-            }
-            Err(refusal) => Ok(shown_refusal(self.alloc, &refusal)?),
+            Ok(changed) => Ok((None, shown_changed(self.alloc, &changed)?)),
+            Err(refusal) => Ok((Some(refusal.number()), shown_refusal(self.alloc, &refusal)?)),
         }
+    }
+
+    fn ask(&mut self, rest: &str) -> Result<String> {
+        let (number, mut text) = self.answered(rest)?;
+        let differs = difference(
+            self.alloc,
+            rest,
+            number,
+            &self.env,
+            &mut self.tree,
+            self.limits,
+        )?;
+        text.push_str(differs)?;
+        Ok(text)
     }
 
     fn judge(&mut self, rest: &str) -> Result<String> {

@@ -1,7 +1,7 @@
 //! Trees that fail.
 ghost use Rattle.std.specs.Prelude.{◌+◌};
 
-use lookup::{Tree, TreeFault};
+use filetree::{Tree, TreeFault};
 
 /// A tree of whose calls one fails, once so many were answered: its device.
 #[derive(Drop)]

@@ -4,7 +4,8 @@
 //! `searches`: `file PATH TEXT` and `bytes PATH TEXT` put a file into a tree in memory, where `;` parts the lines of
 //! the text, and `bytes` adds a byte that is not UTF-8; `folder PATH NAME...` puts a folder; `new` begins a new tree.
 //! `locate MODULEPATH NAME` and `avail MODULEPATH` search it, `disk locate MODULEPATH NAME` and `disk avail MODULEPATH`
-//! a disk. Behind an answer stands how often the tree was read and listed. `limits COMMANDS DEPTH BYTES` says how far
+//! a disk. Behind an answer stands how often the tree was asked about another file than before, and listed; `whole
+//! locate ..` and `whole avail ..` say how many files were read whole. `limits COMMANDS DEPTH BYTES` says how far
 //! the evaluation of each default file may go from then on; at first as the program `modulecmd` lets it go. The other
 //! lines call a part of the search: `text MODULEPATH NAME`, `read PATH`, `evaluate PATH TEXT`, `directories
 //! MODULEPATH`, `path DIR NAME` and `order LEFT RIGHT`.
@@ -29,8 +30,9 @@
 //! `run WORD...` runs a command with these arguments, and shows what it wrote to standard output, each line of standard
 //! error behind `! `, and its status. `go WORD...` does the same, and then the variables are what the command makes of
 //! them, where `run`, `run_changes`, the printed text and the exact difference agree. `vars` shows them. `ask WORD...`
-//! runs a request under the limits of `limits COMMANDS DEPTH BYTES` and shows its changes, moves, loaded names,
-//! messages and report, or the number and the text of its refusal. `verdict NAME` judges a module under these limits.
+//! runs a request under the limits of `limits COMMANDS DEPTH BYTES` and shows its changes, loaded names,
+//! messages and report, or the number and the text of its refusal; it says so where `run` or a session of this request
+//! answers another number. `verdict NAME` judges a module under these limits.
 //! `session REQUEST, REQUEST...` runs requests one after another, and shows what came of each and how the variables at
 //! the end differ from those at the start. `rehearse SHELL REQUEST, SHELL REQUEST...` rehearses requests: for each
 //! `accepted` and the text that it prints, or `none`, and then the variables that are left. `poor PATH REQUEST,
@@ -40,6 +42,7 @@
 //! line that is written of a refusal.
 #![tactic(auto)]
 
+mod calls;
 mod commands;
 mod counted;
 mod failing;

@@ -3,9 +3,9 @@
 use crate::places::file_text;
 use crate::texts::push_all;
 use defaultfiles::Evaluated;
-use lookup::{MemoryTree, Modulefile, read_modulefile};
+use filetree::{MemoryTree, Modulefile, read_modulefile};
+use lookup::{Limits, version_order};
 use modulefind::{directories, locate, path_of};
-use modulelookup::{Limits, version_order};
 use modulesearch::{DefaultFiles, Ended};
 use std::alloc::{AllocError, Global};
 use std::cmp::Ordering;

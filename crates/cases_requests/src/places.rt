@@ -1,6 +1,6 @@
 //! What is put into a tree in memory.
 
-use lookup::MemoryTree;
+use filetree::MemoryTree;
 use std::alloc::{AllocError, Global};
 
 /// The bytes of a text whose lines `;` parts.

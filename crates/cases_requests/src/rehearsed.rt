@@ -2,13 +2,13 @@
 use crate::shown::variables;
 use crate::texts::{parted, words};
 use anyhow::Result;
-use lookup::Tree;
-use modules::{Env, Limits, Request, RequestFault, Shell, request};
+use filetree::Tree;
+use modules::{Env, Limits, Refusal, Request, Shell, request};
 use rehearsal::rehearse;
 use std::alloc::{AllocError, Global};
 
 /// The request that words ask for.
-pub(crate) fn request_of(alloc: Global, shell: Shell, line: &str) -> Result<Request, RequestFault> {
+pub(crate) fn request_of(alloc: Global, shell: Shell, line: &str) -> Result<Request, Refusal> {
     request(alloc, shell, &words(alloc, line)?)
 }
 

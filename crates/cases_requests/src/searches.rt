@@ -3,8 +3,8 @@
 use crate::counted::Counted;
 use crate::texts::{STANDARD, limits_of, parted, push_all};
 use crate::{parts, places};
-use lookup::MemoryTree;
-use modulelookup::{DiskTree, Limits, Listing, Tree, available, locate};
+use filetree::MemoryTree;
+use lookup::{DiskTree, Limits, Listing, Tree, available, locate};
 use std::alloc::{AllocError, Global};
 use std::io;
 
@@ -62,7 +62,24 @@ fn avail_text<T: Tree>(
     }
 }
 
-/// The answer to `locate` or `avail`; None where the line is neither.
+/// The answer to `locate` or `avail` over a tree; None where the line is neither.
+fn found_text<T: Tree>(
+    alloc: Global,
+    tree: &mut T,
+    limits: Limits,
+    kind: &str,
+    rest: &str,
+) -> Result<Option<String>, AllocError> {
+    match (kind, rest.split_once(' ')) {
+        ("locate", Some((modulepath, name))) => {
+            Ok(Some(locate_text(alloc, tree, limits, modulepath, name)?))
+        }
+        ("avail", None) => Ok(Some(avail_text(alloc, tree, limits, rest)?)),
+        _ => Ok(None),
+    }
+}
+
+/// The answer to `locate`, `avail` or, with how many files were read whole, `whole`; None where the line is none.
 fn searched<T: Tree>(
     alloc: Global,
     tree: &mut T,
@@ -70,22 +87,21 @@ fn searched<T: Tree>(
     kind: &str,
     rest: &str,
 ) -> Result<Option<String>, AllocError> {
-    let mut tree = Counted {
-        tree,
-        reads: 0,
-        listings: 0,
+    let (is_whole, kind, rest) = match (kind, rest.split_once(' ')) {
+        ("whole", Some((kind, rest))) => (true, kind, rest),
+        _ => (false, kind, rest),
     };
-    let answer = match (kind, rest.split_once(' ')) {
-        ("locate", Some((modulepath, name))) => {
-            locate_text(alloc, &mut tree, limits, modulepath, name)?
-        }
-        ("avail", None) => avail_text(alloc, &mut tree, limits, rest)?,
-        _ => return Ok(None),
+    let mut tree = Counted::over(alloc, tree);
+    let Some(answer) = found_text(alloc, &mut tree, limits, kind, rest)? else {
+        return Ok(None);
     };
     let answer = answer.as_str().trim_end();
-    let reads = tree.reads;
-    let listings = tree.listings;
-    Ok(Some(format!(in alloc; "{answer} [{reads} read, {listings} listed]")?))
+    let (reads, wholes, listings) = (tree.reads, tree.wholes, tree.listings);
+    Ok(Some(if is_whole {
+        format!(in alloc; "{answer} [{wholes} whole]")?
+    } else {
+        format!(in alloc; "{answer} [{reads} read, {listings} listed]")?
+    }))
 }
 
 /// The answer to a line; None where it asks nothing.
@@ -102,7 +118,7 @@ fn answered(
             let mut disk = DiskTree::new(rt.clone()?);
             searched(alloc, &mut disk, limits, kind, rest)?
         }
-        ("locate" | "avail", _) => searched(alloc, tree, limits, kind, rest)?,
+        ("locate" | "avail" | "whole", _) => searched(alloc, tree, limits, kind, rest)?,
         _ => parts::answer(alloc, tree, limits, kind, rest)?,
     })
 }

@@ -2,7 +2,7 @@
 use crate::texts::push_all;
 use anyhow::Result;
 use modulecmd::Exit;
-use modules::{Change, Done, Env, Move, Outcome, Refusal, Verdict, loaded_names};
+use modules::{Change, Changed, Env, Outcome, Refusal, Verdict};
 use std::alloc::{AllocError, Global};
 
 /// What a writer holds.
@@ -61,31 +61,35 @@ pub(crate) fn differences(alloc: Global, changes: &[Change]) -> Result<String, A
     Ok(text)
 }
 
-/// A move, as `loads x/1 at /m/x/1`.
-fn shown_move(alloc: Global, step: &Move) -> Result<String, AllocError> {
-    let (word, module) = match step {
-        Move::Loads(module) => ("loads", module),
-        Move::Unloads(module) => ("unloads", module),
-    };
-    let name = module.name.as_str();
-    let path = module.path.as_str();
-    let records = module.records.len();
-    format!(in alloc; "{word} {name} at {path} by {records}\n")
-}
-
-/// What a request has done: its moves, the names that it loaded, its messages and its report.
-pub(crate) fn shown_done(alloc: Global, done: &Done) -> Result<String, AllocError> {
+/// What a request has done: the names that it loaded, its messages and its report.
+pub(crate) fn shown_done(
+    alloc: Global,
+    loaded: &[String],
+    messages: &[String],
+    report: &str,
+) -> Result<String, AllocError> {
     let mut text = String::new(alloc);
-    for step in &done.moves {
-        text.push_str(shown_move(alloc, step)?.as_str())?;
-    }
-    for name in &loaded_names(alloc, done.moves.as_slice())? {
+    for name in loaded {
         push_all(&mut text, &["loaded ", name, "\n"])?;
     }
-    for message in &done.messages {
+    for message in messages {
         text.push_str(marked(alloc, "said ", message.as_str())?.as_str())?;
     }
-    text.push_str(marked(alloc, "! ", done.report.as_str())?.as_str())?;
+    text.push_str(marked(alloc, "! ", report)?.as_str())?;
+    Ok(text)
+}
+
+/// What a request changes, and what it has done.
+pub(crate) fn shown_changed(alloc: Global, changed: &Changed) -> Result<String, AllocError> {
+    let mut text = differences(alloc, changed.changes.as_slice())?;
+    let loaded = changed.loaded.as_slice();
+    let done = shown_done(
+        alloc,
+        loaded,
+        changed.messages.as_slice(),
+        changed.report.as_str(),
+    )?;
+    text.push_str(done.as_str())?;
     Ok(text)
 }
 
@@ -99,7 +103,13 @@ pub(crate) fn shown_refusal(alloc: Global, refusal: &Refusal) -> Result<String, 
 pub(crate) fn shown_outcome(alloc: Global, outcome: &Outcome) -> Result<String, AllocError> {
     match outcome {
         Outcome::Accepted(done) => {
-            let done = shown_done(alloc, done)?;
+            let loaded = done.loaded.as_slice();
+            let done = shown_done(
+                alloc,
+                loaded,
+                done.messages.as_slice(),
+                done.report.as_str(),
+            )?;
             format!(in alloc; "accepted\n{done}")
         }
         Outcome::Refused(refusal) => shown_refusal(alloc, refusal),

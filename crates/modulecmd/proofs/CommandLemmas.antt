@@ -1,9 +1,9 @@
 -- What a command comes to, from its request and the step of that.
-use Rattle.std.proofs.Common.{◌≡◌, List, Result, Ok, Err, string_bytes, subst, sym, refl}
+use Rattle.std.proofs.Common.{◌≡◌, ◌∙◌, ℕ, List, Result, Ok, Err, string_bytes, ap, subst, sym, refl}
 use Rattle.environment.specs.Texts.{Text}
 use Rattle.environment.specs.Environment.{Environment}
 use Rattle.environment.specs.Changes.{NewValue, AreChanges, new_values_in}
-use Rattle.lookup.specs.Agreement.{Files, Listings, InEachPair}
+use Rattle.filetree.specs.Agreement.{Files, Listings, InEachPair}
 use Rattle.shells.specs.declared.shell.Shell.{Shell}
 use Rattle.shelltext.specs.Printing.{IsPrintFault, IsUnsayable}
 use Rattle.shelltext.specs.Reading.{OneEffect, DifferenceMakes, IsText, SaysDifference}
@@ -11,17 +11,19 @@ use Rattle.shelltext.specs.declared.print.PrintFault.{PrintFault}
 use Rattle.shelltext.specs.declared.print.PrintFault.TheVariants as prints
 use Rattle.reversal.specs.Laws.{Holds}
 use Rattle.reversal.specs.Runs.{live_after, AreFit}
-use Rattle.requests.specs.Laws.{CommandsReturn}
+use Rattle.relations.specs.Relations.{After}
+use Rattle.requests.specs.Laws.{CommandsReturn, OneOutcome}
 use Rattle.requests.specs.Reasons.{RequestReason}
 use Rattle.requests.specs.Requests.{Asked, Request}
 use Rattle.requests.specs.Steps.{Site, Done, RequestStep}
-use Rattle.lookup.specs.Causes.{Cause, memory, device, because, Applies}
+use Rattle.filetree.specs.Causes.{Cause, memory, device, because, Applies}
 use Rattle.modulesteps.specs.Answers.{cause_of}
+use Rattle.modulesteps.specs.Messages.{memory_number, number_by}
 use Rattle.modules.specs.Replies.{site_in, left_by, changed_view}
 use Rattle.modulecmd.specs.declared.refuse.CommandFault.{CommandFault}
 use Rattle.modulecmd.specs.declared.refuse.CommandFault.TheVariants.{Refused, Unprinted, UnknownShell, WriteFailed}
 use Rattle.modulecmd.specs.Command as command
-use Rattle.modulecmd.specs.Command.{CommandReason, Effect, CommandDoes, HasReason, command_of, standard, with_shell}
+use Rattle.modulecmd.specs.Command.{CommandReason, Effect, CommandDoes, HasReason, IsNumbered, command_of, standard, with_shell}
 use Rattle.modulecmd.specs.declared.command.Answer.{Answer}
 use Rattle.modulecmd.specs.Output.{IsAnswer, LeadsBack}
 use Rattle.modulecmd.specs.Words.{effect_in}
@@ -49,6 +51,33 @@ has_reason (UnknownShell word) Is Is' Lacks Lacks' failed failed' more lacks fai
 has_reason (Unprinted prints.OutOfMemory) Is Is' Lacks Lacks' failed failed' more lacks fails h = tt
 has_reason (Unprinted (prints.NotSayable name)) Is Is' Lacks Lacks' failed failed' more lacks fails h = lacks _ h
 has_reason WriteFailed Is Is' Lacks Lacks' failed failed' more lacks fails h = absurd h
+
+cause_numbered : (wanting : ℕ) (c : Cause RequestReason) → Applies c (number_by wanting c ≡ 43) (λ r. number_by wanting c ≡ command.reason_number (command.because r))
+cause_numbered wanting memory = tt
+cause_numbered wanting device = refl
+cause_numbered wanting (because r) = refl
+
+-- a fault with something behind it has the number of that
+pub numbered : (fault : CommandFault) (Is : CommandReason → Type 0) (Lacks : Text → Type 0) (failed : Type 0) → HasReason fault Is Lacks failed → IsNumbered fault
+numbered (Refused refusal) Is Lacks failed h = cause_numbered (memory_number refusal) (cause_of refusal)
+numbered (UnknownShell word) Is Lacks failed h = refl
+numbered (Unprinted prints.OutOfMemory) Is Lacks failed h = tt
+numbered (Unprinted (prints.NotSayable name)) Is Lacks failed h = refl
+numbered WriteFailed Is Lacks failed h = absurd h
+
+-- one outcome of the request is one of the command
+taken_once : (r : Request) (x y : Result Done RequestReason) (o p : Result Effect CommandReason) → x ≡ y → o ≡ with_shell r.0 x → p ≡ with_shell r.0 y → o ≡ p
+taken_once r x y o p same a b = a ∙ (ap (with_shell r.0) same ∙ sym b)
+
+made_once : (e : Environment) (files : Files) (listings : Listings) (made : Result Request CommandReason) (o p : Result Effect CommandReason) → OneOutcome
+    → After (λ r. command.Takes r e files listings) made o → After (λ r. command.Takes r e files listings) made p → o ≡ p
+made_once e files listings (Ok r) o p one (x, h, a) (y, k, b) = taken_once r x y o p (one (site_in standard r.0 files listings) e r.1 x y h k) a b
+made_once e files listings (Err reason) o p one a b = a ∙ sym b
+
+pub does_once : OneOutcome → command.OneCommand
+does_once one arguments e files listings o p (x, made, a) (y, made', b) =
+    let After-of : Result Request CommandReason → Result Effect CommandReason → Type 0 = λ z q. After (λ r. command.Takes r e files listings) z q in
+    made_once e files listings (command_of arguments) o p one (subst (λ z. After-of z o) made a) (subst (λ z. After-of z p) made' b)
 
 -- the text of a step leads back as the step does
 pub leads_back : CommandsReturn → OneEffect → DifferenceMakes → (s : Site) (e : Environment) (asked : Asked) (f : Effect) (text : Text)

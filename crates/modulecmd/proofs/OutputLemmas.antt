@@ -2,7 +2,7 @@
 use Rattle.std.proofs.Common.{◌≡◌, ◌⊎◌, ◌++◌, List, [], ◌∷◌, map, string_bytes, Option, subst, ap, refl, inl, inr}
 use Rattle.std.specs.List.{flat_map}
 use Rattle.std.specs.Io.KnownBytes.{Keeps}
-use Rattle.lookup.specs.Agreement.{Files, Listings}
+use Rattle.filetree.specs.Agreement.{Files, Listings}
 use Rattle.environment.specs.Texts.{Text}
 use Rattle.environment.specs.Environment.{Environment}
 use Rattle.modulecmd.specs.declared.ends.Exit.{Exit}
@@ -35,7 +35,7 @@ flat_map_map f g (x ∷ xs) = ap (λ zs. f (g x) ++ zs) (flat_map_map f g xs)
 
 -- what the program writes is what is to be said
 pub words_said : (e : Environment) (a : Answer) → words_of a ≡ said (effect_in e a).1
-words_said e a = ap (λ zs. zs ++ string_bytes a.changed.done.report) (flat_map_map (λ message. message) string_bytes a.changed.done.messages.items)
+words_said e a = ap (λ zs. zs ++ string_bytes a.changed.report) (flat_map_map (λ message. message) string_bytes a.changed.messages.items)
 
 -- the end of a command whose answer was written
 pub answered : (exit : Exit) (agrees : Files → Listings → Type 0) (failed : Type 0) (e : Environment) (Does : Outcomes) (a : Answer) (out out' err err' : Option Text)

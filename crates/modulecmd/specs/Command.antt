@@ -3,18 +3,18 @@ use Rattle.std.specs.Prelude.{◌≡◌, ℕ, List, [], ◌∷◌, Option, Some,
 use Rattle.environment.specs.Texts.{Text}
 use Rattle.environment.specs.Environment.{Environment}
 use Rattle.environment.specs.Changes.{NewValue, AreChanges}
-use Rattle.lookup.specs.Agreement.{Files, Listings}
+use Rattle.filetree.specs.Agreement.{Files, Listings}
 use Rattle.relations.specs.Relations.{Is, ◌>>◌}
 use Rattle.shells.specs.declared.shell.Shell.{Shell}
 use Rattle.shells.specs.Shells.{shell_named}
 use Rattle.shelltext.specs.declared.print.PrintFault.TheVariants as prints
 use Rattle.shelltext.specs.Printing.{IsUnsayable, print_fault_number}
 use Rattle.tclrules.specs.declared.limits.Limits.{Limits}
+use Rattle.requests.specs.Reasons as requests
 use Rattle.requests.specs.Reasons.{RequestReason, bad_arguments}
 use Rattle.requests.specs.Requests.{Asked, Request, request_of}
 use Rattle.requests.specs.Steps.{Done, RequestStep}
-use Rattle.requests.specs.declared.request_fault.RequestFault.TheVariants as requests
-use Rattle.lookup.specs.Causes.{Applies}
+use Rattle.filetree.specs.Causes.{Applies}
 use Rattle.modulesteps.specs.Answers.{cause_of}
 use Rattle.modulesteps.specs.Messages as texts
 use Rattle.modulesteps.specs.declared.refusal.Refusal.TheVariants as refusals
@@ -86,7 +86,25 @@ number_of (Unprinted fault) = print_fault_number fault
 number_of (UnknownShell word) = 63
 number_of WriteFailed = 64
 
+-- the number of a command's reason
+abbrev pub reason_number : CommandReason → ℕ
+reason_number (unknown_shell word) = 63
+reason_number (because reason) = requests.reason_number reason
+
+-- what is behind a refusal says its number: the reason's own, 62 for a variable that can't be said, 43 for a failed
+-- device
+abbrev pub IsNumbered : CommandFault → Type 0
+IsNumbered fault =
+    HasReason fault (λ reason. number_of fault ≡ reason_number reason) (λ name. number_of fault ≡ 62)
+    (number_of fault ≡ 43)
+
 -- arguments that can't be handed on, as a refusal
 abbrev pub of_arguments : ArgumentsFault → CommandFault
 of_arguments given.OutOfMemory = Refused refusals.OutOfMemory
-of_arguments given.NotUtf8 = Refused (refusals.Request requests.BadArguments)
+of_arguments given.NotUtf8 = Refused refusals.BadArguments
+
+-- A command comes to one effect at most, or to one reason.
+abbrev pub OneCommand : Type 0
+OneCommand =
+    (arguments : List Text) (e : Environment) (files : Files) (listings : Listings) (o p : Result Effect CommandReason)
+    → CommandDoes arguments e files listings o → CommandDoes arguments e files listings p → o ≡ p

@@ -11,12 +11,12 @@ use Rattle.reversal.specs.Runs.{live_after, AreFit}
 use Rattle.reversal.specs.Laws.{Holds}
 use Rattle.requests.specs.Steps.{Done}
 use Rattle.requests.specs.Returning.{AreNew, AreFitting}
-use Rattle.lookup.specs.Agreement.{Files, Listings, InEachPair}
+use Rattle.filetree.specs.Agreement.{Files, Listings, InEachPair}
 use Rattle.shelltext.specs.Reading.{MakesOf, SaysDifference}
 use Rattle.modulecmd.specs.declared.refuse.CommandFault.{CommandFault}
 use Rattle.modulecmd.specs.declared.refuse.CommandFault.TheVariants.{WriteFailed}
 use Rattle.modulecmd.specs.Writing.{AppendsPart}
-use Rattle.modulecmd.specs.Command.{Effect, CommandReason, HasReason, LacksText}
+use Rattle.modulecmd.specs.Command.{Effect, CommandReason, HasReason, IsNumbered, LacksText}
 use Rattle.modulecmd.specs.declared.ends.Exit.{Exit}
 use Rattle.modulecmd.specs.declared.ends.Exit.TheVariants.{Success, Told, CutShort}
 use Rattle.modulecmd.specs.Lines.{line_of}
@@ -86,11 +86,15 @@ Refuses exit fault out out' err err' = Keeps out out' × WritesFault exit err er
 abbrev pub IsUnsaid : (Files → Listings → Type 0) → Environment → Outcomes → Text → Type 0
 IsUnsaid agrees e Does name = (f : Effect) × ComesToInEachPair agrees Does (Ok f) × LacksText f.0 e f.1.env name
 
--- A fault refuses a command over a tree: memory is wanting, the device has failed, and any other is the command's own
--- in each pair of maps that agrees with the tree.
-abbrev pub IsRefused : (Files → Listings → Type 0) → Type 0 → Environment → Outcomes → CommandFault → Type 0
-IsRefused agrees failed e Does fault =
+-- What is behind a fault: memory is wanting, the device has failed, and any other reason is the command's own in each
+-- pair of maps that agrees with the tree.
+abbrev pub IsCaused : (Files → Listings → Type 0) → Type 0 → Environment → Outcomes → CommandFault → Type 0
+IsCaused agrees failed e Does fault =
     HasReason fault (λ reason. ComesToInEachPair agrees Does (Err reason)) (IsUnsaid agrees e Does) failed
+
+-- A fault refuses a command over a tree, by the number of what is behind it.
+abbrev pub IsRefused : (Files → Listings → Type 0) → Type 0 → Environment → Outcomes → CommandFault → Type 0
+IsRefused agrees failed e Does fault = IsCaused agrees failed e Does fault × IsNumbered fault
 
 -- What a command leaves by how it ends: it is accepted, or refused by a fault.
 abbrev pub EndsCommand : Exit → (Files → Listings → Type 0) → Type 0 → Environment → Outcomes → Option Text

@@ -3,7 +3,7 @@ use Rattle.std.specs.Prelude.{◌≡◌, List, [], ◌∷◌, Ok}
 use Rattle.std.specs.List.{flat_map}
 use Rattle.environment.specs.Texts.{Text}
 use Rattle.environment.specs.Environment.{Environment}
-use Rattle.lookup.specs.Agreement.{Files, Listings}
+use Rattle.filetree.specs.Agreement.{Files, Listings}
 use Rattle.modulerecords.specs.Moves.{Move}
 use Rattle.reversal.specs.Ways.{Way}
 use Rattle.reversal.specs.Standing.{IsStart}

@@ -1,12 +1,12 @@
 //! One command: the words in, the text and the messages out.
 ghost use Rattle.std.specs.Prelude.{◌≡◌, ◌<◌, ◌≤◌, ◌⊎◌, [], map, Ok, Err, IfOk, IfErr, OnOk, OnErr, string_bytes};
 ghost use Rattle.std.specs.Io.KnownBytes.{Keeps, Appends};
-ghost use Rattle.lookup.specs.Agreement.{Narrows};
+ghost use Rattle.filetree.specs.Agreement.{Narrows};
 ghost use Rattle.requests.specs.RequestViews.{request_view};
 ghost use Rattle.modulecmd.specs.declared.ends.Exit.{Exit};
 ghost use Rattle.modulecmd.specs.Command as spec;
 ghost use Rattle.modulecmd.specs.Command.{CommandDoes, HasReason};
-ghost use Rattle.modulecmd.specs.Output.{EndsCommand, FinishesWriting, IsAnswer, IsRefused, WritesFault, status_of};
+ghost use Rattle.modulecmd.specs.Output.{EndsCommand, FinishesWriting, IsAnswer, IsCaused, WritesFault, status_of};
 ghost use Rattle.modulecmd.specs.Words.{effect_in, words_of};
 ghost use Rattle.modulecmd.specs.Writing.{AppendsPart};
 
@@ -14,8 +14,8 @@ use crate::ends::Exit;
 use crate::refuse::{CommandFault, write_refusal};
 use crate::writers::{WriteFault, write_bytes, write_texts};
 use environment::Env;
-use lookup::Tree;
-use modules::{Changed, Limits, Refusal, Request, RequestFault, request, run_changes};
+use filetree::Tree;
+use modules::{Changed, Limits, Refusal, Request, request, run_changes};
 use shells::Shell;
 use shelltext::print_changes;
 use std::alloc::Global;
@@ -43,7 +43,7 @@ fn command_of(alloc: Global, args: &[String]) -> Result<Request, CommandFault>
         HasReason fault (λ o. spec.command_of (map string_bytes args.now) ≡ Err o) (λ name. ⊥) ⊥) }
 {
     let [word, words @ ..] = args else {
-        return Err(CommandFault::from(RequestFault::BadArguments));
+        return Err(CommandFault::Refused(Refusal::BadArguments));
     };
     match Shell::named(word.as_str()) {
         None => Err(CommandFault::UnknownShell(word.clone()?)),
@@ -63,7 +63,7 @@ fn answer_of<T: Tree>(
     ensures answered { IfOk result (λ a.
         IsAnswer (T.agrees tree.new) env.now (CommandDoes (map string_bytes args.now) env.now) (effect_in env.now a)
         (string_bytes a.text)) }
-    ensures refused { IfErr result (IsRefused (T.agrees tree.new) (T.failures tree.old < T.failures tree.new)
+    ensures refused { IfErr result (IsCaused (T.agrees tree.new) (T.failures tree.old < T.failures tree.new)
         env.now (CommandDoes (map string_bytes args.now) env.now)) }
 {
     requests::command_returns();
@@ -93,8 +93,8 @@ fn write_answer<W: Write, E: Write>(
         ⊎ (AppendsPart (W.contents out.old) (W.contents out.new) (string_bytes answer.now.text)
         × Appends (E.contents err.old) (E.contents err.new) (words_of answer.now))) }
 {
-    write_texts(err, answer.changed.done.messages.as_slice())?;
-    write_bytes(err, answer.changed.done.report.as_str().as_bytes())?;
+    write_texts(err, answer.changed.messages.as_slice())?;
+    write_bytes(err, answer.changed.report.as_str().as_bytes())?;
     write_bytes(out, answer.text.as_str().as_bytes())
 }
 
@@ -104,7 +104,7 @@ fn tell<E: Write>(fault: &CommandFault, err: &mut E) -> Exit
 {
     match write_refusal(fault, err) {
         Ok(()) => Exit::Told,
-        Err(_) => Exit::CutShort,
+        Err(WriteFault) => Exit::CutShort,
     }
 }
 

@@ -1,5 +1,14 @@
-//! The law of commands one after another. It is a function that does nothing: its contract is the law.
+//! Laws of commands. Each is a function that does nothing: its contract is the law.
+ghost use Rattle.modulecmd.specs.Command.{OneCommand};
 ghost use Rattle.modulecmd.specs.Runs.{ShellsReturn};
+
+/// A command comes to one effect at most, or to one reason. So where the definitions refuse it by a number, no call
+/// accepts it, and a refusal that isn't want of memory or a failed device has that number.
+pub fn one_command()
+    ensures { OneCommand }
+{
+    requests::outcomes();
+}
 
 /// From a start in order, a shell that ran the text of each accepted command, whatever commands they were and whatever
 /// stood between that was refused, holds an environment that is in order and stands over the start; with none of the

@@ -9,15 +9,20 @@ mod writers;
 
 pub use command::{modulecmd, run_command};
 pub use ends::Exit;
-pub use environment::{Change, Env, EnvFault};
-pub use laws::commands_return;
-pub use lookup::{DiskTree, MemoryTree, Tree, TreeFault};
+pub use environment::{Change, Env, EnvFault, changes};
+pub use filetree::{DiskTree, MemoryTree, Tree, TreeFault};
+pub use laws::{commands_return, one_command};
+pub use loadedlist::{Loaded, add_loaded, conflicts_of, drop_loaded, loaded, prereqs_of};
+pub use lookup::{FindFault, Found, Listing, available, locate, version_order};
 pub use modules::{
-    Action, Changed, Done, Limits, Module, Move, Refusal, Request, RequestFault, request,
-    run_changes,
+    Action, Changed, Done, Limits, MissingNames, Module, Move, Outcome, Refusal, Reply, Request,
+    Verdict, request, run, run_changes, session, verdict,
 };
+pub use pathstate::{End, add_path, drop_path};
 pub use processinput::{ArgumentsFault, arguments, environment_block, environment_of};
 pub use refuse::{CommandFault, write_refusal};
+pub use rehearsal::rehearse;
 pub use shells::Shell;
 pub use shelltext::{PrintFault, print_changes};
+pub use stackstate::{pop_value, push_value};
 pub use writers::WriteFault;

@@ -4,7 +4,6 @@ ghost use Rattle.std.specs.Io.KnownBytes.{Appends};
 ghost use Rattle.modulecmd.specs.Writing.{AppendsPart};
 ghost use Rattle.message.specs.Messages.{around, text_of};
 ghost use Rattle.modulecmd.specs.Lines.{error_line, line_of, message_of};
-ghost use Rattle.requests.specs.declared.request_fault.RequestFault.TheVariants as requests;
 ghost use Rattle.modulesteps.specs.declared.refusal.Refusal.TheVariants as refusals;
 ghost use Rattle.modulecmd.specs.declared.refuse.CommandFault.TheVariants.{Refused, Unprinted};
 ghost use Rattle.modulecmd.specs.Command.{number_of, of_arguments};
@@ -13,7 +12,7 @@ use crate::writers::{WriteFault, write_parts};
 use environment::EnvFault;
 use itoa::Buffer;
 use message::Message;
-use modules::{Refusal, RequestFault};
+use modules::Refusal;
 use processinput::ArgumentsFault;
 use shelltext::PrintFault;
 use std::alloc::AllocError;
@@ -87,14 +86,6 @@ impl From<EnvFault> for CommandFault {
     }
 }
 
-impl From<RequestFault> for CommandFault {
-    ghost from_gives = { λ fault e. e ≡ Refused (refusals.Request fault) };
-
-    fn from(fault: RequestFault) -> CommandFault {
-        CommandFault::Refused(Refusal::Request(fault))
-    }
-}
-
 impl From<PrintFault> for CommandFault {
     ghost from_gives = { λ fault e. e ≡ Unprinted fault };
 
@@ -117,7 +108,7 @@ impl From<ArgumentsFault> for CommandFault {
     fn from(fault: ArgumentsFault) -> CommandFault {
         match fault {
             ArgumentsFault::OutOfMemory => CommandFault::Refused(Refusal::OutOfMemory),
-            ArgumentsFault::NotUtf8 => CommandFault::from(RequestFault::BadArguments),
+            ArgumentsFault::NotUtf8 => CommandFault::Refused(Refusal::BadArguments),
         }
     }
 }

@@ -32,14 +32,14 @@ edit_record edits.Back delim var xs = records.Back delim var xs
 edit_record edits.Remove delim var xs = records.Remove delim var xs
 
 abbrev pub path_words_view : PathWords → ℕ × List Text
-path_words_view d = (d.delim, texts_of d.words.now)
+path_words_view d = (d.delim.character, texts_of d.words.now)
 
 abbrev pub call_view : Call → calls.Call
 call_view (code.Set var value) = calls.keeps (records.Set var.now value.now)
 call_view (code.Unset var value) = calls.keeps (records.Unset var.now (option_map (λ v. v.now) value))
 call_view (code.Push var value) = calls.keeps (records.Push var.now value.now)
 call_view (code.Path edit delim var values) = calls.keeps
-    (edit_record edit delim var.now (elements_of delim (texts_of values.now)))
+    (edit_record edit delim.character var.now (elements_of delim.character (texts_of values.now)))
 call_view (code.Conflict names) = calls.keeps (records.Conflict (texts_of names.now))
 call_view (code.Prereq names) = calls.keeps (records.Prereq (texts_of names.now))
 call_view (code.Whatis words) = calls.keeps (description (texts_of words.now))

@@ -25,7 +25,7 @@ abbrev pub record_view : Record → records.Record
 record_view (code.Set var value) = records.Set (string_bytes var) (string_bytes value)
 record_view (code.Unset var value) = records.Unset (string_bytes var) (option_map string_bytes value)
 record_view (code.Push var value) = records.Push (string_bytes var) (string_bytes value)
-record_view (code.Path edit delim var elements) = edit_record edit delim (string_bytes var) (texts_in elements)
+record_view (code.Path edit delim var elements) = edit_record edit delim.character (string_bytes var) (texts_in elements)
 record_view (code.Conflict names) = records.Conflict (texts_in names)
 record_view (code.Prereq names) = records.Prereq (texts_in names)
 record_view (code.Whatis text) = records.Whatis (string_bytes text)

@@ -11,6 +11,7 @@ ghost use Rattle.tclchars.specs.Answers.{Gives};
 ghost use Rattle.modulefile.specs.CallViews.{reason_of, HasReason, texts_of, call_view, edit_record, topic_view, path_words_view};
 
 use crate::call_fault::CallFault;
+use crate::delimiter::Delimiter;
 use std::alloc::Global;
 use tclarguments::is_left_out_of_modules;
 
@@ -54,7 +55,7 @@ pub enum Call<'a> {
     /// A path command: `?--delim C? VAR value...`
     Path {
         edit: PathEdit,
-        delim: char,
+        delim: Delimiter,
         var: &'a str,
         values: &'a [String],
     },
@@ -89,7 +90,7 @@ pub enum Call<'a> {
 /// The delimiter of a path command, and its words from VAR on.
 #[derive(Clone, Copy)]
 struct PathWords<'a> {
-    delim: char,
+    delim: Delimiter,
     words: &'a [String],
 }
 
@@ -145,12 +146,12 @@ fn unset_form(words: &[String]) -> Result<Call<'_>, CallFault>
 fn with_delimiter<'a>(text: &str, words: &'a [String]) -> Result<PathWords<'a>, CallFault>
     ensures { Gives reason_of path_words_view result (with_delimiter text.now (map string_bytes words.entry.now)) }
 {
-    match text.as_bytes() {
-        [byte @ 32..=126] => Ok(PathWords {
-            delim: *byte as char,
-            words,
-        }),
-        _ => Err(CallFault::BadArguments),
+    let [byte] = text.as_bytes() else {
+        return Err(CallFault::BadArguments);
+    };
+    match Delimiter::new(*byte as char) {
+        Some(delim) => Ok(PathWords { delim, words }),
+        None => Err(CallFault::BadArguments),
     }
 }
 
@@ -181,7 +182,10 @@ fn delimited(words: &[String]) -> Result<PathWords<'_>, CallFault>
     match words {
         [] => Err(CallFault::BadArguments),
         [word, rest @ ..] if is_option(word) => by_option(word, rest),
-        _ => Ok(PathWords { delim: ':', words }),
+        _ => Ok(PathWords {
+            delim: Delimiter::COLON,
+            words,
+        }),
     }
 }
 
@@ -311,8 +315,8 @@ fn unknown_or_left_out(alloc: Global, name: &str) -> CallFault
 /// The command that these words call, the first of which is its name. Nothing of the environment is looked at.
 ///
 /// Errors: `Unknown`, no such command is known; `LeftOut` (19), it, or this part of it, is left out; `BadArguments`
-/// (56), the words don't fit it, as a wrong number of them, an option, or a delimiter that isn't one character; or want
-/// of memory.
+/// (56), the words don't fit it, as a wrong number of them, an option, or a delimiter that isn't one character from the
+/// space to the tilde; or want of memory.
 #[tactic(auto, unfolding(crate::specs::Calls::call_of))]
 pub fn call_of<'a>(alloc: Global, words: &'a [String]) -> Result<Call<'a>, CallFault>
     ensures { Gives reason_of call_view result (call_of (map string_bytes words.entry.now)) }

@@ -3,13 +3,13 @@ ghost use Rattle.std.specs.Prelude.{◌≡◌, ◌<◌, map, string_bytes};
 ghost use Rattle.std.specs.List.{list_all};
 ghost use Rattle.std.specs.Option.{option_map};
 ghost use Rattle.environment.specs.Reasons.{Edits, bad_value};
-ghost use Rattle.pathstate.specs.PathTexts.{is_delimiter};
 ghost use Rattle.pathstate.specs.PathVariables.{is_element, path_reason, added_path, dropped_path};
 ghost use Rattle.modulerecords.specs.Judgments.{bad_edit, plain_reason, values_of, names_reason, record_reason};
 ghost use Rattle.modulerecords.specs.Effects.{loaded_by, unloaded_by, edited, effect};
 ghost use Rattle.modulefile.specs.RecordViews.{record_view, mode_view, IsJudged, IsEdited, HasFault};
 
 use crate::call::PathEdit;
+use crate::delimiter::Delimiter;
 use crate::record_fault::RecordFault;
 use crate::records::{Mode, Record};
 use environment::fields::slices;
@@ -43,17 +43,15 @@ fn judge_plain(alloc: Global, var: &str, value: Option<&str>) -> Result<(), Reco
     }
 }
 
-fn is_element(delim: char, text: &str) -> bool
-    requires { delim < 128 }
-    ensures { result ≡ is_element delim text.now }
+fn is_element(delim: Delimiter, text: &str) -> bool
+    ensures { result ≡ is_element delim.character text.now }
 {
-    let delim = delim as u8;
+    let delim = delim.character as u8;
     text.as_bytes().iter().all(|b| !(*b == delim || *b == 0))
 }
 
-fn are_elements(delim: char, texts: &[String]) -> bool
-    requires { delim < 128 }
-    ensures { result ≡ list_all (is_element delim) (map string_bytes texts.now) }
+fn are_elements(delim: Delimiter, texts: &[String]) -> bool
+    ensures { result ≡ list_all (is_element delim.character) (map string_bytes texts.now) }
 {
     let mut rest = texts;
     while let [text, after @ ..] = rest {
@@ -65,20 +63,20 @@ fn are_elements(delim: char, texts: &[String]) -> bool
     true
 }
 
-fn is_delimiter(delim: char) -> bool
-    ensures { result ≡ is_delimiter delim }
-{
-    ' ' <= delim && delim <= '~'
-}
-
-/// Refuses variables that can't be edited, and then delimiters and elements.
-fn judge_path(alloc: Global, var: &str, delim: char, elements: &[String]) -> Result<(), RecordFault>
-    ensures { IsJudged result (option_map bad_edit (path_reason var.now delim (map string_bytes elements.now))) }
+/// Refuses variables that can't be edited, and then elements.
+fn judge_path(
+    alloc: Global,
+    var: &str,
+    delim: Delimiter,
+    elements: &[String],
+) -> Result<(), RecordFault>
+    ensures { IsJudged result
+        (option_map bad_edit (path_reason var.now delim.character (map string_bytes elements.now))) }
 {
     if let Err(fault) = judge_name(alloc, var) {
         return Err(RecordFault::Env(fault));
     }
-    if !is_delimiter(delim) || !are_elements(delim, elements) {
+    if !are_elements(delim, elements) {
         return Err(bad_value(alloc, var));
     }
     Ok(())
@@ -125,31 +123,31 @@ fn add<V: Vars>(
     alloc: Global,
     env: &mut V,
     var: &str,
-    delim: char,
+    delim: Delimiter,
     elements: &[String],
     end: End,
 ) -> Result<(), EnvFault>
     ensures edits { Edits result (V.vars env.old) (V.vars env.new)
-        (added_path (V.vars env.old) var.now delim (map string_bytes elements.entry.now) end) }
+        (added_path (V.vars env.old) var.now delim.character (map string_bytes elements.entry.now) end) }
     ensures under { V.under env.new ≡ V.under env.old }
 {
     let slices = slices(alloc, elements)?;
-    add_path(alloc, env, var, delim, slices.as_slice(), end)
+    add_path(alloc, env, var, delim.character, slices.as_slice(), end)
 }
 
 fn drop<V: Vars>(
     alloc: Global,
     env: &mut V,
     var: &str,
-    delim: char,
+    delim: Delimiter,
     elements: &[String],
 ) -> Result<(), EnvFault>
     ensures edits { Edits result (V.vars env.old) (V.vars env.new)
-        (dropped_path (V.vars env.old) var.now delim (map string_bytes elements.entry.now)) }
+        (dropped_path (V.vars env.old) var.now delim.character (map string_bytes elements.entry.now)) }
     ensures under { V.under env.new ≡ V.under env.old }
 {
     let slices = slices(alloc, elements)?;
-    drop_path(alloc, env, var, delim, slices.as_slice())
+    drop_path(alloc, env, var, delim.character, slices.as_slice())
 }
 
 /// What loading makes of a record.

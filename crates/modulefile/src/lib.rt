@@ -3,6 +3,7 @@
 
 mod call;
 mod call_fault;
+mod delimiter;
 mod effects;
 mod laws;
 mod record_fault;
@@ -11,6 +12,7 @@ mod rows;
 
 pub use call::{Call, PathEdit, Topic, call_of};
 pub use call_fault::CallFault;
+pub use delimiter::Delimiter;
 pub use effects::effect;
 pub use laws::{files, plain, played, words};
 pub use record_fault::RecordFault;

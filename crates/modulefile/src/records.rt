@@ -1,5 +1,6 @@
 //! What accepted commands leave on record.
 use crate::call::PathEdit;
+use crate::delimiter::Delimiter;
 
 /// What a file is evaluated for.
 #[derive(Clone, Copy, Debug, PartialEq, Eq)]
@@ -31,7 +32,7 @@ pub enum Record {
     /// A path command: the values, cut at the delimiter.
     Path {
         edit: PathEdit,
-        delim: char,
+        delim: Delimiter,
         var: String,
         elements: Vec<String>,
     },

@@ -1,11 +1,11 @@
 -- A file evaluated by the host, from the environment before it.
-use Rattle.std.proofs.Common.{◌≡◌, Bool, false, List, [], map, string_bytes, String, Option, Some, IfSome, Result, Ok, Err, IfOk, IfErr, refl, ap, sym, subst, ◌∙◌}
+use Rattle.std.proofs.Common.{◌≡◌, Bool, false, List, [], map, string_bytes, String, Some, IfSome, Result, Ok, Err, IfOk, IfErr, ap, sym, subst, ◌∙◌}
 use Rattle.std.specs.declared.vec.Vec.{Vec}
 use Rattle.std.specs.declared.alloc.Global.{Global}
 use Rattle.environment.specs.Texts.{Text, texts_in}
 use Rattle.environment.specs.Environment.{Environment}
 use Rattle.environment.specs.Changes.{applied, new_values_in}
-use Rattle.tclrules.specs.Oracle.{Oracle, Told}
+use Rattle.tclrules.specs.Oracle.{Told}
 use Rattle.tclrules.specs.Variables.{Variables}
 use Rattle.tclrules.specs.Promise.{Evaluates}
 use Rattle.tclrules.specs.declared.limits.Limits.{Limits}
@@ -13,7 +13,7 @@ use Rattle.tclrules.specs.declared.outcome.Ending.{Ending}
 use Rattle.tclrules.specs.declared.outcome.EvalFault.{EvalFault}
 use Rattle.modulefile.specs.Answers as answers
 use Rattle.modulefile.specs.Answers.{oracle_of}
-use Rattle.modulefile.specs.Files.{Stop, RunsFile, ran_of, untold, globals_of}
+use Rattle.modulefile.specs.Files.{RunsFile, ran_of, untold, globals_of}
 use Rattle.modulerun.specs.declared.context.Context.{Context}
 use Rattle.modulerun.specs.declared.run.Draft.{Draft}
 use Rattle.modulerun.specs.declared.run_fault.RunFault.{RunFault}

@@ -13,11 +13,11 @@ use Rattle.modulefile.specs.declared.records.Mode.{Mode}
 use Rattle.modulefile.specs.declared.records.Record.{Record}
 use Rattle.modulefile.specs.declared.record_fault.RecordFault.{RecordFault}
 use Rattle.modulefile.specs.Results.{◌>>=◌}
-use Rattle.modulefile.specs.Calls.{CallReason, keeps, call_of}
+use Rattle.modulefile.specs.Calls.{keeps, call_of}
 use Rattle.modulefile.specs.RecordViews.{mode_view, record_view, fault_reason, IsEdited}
 use Rattle.modulefile.specs.Answers.{recorded, records_in, by_record, or_start}
 use Rattle.modulerun.specs.declared.entry.Entry.{Entry}
-use Rattle.modulerun.specs.Journals.{SoFar, found, words_of, records_of, IsKept, noted, IsNoted, effect_on}
+use Rattle.modulerun.specs.Journals.{found, words_of, records_of, IsKept, IsNoted}
 
 bind_ok : {A B R : Type 0} (r : Result A R) (f : A → Result B R) (a : A) (b : B) → r ≡ Ok a → f a ≡ Ok b → (r >>= f) ≡ Ok b
 bind_ok r f a b e h = subst (λ x. (x >>= f) ≡ Ok b) (sym e) h

@@ -1,6 +1,7 @@
 pub mod KeptLemmas
-pub mod DelimiterLemmas
 pub mod ListLemmas
 pub mod ReplyLemmas
 pub mod RunLemmas
 pub mod DraftLemmas
+pub mod RefusalLemmas
+pub mod AgainstLemmas

@@ -1,9 +1,9 @@
 -- How the host's replies follow from what its parts say.
-use Rattle.std.proofs.Common.{◌≡◌, ◌==◌, ℕ, Bool, true, false, ◌||◌, List, [], ◌∷◌, ◌++◌, map, string_bytes, String, if◌then◌else◌, Option, Some, None, IfSome, Result, Ok, Err, IfOk, refl, ap, sym, subst, ◌∙◌, codes}
+use Rattle.std.proofs.Common.{◌≡◌, ◌==◌, ℕ, Bool, true, false, ◌||◌, List, [], string_bytes, String, if◌then◌else◌, Option, Some, None, IfSome, Result, Ok, Err, IfOk, refl, ap, sym, subst, ◌∙◌}
 use Rattle.std.specs.declared.vec.Vec.{Vec}
 use Rattle.std.specs.declared.alloc.Global.{Global}
 use Rattle.std.specs.declared.alloc.AllocError.{AllocError}
-use Rattle.environment.specs.Texts.{Text, texts_in}
+use Rattle.environment.specs.Texts.{Text}
 use Rattle.environment.specs.Names.{is_variable_name}
 use Rattle.environment.specs.Environment.{Environment}
 use Rattle.environment.specs.Reasons.{bad_variable, inconsistent}

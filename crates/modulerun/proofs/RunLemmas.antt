@@ -1,24 +1,22 @@
 -- What an evaluation by the host says of a file.
-use Rattle.std.proofs.Common.{◌≡◌, ℕ, Bool, true, false, List, [], ◌∷◌, codes, bytes_eq, string_bytes, if◌then◌else◌, Option, Some, None, IfSome, Result, Ok, Err, refl, ap, sym, subst, ◌∙◌}
+use Rattle.std.proofs.Common.{◌≡◌, ℕ, false, [], ◌∷◌, codes, bytes_eq, string_bytes, if◌then◌else◌, Option, Some, None, IfSome, Ok, Err, refl, ap, sym, subst, ◌∙◌}
 use Rattle.environment.specs.Texts.{Text}
-use Rattle.environment.specs.Environment.{Environment}
 use Rattle.environment.proofs.EnvLemmas.{same_environment}
 use Rattle.tclrules.specs.Oracle as oracle
 use Rattle.tclrules.specs.Oracle.{Oracle, Told, Nothing}
 use Rattle.tclrules.specs.Derivation as halts
 use Rattle.tclrules.specs.Derivation.{Outcome, Ended, Halted, World}
-use Rattle.tclrules.specs.Variables.{State}
 use Rattle.tclrules.specs.Plans as plans
 use Rattle.tclrules.specs.Plans.{Normal, Raised}
 use Rattle.tclrules.specs.Promise.{Evaluates}
-use Rattle.tclrules.specs.Meaning.{Comes, line_at}
+use Rattle.tclrules.specs.Meaning.{Comes}
 use Rattle.tclrules.specs.declared.limits.Limits.{Limits}
 use Rattle.tclrules.specs.declared.outcome.Ending.{Ending}
 use Rattle.tclrules.specs.declared.outcome.EvalFault.{EvalFault}
 use Rattle.tclrules.specs.declared.outcome.EvalFault.TheVariants as faults
 use Rattle.modulerecords.specs.Effects.{Mode, load, unload, display, whatis}
 use Rattle.modulefile.specs.Calls.{call_of, mode, tells, own_name}
-use Rattle.modulefile.specs.Answers.{Context, answered, asked, mode_word, oracle_of}
+use Rattle.modulefile.specs.Answers.{Context, answered, mode_word, oracle_of}
 use Rattle.modulefile.specs.Files as files
 use Rattle.modulefile.specs.Files.{Stop, halted, failed, RunsFile, FinishesFile, ran_of, untold, globals_of}
 use Rattle.modulerun.specs.Running.{eval_stop}

@@ -2,3 +2,4 @@ pub mod Running
 pub mod Journals
 pub mod Hosting
 pub mod Messages
+pub mod Refusals

@@ -1,5 +1,5 @@
 -- What a call that runs a modulefile says of it.
-use Rattle.std.specs.Prelude.{◌≡◌, List, map, string_bytes, Option, Some, None, IfSome, Result, Ok, Err}
+use Rattle.std.specs.Prelude.{◌≡◌, map, string_bytes, Option, Some, None, IfSome, Result, Ok, Err}
 use Rattle.std.specs.Option.{option_map}
 use Rattle.environment.specs.Texts.{Text}
 use Rattle.environment.specs.Environment.{Environment}

@@ -1,9 +1,10 @@
 //! What a file has done so far: the commands that were accepted, and the environment that they make.
-ghost use Rattle.std.specs.Prelude.{◌≡◌, ◌++◌, ◌∷◌, [], Ok, map, string_bytes, OnOk, OnErr, IfOk};
+ghost use Rattle.std.specs.Prelude.{◌≡◌, ◌++◌, ◌∷◌, [], Ok, map, string_bytes, OnOk, OnErr, IfOk, IfErr};
 ghost use Rattle.std.specs.Option.{option_map};
 ghost use Rattle.environment.specs.Texts.{texts_in};
 ghost use Rattle.environment.specs.Environment.{lookup};
 ghost use Rattle.environment.specs.Changes.{applied, new_values_in};
+ghost use Rattle.environment.specs.declared.fault.EnvFault.TheVariants.{OutOfMemory};
 ghost use Rattle.modulerecords.specs.Effects.{effect, effects};
 ghost use Rattle.modulefile.specs.Calls.{keeps, call_of};
 ghost use Rattle.modulefile.specs.Answers.{records_in};
@@ -167,6 +168,7 @@ impl<'a, V: Vars> Journal<'a, V> {
         ensures changes { IfOk result (λ made. effects (mode_view self.entry.mode) self.entry.owner
             (map record_view made.records.items) self.entry.start
             ≡ Ok (applied (new_values_in made.changes) self.entry.start)) }
+        ensures only { IfErr result (λ e. e ≡ OutOfMemory) }
     {
         let Journal {
             alloc,

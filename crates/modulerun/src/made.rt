@@ -1,5 +1,5 @@
 //! The records of commands.
-ghost use Rattle.std.specs.Prelude.{◌≡◌, ◌<◌, map, string_bytes, IfOk};
+ghost use Rattle.std.specs.Prelude.{◌≡◌, map, string_bytes, IfOk};
 ghost use Rattle.std.specs.Option.{option_map};
 ghost use Rattle.environment.specs.Texts.{texts_in};
 ghost use Rattle.modulerecords.specs.Records.{Set, Unset, Push, Conflict, Prereq};
@@ -8,7 +8,7 @@ ghost use Rattle.modulefile.specs.CallViews.{edit_record};
 ghost use Rattle.modulefile.specs.RecordViews.{record_view};
 
 use environment::fields::{copies, copy, join, parts, slices};
-use modulefile::{PathEdit, Record};
+use modulefile::{Delimiter, PathEdit, Record};
 use std::alloc::{AllocError, Global};
 
 /// The texts, copied.
@@ -20,14 +20,13 @@ pub(crate) fn copied(alloc: Global, texts: &[String]) -> Result<Vec<String>, All
 }
 
 /// The elements of values, which are cut at the delimiter.
-fn elements(alloc: Global, delim: char, values: &[String]) -> Result<Vec<String>, AllocError>
-    requires { delim < 128 }
-    ensures { IfOk result (λ v. texts_in v ≡ elements_of delim (map string_bytes values.now)) }
+fn elements(alloc: Global, delim: Delimiter, values: &[String]) -> Result<Vec<String>, AllocError>
+    ensures { IfOk result (λ v. texts_in v ≡ elements_of delim.character (map string_bytes values.now)) }
 {
     let mut elements = Vec::new(alloc);
     let mut rest = values;
     while let [value, after @ ..] = rest {
-        let parts = parts(alloc, value, delim)?;
+        let parts = parts(alloc, value, delim.character)?;
         elements.extend_from_slice(parts.as_slice())?;
         rest = after;
     }
@@ -65,13 +64,12 @@ pub(crate) fn push(alloc: Global, var: &str, value: &str) -> Result<Record, Allo
 pub(crate) fn path(
     alloc: Global,
     edit: PathEdit,
-    delim: char,
+    delim: Delimiter,
     var: &str,
     values: &[String],
 ) -> Result<Record, AllocError>
-    requires { delim < 128 }
     ensures { IfOk result (λ r. record_view r
-        ≡ edit_record edit delim var.now (elements_of delim (map string_bytes values.now))) }
+        ≡ edit_record edit delim.character var.now (elements_of delim.character (map string_bytes values.now))) }
 {
     let var = String::from_str(alloc, var)?;
     let elements = elements(alloc, delim, values)?;

@@ -5,7 +5,7 @@ ghost use Rattle.modulefile.specs.RecordViews.{record_view};
 ghost use Rattle.modulefile.specs.Reports.{path_words, shown_words, line_of, show_text, whatis_text};
 
 use environment::fields::{join, slices};
-use modulefile::{PathEdit, Record};
+use modulefile::{Delimiter, PathEdit, Record};
 use std::alloc::{AllocError, Global};
 use tcllist::write_list;
 
@@ -33,28 +33,24 @@ fn listed_with<'a>(
     write_list(alloc, &[command, "--delim", delim, var, value])
 }
 
-/// A path command: the elements are one value, and the delimiter is told where it isn't the colon. It is ASCII in the
-/// record of each command.
+/// A path command: the elements are one value, and the delimiter is told where it isn't the colon.
 fn shown_path(
     alloc: Global,
     command: &str,
-    delim: char,
+    delim: Delimiter,
     var: &str,
     elements: &[String],
 ) -> Result<String, AllocError>
     ensures { IfOk result (λ t. string_bytes t
-        ≡ list_text (path_words command.now delim var.now (map string_bytes elements.now))) }
+        ≡ list_text (path_words command.now delim.character var.now (map string_bytes elements.now))) }
 {
-    if delim > '~' {
-        return Err(AllocError);
-    }
     let elements = slices(alloc, elements)?;
-    let value = join(alloc, elements.as_slice(), delim)?;
-    if delim == ':' {
+    let value = join(alloc, elements.as_slice(), delim.character)?;
+    if delim.character == ':' {
         return listed(alloc, command, var, &value);
     }
     let mut said = String::new(alloc);
-    said.push(delim)?;
+    said.push(delim.character)?;
     listed_with(alloc, command, &said, var, &value)
 }
 
@@ -105,7 +101,7 @@ fn push_line(report: &mut String, text: &str) -> Result<(), AllocError>
 }
 
 /// What is shown of a file by its path and records: a line of its path, and one for each record, its command and words
-/// in the writing of lists.
+/// in the writing of lists. Refused for want of memory alone.
 pub fn show_report(alloc: Global, path: &str, records: &[Record]) -> Result<String, AllocError>
     ensures { IfOk result (λ t. string_bytes t ≡ show_text path.now (map record_view records.now)) }
 {
@@ -131,11 +127,17 @@ fn push_description(report: &mut String, name: &str, kept: &Record) -> Result<()
             report.push_str(": ")?;
             push_line(report, text)
         }
-        _ => Ok(()),
+        Record::Set { .. }
+        | Record::Unset { .. }
+        | Record::Push { .. }
+        | Record::Path { .. }
+        | Record::Conflict(_)
+        | Record::Prereq(_) => Ok(()),
     }
 }
 
-/// The descriptions among the records of a file, each on a line behind the module's name.
+/// The descriptions among the records of a file, each on a line behind the module's name. Refused for want of memory
+/// alone.
 pub fn whatis_report(alloc: Global, name: &str, records: &[Record]) -> Result<String, AllocError>
     ensures { IfOk result (λ t. string_bytes t ≡ whatis_text name.now (map record_view records.now)) }
 {

@@ -1,15 +1,19 @@
 //! A modulefile, run.
-ghost use Rattle.std.specs.Prelude.{◌≡◌, true, Some, IfOk, IfSome};
+ghost use Rattle.std.specs.Prelude.{◌≡◌, ℕ, Some, IfOk, IfSome};
 ghost use Rattle.tclrules.specs.Promise.{texts_of};
 ghost use Rattle.tclrules.specs.Derivation.{ByHost};
+ghost use Rattle.tclrules.specs.declared.outcome.EvalFault.TheVariants.{Host};
+ghost use Rattle.modulefile.specs.Calls.{CallReason};
 ghost use Rattle.modulefile.specs.Files.{globals_of, halted};
+ghost use Rattle.modulerun.specs.Refusals.{reason_told, IsKept};
 ghost use Rattle.modulerun.specs.Running.{context_view, eval_stop, stop_of, RunsTo, Drafts};
 
+use crate::command_refusal::CommandRefusal;
 use crate::context::Context;
 use crate::run_fault::RunFault;
 use crate::runner::Runner;
-use environment::{Change, EnvFault, Vars};
-use modulefile::{Record, RecordFault};
+use environment::{Change, Vars};
+use modulefile::Record;
 use std::alloc::{AllocError, Global};
 use tcleval::evaluate;
 use tclrules::{EvalFault, Limits};
@@ -41,40 +45,35 @@ fn globals(alloc: Global, path: &str) -> Result<Vec<(String, String)>, AllocErro
     Ok(globals)
 }
 
-/// The refusal behind a fault of the evaluation.
-fn refusal(fault: EvalFault, kept: Option<RunFault>) -> RunFault
-    ensures { IfSome (stop_of result) (λ stop. eval_stop fault ≡ Some stop) }
+/// The refusal behind a fault of the evaluation: for a number of the host the one that it kept.
+fn refusal(fault: EvalFault, kept: Option<CommandRefusal>) -> RunFault
+    ensures stop { IfSome (stop_of result) (λ stop. eval_stop fault ≡ Some stop) }
+    ensures told { (number : ℕ) (reason : CallReason) → fault ≡ Host number → IsKept (Some reason) number kept
+        → reason_told result ≡ Some reason }
 {
     match fault {
         EvalFault::OutOfMemory => RunFault::OutOfMemory,
         EvalFault::Host(number) => refused(number, kept),
-        fault => RunFault::Eval(fault),
-    }
-}
-
-/// Whether the refusal has this number.
-fn is_refused_by(fault: &RunFault, number: u16) -> bool
-    ensures { result ≡ true → stop_of fault.now ≡ Some (halted (ByHost number)) }
-{
-    match fault {
-        RunFault::BadArguments => number == 56,
-        RunFault::BadRecord(RecordFault::Env(EnvFault::OutOfMemory)) => false,
-        RunFault::BadRecord(fault) => fault.number() == number,
-        RunFault::OutOfMemory | RunFault::Eval(_) => false,
+        EvalFault::Text(_)
+        | EvalFault::TclError(_, _)
+        | EvalFault::TooManyCommands
+        | EvalFault::TooDeep
+        | EvalFault::ValueTooLong
+        | EvalFault::NumberTooLarge
+        | EvalFault::FractionOperand
+        | EvalFault::LeftOut(_)
+        | EvalFault::Stopped => RunFault::Eval(fault),
     }
 }
 
 /// The refusal by a number: the one that was kept, where it has this number.
-fn refused(number: u16, kept: Option<RunFault>) -> RunFault
-    ensures { IfSome (stop_of result) (λ stop. stop ≡ halted (ByHost number)) }
+fn refused(number: u16, kept: Option<CommandRefusal>) -> RunFault
+    ensures stop { IfSome (stop_of result) (λ stop. stop ≡ halted (ByHost number)) }
+    ensures told { (reason : CallReason) → IsKept (Some reason) number kept → reason_told result ≡ Some reason }
 {
-    let Some(fault) = kept else {
-        return RunFault::Eval(EvalFault::Host(number));
-    };
-    if is_refused_by(&fault, number) {
-        fault
-    } else {
-        RunFault::Eval(EvalFault::Host(number))
+    match kept {
+        Some(refusal) if refusal.number() == number => refusal.into_fault(),
+        Some(_) | None => RunFault::Eval(EvalFault::Host(number)),
     }
 }
 
@@ -113,8 +112,6 @@ pub fn run_file<V: Vars>(
     ensures under { V.under env.new ≡ V.under env.old }
 {
     let Draft { ran, changes } = drafted(alloc, context, text, &*env, limits)?;
-    match env.apply(changes) {
-        Ok(()) => Ok(ran),
-        Err(_) => Err(RunFault::OutOfMemory),
-    }
+    env.apply(changes)?;
+    Ok(ran)
 }

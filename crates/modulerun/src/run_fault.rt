@@ -3,6 +3,7 @@ ghost use Rattle.std.specs.Prelude.{◌≡◌, IfSome, Some};
 ghost use Rattle.message.specs.Messages.{text_of};
 ghost use Rattle.modulerun.specs.Messages as texts;
 
+use environment::EnvFault;
 use message::Message;
 use modulefile::RecordFault;
 use std::alloc::AllocError;
@@ -30,7 +31,15 @@ fn eval_number(fault: &EvalFault) -> u16
     match fault {
         EvalFault::Text(fault) => fault.number(),
         EvalFault::Host(number) => *number,
-        fault => fault.number(),
+        EvalFault::OutOfMemory
+        | EvalFault::TclError(_, _)
+        | EvalFault::TooManyCommands
+        | EvalFault::TooDeep
+        | EvalFault::ValueTooLong
+        | EvalFault::NumberTooLarge
+        | EvalFault::FractionOperand
+        | EvalFault::LeftOut(_)
+        | EvalFault::Stopped => fault.number(),
     }
 }
 
@@ -82,5 +91,24 @@ impl From<AllocError> for RunFault {
 
     fn from(_refused: AllocError) -> RunFault {
         RunFault::OutOfMemory
+    }
+}
+
+impl From<EnvFault> for RunFault {
+    ghost use Rattle.std.specs.Prelude.{◌≡◌};
+    ghost use Rattle.modulerun.specs.Refusals.{fault_of_edit};
+
+    ghost from_gives = { λ fault e. e ≡ fault_of_edit fault };
+
+    fn from(fault: EnvFault) -> RunFault {
+        match fault {
+            EnvFault::OutOfMemory => RunFault::OutOfMemory,
+            EnvFault::BadVariable(_)
+            | EnvFault::Protected(_)
+            | EnvFault::CounterFull(_)
+            | EnvFault::Inconsistent
+            | EnvFault::BadStack(_)
+            | EnvFault::BadValue(_) => RunFault::BadRecord(RecordFault::Env(fault)),
+        }
     }
 }

@@ -1,13 +1,14 @@
 //! The host of a modulefile.
-ghost use Rattle.std.specs.Prelude.{◌≡◌, ◌++◌, ◌∷◌, [], Ok, map, string_bytes, IfOk, IfErr, OnOk, OnErr, false};
+ghost use Rattle.std.specs.Prelude.{◌≡◌, ◌++◌, ◌∷◌, [], None, Ok, map, string_bytes, IfOk, IfErr, OnOk, OnErr, false};
+ghost use Rattle.std.specs.Option.{option_map};
 ghost use Rattle.environment.specs.Texts.{Text, texts_in};
 ghost use Rattle.environment.specs.Reasons.{bad_variable};
 ghost use Rattle.environment.specs.Changes.{applied, new_values_in};
 ghost use Rattle.tclrules.specs.Oracle.{Nothing, Message, Done};
 ghost use Rattle.modulerecords.specs.Judgments.{RecordReason, bad_edit};
 ghost use Rattle.modulefile.specs.Calls.{CallReason, bad_record, keeps, call_of};
-ghost use Rattle.modulefile.specs.CallViews.{HasReason, call_view, topic_view};
-ghost use Rattle.modulefile.specs.RecordViews.{mode_view, record_view, HasFault};
+ghost use Rattle.modulefile.specs.CallViews.{HasReason, call_view, reason_of, topic_view};
+ghost use Rattle.modulefile.specs.RecordViews.{mode_view, record_view, fault_reason, HasFault};
 ghost use Rattle.modulefile.specs.Answers.{answered, any_loaded, asked, not_done, read, truth};
 ghost use Rattle.modulefile.specs.Answers.{topic_text, topic_test, value_shown};
 ghost use Rattle.modulefile.specs.Files.{ran_of};
@@ -15,7 +16,9 @@ ghost use Rattle.modulerun.specs.declared.run_fault.RunFault.TheVariants.{OutOfM
 ghost use Rattle.modulerun.specs.Running.{ran_view};
 ghost use Rattle.modulerun.specs.Journals.{found, so_far_of};
 ghost use Rattle.modulerun.specs.Hosting.{context_of, told_by, message_of, Replies};
+ghost use Rattle.modulerun.specs.Refusals.{against, against_reading, KeepsRefusal};
 
+use crate::command_refusal::CommandRefusal;
 use crate::context::Context;
 use crate::journal::{Journal, Made};
 use crate::made;
@@ -34,8 +37,8 @@ pub(crate) struct Runner<'a, V: Vars> {
     pub journal: Journal<'a, V>,
     pub messages: Vec<String>,
     pub asked: bool,
-    /// The refusal behind the number that the evaluation was told.
-    pub refusal: Option<RunFault>,
+    /// The refusal behind the number that the evaluation was told last.
+    pub refusal: Option<CommandRefusal>,
 }
 
 // By hand, since the variables below needn't be let go.
@@ -81,32 +84,36 @@ impl<'a, V: Vars> Runner<'a, V> {
         }
     }
 
+    /// Answers words that call no command.
     fn not_done(&mut self, fault: CallFault) -> HostAnswer
         ensures replies { (reason : CallReason) → HasReason reason fault → Replies (not_done reason) result
             (told_by self.old) (told_by self.new) }
         ensures same { context_of self.new ≡ context_of self.old }
+        ensures kept { KeepsRefusal (reason_of fault) result self.new.refusal }
     {
         match fault {
             CallFault::OutOfMemory => HostAnswer::OutOfMemory,
             CallFault::Unknown => HostAnswer::Unknown,
             CallFault::LeftOut(name) => HostAnswer::LeftOut(name),
             CallFault::BadArguments => {
-                self.refusal = Some(RunFault::BadArguments);
+                self.refusal = Some(CommandRefusal::BadArguments);
                 HostAnswer::Refused(56)
             }
         }
     }
 
+    /// Refuses a command by the number of the fault, which is kept.
     fn refuse(&mut self, fault: RecordFault) -> HostAnswer
         ensures replies { (reason : RecordReason) → HasFault reason fault
             → Replies (not_done (bad_record reason)) result (told_by self.old) (told_by self.new) }
         ensures same { context_of self.new ≡ context_of self.old }
+        ensures kept { KeepsRefusal (option_map bad_record (fault_reason fault)) result self.new.refusal }
     {
         if let RecordFault::Env(EnvFault::OutOfMemory) = fault {
             return HostAnswer::OutOfMemory;
         }
         let number = fault.number();
-        self.refusal = Some(RunFault::BadRecord(fault));
+        self.refusal = Some(CommandRefusal::BadRecord(fault));
         HostAnswer::Refused(number)
     }
 
@@ -117,6 +124,8 @@ impl<'a, V: Vars> Runner<'a, V> {
             (map string_bytes words.now) (call_of (map string_bytes words.now))) result
             (told_by self.old) (told_by self.new) }
         ensures same { context_of self.new ≡ context_of self.old }
+        ensures kept { KeepsRefusal (against (context_of self.old) (found self.old.journal)
+            (call_of (map string_bytes words.now))) result self.new.refusal }
     {
         match made {
             Err(_) => HostAnswer::OutOfMemory,
@@ -132,6 +141,7 @@ impl<'a, V: Vars> Runner<'a, V> {
         ensures replies { Replies (Done [] (Message (message_of text.now newline)) false) result
             (told_by self.old) (told_by self.new) }
         ensures same { context_of self.new ≡ context_of self.old }
+        ensures kept { KeepsRefusal None result self.new.refusal }
     {
         match push_message(self.alloc, &mut self.messages, text, newline) {
             Ok(()) => HostAnswer::Done(String::new(self.alloc)),
@@ -144,6 +154,7 @@ impl<'a, V: Vars> Runner<'a, V> {
         ensures replies { (t : Text) → IfOk text (λ s. string_bytes s ≡ t) → Replies (asked t) result
             (told_by self.old) (told_by self.new) }
         ensures same { context_of self.new ≡ context_of self.old }
+        ensures kept { KeepsRefusal None result self.new.refusal }
     {
         self.asked = true;
         match text {
@@ -154,8 +165,9 @@ impl<'a, V: Vars> Runner<'a, V> {
 
     /// The module's own name, which is no question.
     fn own_name(&self) -> HostAnswer
-        ensures { Replies (Done self.now.journal.owner Nothing false) result
+        ensures replies { Replies (Done self.now.journal.owner Nothing false) result
             (told_by self.now) (told_by self.now) }
+        ensures kept { KeepsRefusal None result self.now.refusal }
     {
         match String::from_str(self.alloc, self.journal.owner()) {
             Ok(name) => HostAnswer::Done(name),
@@ -170,7 +182,10 @@ impl<'a, V: Vars> Runner<'a, V> {
     {
         match self.journal.mode() {
             Mode::Display => format!(in self.alloc; "${var}"),
-            _ => String::from_str(self.alloc, self.journal.get(var).unwrap_or(default)),
+            Mode::Load | Mode::Unload | Mode::Whatis => String::from_str(
+                self.alloc,
+                self.journal.get(var).unwrap_or(default),
+            ),
         }
     }
 
@@ -179,6 +194,7 @@ impl<'a, V: Vars> Runner<'a, V> {
             (value_shown (mode_view self.old.journal.mode) (found self.old.journal) var.now default.now)) result
             (told_by self.old) (told_by self.new) }
         ensures same { context_of self.new ≡ context_of self.old }
+        ensures kept { KeepsRefusal (against_reading var.now) result self.new.refusal }
     {
         if is_variable_name(var) {
             let value = self.value_shown(var, default);
@@ -215,6 +231,7 @@ impl<'a, V: Vars> Runner<'a, V> {
             (map string_bytes self.old.context.loaded.now)))) result
             (told_by self.old) (told_by self.new) }
         ensures same { context_of self.new ≡ context_of self.old }
+        ensures kept { KeepsRefusal None result self.new.refusal }
     {
         let so = any_loaded(names, self.context.loaded);
         self.ask(String::from_str(self.alloc, truth(so)))
@@ -234,21 +251,19 @@ impl<'a, V: Vars> Runner<'a, V> {
             asked,
             refusal: _refusal,
         } = self;
-        match journal.finish() {
-            Ok(Made { records, changes }) => {
-                let ran = Ran {
-                    records,
-                    messages,
-                    asked,
-                };
-                Ok(Draft { ran, changes })
-            }
-            Err(_) => Err(RunFault::OutOfMemory),
-        }
+        let Made { records, changes } = journal.finish()?;
+        let ran = Ran {
+            records,
+            messages,
+            asked,
+        };
+        Ok(Draft { ran, changes })
     }
 
-    /// The refusal of a command.
-    pub(crate) fn into_refusal(self) -> Option<RunFault> {
+    /// The refusal that was kept last.
+    pub(crate) fn into_refusal(self) -> Option<CommandRefusal>
+        ensures { result ≡ self.entry.refusal }
+    {
         let Runner {
             alloc: _alloc,
             context: _context,
@@ -267,6 +282,8 @@ impl<'a, V: Vars> Runner<'a, V> {
             (map string_bytes words.now) (call_of (map string_bytes words.now))) result
             (told_by self.old) (told_by self.new) }
         ensures same { context_of self.new ≡ context_of self.old }
+        ensures kept { KeepsRefusal (against (context_of self.old) (found self.old.journal)
+            (call_of (map string_bytes words.now))) result self.new.refusal }
     {
         let alloc = self.alloc;
         match call {
@@ -328,14 +345,27 @@ fn message(alloc: Global, text: &str, newline: bool) -> Result<String, AllocErro
 }
 
 impl<'a, V: Vars> Host for Runner<'a, V> {
+    ghost use Rattle.std.specs.Prelude.{◌≡◌, map, string_bytes};
+    ghost use Rattle.tclrules.specs.Hosts.{Answers};
+    ghost use Rattle.modulefile.specs.Calls.{call_of};
     ghost use Rattle.modulefile.specs.Answers.{oracle_of};
+    ghost use Rattle.modulerun.specs.Journals.{found};
     ghost use Rattle.modulerun.specs.Hosting.{context_of, told_by};
+    ghost use Rattle.modulerun.specs.Refusals.{against, KeepsRefusal};
 
     ghost told = { λ r. told_by r };
 
     ghost oracle = { λ r. oracle_of (context_of r) };
 
-    fn command(&mut self, words: &[String]) -> HostAnswer {
+    fn command(&mut self, words: &[String]) -> HostAnswer
+        ensures answer { Answers (oracle_of (context_of self.old)) (map string_bytes words.now) result
+            (told_by self.old) (told_by self.new) }
+        ensures same { oracle_of (context_of self.new) ≡ oracle_of (context_of self.old) }
+
+        // What refuses keeps the reason, with its name, behind the number.
+        ensures kept { KeepsRefusal (against (context_of self.old) (found self.old.journal)
+            (call_of (map string_bytes words.now))) result self.new.refusal }
+    {
         match call_of(self.alloc, words) {
             Ok(call) => self.answer(words, call),
             Err(fault) => self.not_done(fault),

@@ -2,7 +2,6 @@
 use Rattle.std.proofs.Common.{◌≡◌, List, [], ◌∷◌, ◌++◌, sym, subst, ap, refl, ◌∙◌}
 use Rattle.environment.specs.Environment.{Environment}
 use Rattle.environment.specs.Changes.{NewValue, AreChanges, applied}
-use Rattle.modulerecords.specs.Moves.{Move, Loads, Unloads, loaded_names}
 
 -- what differs, written over the old environment, gives the new one
 abbrev pub DifferenceApplies : Type 0
@@ -16,8 +15,3 @@ exact_of law e old new cs same h =
     let From : Environment → Type 0 = λ x. AreChanges x new cs in
     let To : Environment → Type 0 = λ x. AreChanges e x cs in
     subst To (left_of law e old new cs same h) (subst From same h)
-
--- the names that moves load, from the first move on
-pub loaded_first : (m : Move) (ms : List Move) → loaded_names (m ∷ ms) ≡ loaded_names (m ∷ []) ++ loaded_names ms
-loaded_first (Loads m) ms = refl
-loaded_first (Unloads m) ms = refl

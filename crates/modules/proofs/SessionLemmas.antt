@@ -1,5 +1,5 @@
 -- Sessions grow by one request at their end.
-use Rattle.std.proofs.Common.{◌≡◌, ℕ, ◌+◌, ◌-◌, ◌≤◌, ◌<◌, List, [], ◌∷◌, ◌++◌, map, length, take, drop, get_or, refl, sym, subst, ap, ◌∙◌, Ok, Err, append_assoc, append-nil, arith}
+use Rattle.std.proofs.Common.{◌≡◌, ℕ, true, ◌+◌, ◌-◌, ◌≤◌, ◌<◌, List, [], ◌∷◌, ◌++◌, map, length, take, drop, get_or, refl, sym, subst, ap, ◌∙◌, Ok, Err, append_assoc, append-nil, arith}
 use Rattle.std.proofs.lemmas.List.{take_all}
 use Rattle.environment.specs.Environment.{Environment}
 use Rattle.requests.specs.Laws.{SessionsReturn, StepsAreMade}
@@ -9,12 +9,14 @@ use Rattle.requests.specs.Requests.{Asked, Request}
 use Rattle.requests.specs.declared.asked.Request as code
 use Rattle.requests.specs.Returning.{AreNew, AreFitting}
 use Rattle.requests.specs.Sessions as sessions
-use Rattle.requests.specs.Sessions.{Response, Session, IsResponse, env_after, in_shell, session_moves}
+use Rattle.requests.specs.Sessions.{Response, Session, IsResponse, env_after, in_shell, is_cause, session_moves}
 use Rattle.requests.specs.Steps.{Site, RequestStep}
-use Rattle.lookup.specs.Agreement.{Files, Listings, InEachPair}
-use Rattle.lookup.specs.Causes.{Cause, Applies, memory, device, because}
+use Rattle.filetree.specs.Agreement.{Files, Listings, InEachPair}
+use Rattle.filetree.specs.Causes.{Cause, Applies, memory, device, because}
 use Rattle.modulesteps.specs.Answers.{cause_of}
+use Rattle.modulesteps.specs.Messages.{memory_number, number_by, number_of}
 use Rattle.modulesteps.specs.declared.refusal.Refusal.{Refusal}
+use Rattle.modulesteps.specs.declared.refusal.Refusal.TheVariants as refusals
 use Rattle.modulesteps.specs.Views.{done_view}
 use Rattle.modulesteps.specs.declared.done.Done.{Done}
 use Rattle.modules.specs.declared.sessions.Outcome.{Outcome}
@@ -79,25 +81,39 @@ responds law s e new asked done step =
     let P : Environment → Type 0 = λ x. RequestStep s e asked (Ok (done_view done x)) in
     subst P (made_led law s e new asked done step) step
 
-cause_responds : (c : Cause RequestReason) (agrees : Files → Listings → Type 0) (failed : Type 0) (site : Files → Listings → Site) (e : Environment) (asked : Asked)
+-- the number of want of memory is that of a cause
+memory_is_cause : (refusal : Refusal) → is_cause (memory_number refusal) ≡ true
+memory_is_cause refusals.OutOfMemory = refl
+memory_is_cause (refusals.Run fault) = refl
+memory_is_cause (refusals.Find fault) = refl
+memory_is_cause (refusals.Env fault) = refl
+memory_is_cause refusals.BadArguments = refl
+memory_is_cause (refusals.UnknownSubcommand word) = refl
+memory_is_cause (refusals.ConflictWith name) = refl
+memory_is_cause (refusals.PrereqMissing missing) = refl
+memory_is_cause (refusals.StillNeededBy name) = refl
+memory_is_cause (refusals.FileGone path) = refl
+memory_is_cause (refusals.NotAModulefile path) = refl
+
+cause_responds : (wanting : ℕ) → is_cause wanting ≡ true → (c : Cause RequestReason) (agrees : Files → Listings → Type 0) (failed : Type 0) (site : Files → Listings → Site) (e : Environment) (asked : Asked)
     → Applies c failed (λ r. InEachPair agrees (λ files listings. RequestStep (site files listings) e asked (Err r)))
-    → InEachPair agrees (λ files listings. IsResponse (site files listings) e asked (by_cause c))
-cause_responds memory agrees failed site e asked h = λ files listings agreed. refl
-cause_responds device agrees failed site e asked h = λ files listings agreed. refl
-cause_responds (because r) agrees failed site e asked h = h
+    → InEachPair agrees (λ files listings. IsResponse (site files listings) e asked (by_cause (number_by wanting c) c))
+cause_responds wanting is memory agrees failed site e asked h = λ files listings agreed. is
+cause_responds wanting is device agrees failed site e asked h = λ files listings agreed. refl
+cause_responds wanting is (because r) agrees failed site e asked h = h
 
 pub refused_responds : (refusal : Refusal) (agrees : Files → Listings → Type 0) (failed : Type 0) (site : Files → Listings → Site) (e : Environment) (asked : Asked)
     → Applies (cause_of refusal) failed (λ r. InEachPair agrees (λ files listings. RequestStep (site files listings) e asked (Err r)))
     → InEachPair agrees (λ files listings. IsResponse (site files listings) e asked (response_of e (Refused refusal)))
-refused_responds refusal agrees failed site e asked h = cause_responds (cause_of refusal) agrees failed site e asked h
+refused_responds refusal agrees failed site e asked h = cause_responds (memory_number refusal) (memory_is_cause refusal) (cause_of refusal) agrees failed site e asked h
 
-cause_leaves : (c : Cause RequestReason) (e : Environment) → e ≡ env_after e (by_cause c)
-cause_leaves memory e = refl
-cause_leaves device e = refl
-cause_leaves (because r) e = refl
+cause_leaves : (number : ℕ) (c : Cause RequestReason) (e : Environment) → e ≡ env_after e (by_cause number c)
+cause_leaves number memory e = refl
+cause_leaves number device e = refl
+cause_leaves number (because r) e = refl
 
 pub refused_leaves : (refusal : Refusal) (e new : Environment) → new ≡ e → new ≡ env_after e (response_of e (Refused refusal))
-refused_leaves refusal e new same = same ∙ cause_leaves (cause_of refusal) e
+refused_leaves refusal e new same = same ∙ cause_leaves (number_of refusal) (cause_of refusal) e
 
 -- ---- sessions
 

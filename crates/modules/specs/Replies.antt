@@ -1,12 +1,14 @@
 -- What accepted requests answer, as the definitions see it.
+use Rattle.std.specs.Prelude.{string_bytes}
 use Rattle.environment.specs.Environment.{Environment}
+use Rattle.environment.specs.Texts.{texts_in}
 use Rattle.environment.specs.Changes.{applied, new_values_in}
-use Rattle.lookup.specs.Agreement.{Files, Listings}
+use Rattle.filetree.specs.Agreement.{Files, Listings}
 use Rattle.shells.specs.declared.shell.Shell.{Shell}
 use Rattle.tclrules.specs.declared.limits.Limits.{Limits}
-use Rattle.modulesteps.specs.Views.{done_view}
-use Rattle.modules.specs.declared.running.Changed.{Changed}
-use Rattle.modules.specs.declared.running.Reply.{Reply}
+use Rattle.modulesteps.specs.MoveViews.{moves_of}
+use Rattle.modules.specs.declared.reply.Changed.{Changed}
+use Rattle.modules.specs.declared.reply.Reply.{Reply}
 use Rattle.requests.specs.Steps.{Site, Done}
 
 -- what a request is run over
@@ -17,8 +19,21 @@ site_in limits shell files listings = record { files = files; listings = listing
 abbrev pub left_by : Environment → Changed → Environment
 left_by e changed = applied (new_values_in changed.changes) e
 
+-- what was done, with what its changes make of the environment
 abbrev pub changed_view : Environment → Changed → Done
-changed_view e changed = done_view changed.done (left_by e changed)
+changed_view e changed =
+    record {
+      env = left_by e changed;
+      moves = moves_of changed.moves;
+      messages = texts_in changed.messages;
+      report = string_bytes changed.report;
+    }
 
 abbrev pub reply_view : Reply → Done
-reply_view reply = done_view reply.done reply.env
+reply_view reply =
+    record {
+      env = reply.env;
+      moves = moves_of reply.moves;
+      messages = texts_in reply.messages;
+      report = string_bytes reply.report;
+    }

@@ -1,5 +1,5 @@
 -- What the outcomes of a session say, as the definitions see them.
-use Rattle.std.specs.Prelude.{◌≡◌, ℕ, ◌+◌, List, [], ◌∷◌, ◌++◌, map, Result, Ok, Err}
+use Rattle.std.specs.Prelude.{◌≡◌, ℕ, ◌+◌, List, [], ◌∷◌, ◌++◌, Result, Ok, Err}
 use Rattle.environment.specs.Texts.{Text}
 use Rattle.environment.specs.Environment.{Environment}
 use Rattle.modulerecords.specs.Moves.{made}
@@ -11,9 +11,11 @@ use Rattle.requests.specs.Sessions as sessions
 use Rattle.requests.specs.Sessions.{Response, accepted, refused, given_up, env_after, session_moves}
 use Rattle.requests.specs.Returning.{AreNew, AreFitting}
 use Rattle.requests.specs.Reasons.{RequestReason}
-use Rattle.lookup.specs.Causes.{Cause, memory, device, because}
+use Rattle.filetree.specs.Causes.{Cause, memory, device, because}
 use Rattle.modulesteps.specs.Answers.{cause_of}
-use Rattle.modulesteps.specs.Views.{done_view, move_view}
+use Rattle.modulesteps.specs.Messages.{number_of}
+use Rattle.modulesteps.specs.MoveViews.{moves_of}
+use Rattle.modulesteps.specs.Views.{done_view}
 use Rattle.modulesteps.specs.declared.done.Done.{Done}
 use Rattle.modules.specs.declared.sessions.Outcome.{Outcome}
 use Rattle.modules.specs.declared.sessions.Outcome.TheVariants.{Accepted, Refused}
@@ -24,18 +26,18 @@ accepted_in e (Ok new) = new
 accepted_in e (Err reason) = e
 
 abbrev pub led_to : Environment → Done → Environment
-led_to e done = accepted_in e (made (map move_view done.moves.items) e)
+led_to e done = accepted_in e (made (moves_of done.moves) e)
 
--- a refusal as a response: given up where its cause is no reason of the step
-abbrev pub by_cause : Cause RequestReason → Response
-by_cause memory = given_up 31
-by_cause device = given_up 43
-by_cause (because reason) = refused reason
+-- a refusal as a response: given up by its number where its cause is no reason of the step
+abbrev pub by_cause : ℕ → Cause RequestReason → Response
+by_cause number memory = given_up number
+by_cause number device = given_up number
+by_cause number (because reason) = refused reason
 
 -- what an outcome says, in the environment in which it came
 abbrev pub response_of : Environment → Outcome → Response
 response_of e (Accepted done) = accepted (done_view done (led_to e done))
-response_of e (Refused refusal) = by_cause (cause_of refusal)
+response_of e (Refused refusal) = by_cause (number_of refusal) (cause_of refusal)
 
 -- what outcomes say, one after another
 abbrev pub responses : Environment → List Outcome → List Response

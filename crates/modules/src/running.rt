@@ -1,35 +1,19 @@
 //! One request over an environment that stays as it is.
-ghost use Rattle.std.specs.Prelude.{◌≡◌, ◌<◌, ◌≤◌, [], ◌∷◌, ◌++◌, map, IfOk, OnOk};
+ghost use Rattle.std.specs.Prelude.{◌<◌, ◌≤◌, IfOk};
 ghost use Rattle.environment.specs.Changes.{AreChanges, new_values_in};
-ghost use Rattle.lookup.specs.Agreement.{Narrows};
-ghost use Rattle.modulerecords.specs.Moves as records;
+ghost use Rattle.filetree.specs.Agreement.{Narrows};
 ghost use Rattle.requests.specs.RequestViews.{asked_view};
 ghost use Rattle.requests.specs.Steps.{RequestStep};
 ghost use Rattle.modulesteps.specs.Answers.{Tells};
-ghost use Rattle.modulesteps.specs.Views.{move_view};
 ghost use Rattle.modules.specs.Replies.{left_by, changed_view, reply_view, site_in};
 
-use environment::{Change, Env, Vars, Working};
-use lookup::Tree;
-use modulesteps::{Done, Move, Refusal, step};
+use crate::reply::{Changed, Reply};
+use environment::{Env, Vars, Working};
+use filetree::Tree;
+use modulesteps::{Refusal, step};
 use requests::Request;
-use std::alloc::{AllocError, Global};
+use std::alloc::Global;
 use tclrules::Limits;
-
-/// What an accepted request changes: each variable whose value is another now, once, in the order of bytes; and what
-/// was done.
-#[derive(Debug, Drop)]
-pub struct Changed {
-    pub changes: Vec<Change>,
-    pub done: Done,
-}
-
-/// What an accepted request leaves: the environment, and what was done.
-#[derive(Drop)]
-pub struct Reply {
-    pub env: Env,
-    pub done: Done,
-}
 
 /// Runs a request over an environment, which stays as it is, and a tree of modulefiles, and answers what the request
 /// changes. It costs what the request touches, whatever else is set.
@@ -55,7 +39,13 @@ pub fn run_changes<T: Tree>(
     let mut working = Working::over(env);
     let done = step(alloc, request, &mut working, tree, limits)?;
     let changes = working.into_changes()?;
-    Ok(Changed { changes, done })
+    Ok(Changed {
+        changes,
+        loaded: done.loaded,
+        messages: done.messages,
+        report: done.report,
+        moves: done.moves,
+    })
 }
 
 /// Runs a request as `run_changes` does, and answers the environment that the request leaves. It costs a copy of the
@@ -78,31 +68,9 @@ pub fn run<T: Tree>(
     after.apply(changed.changes)?;
     Ok(Reply {
         env: after,
-        done: changed.done,
+        loaded: changed.loaded,
+        messages: changed.messages,
+        report: changed.report,
+        moves: changed.moves,
     })
-}
-
-/// Adds the name of the module that the move loads, if it loads one.
-fn keep_loaded<'a>(names: &mut Vec<&'a str>, step: &'a Move) -> Result<(), AllocError>
-    ensures { OnOk result (map (λ name. name.now) names.new.items
-        ≡ map (λ name. name.now) names.old.items ++ records.loaded_names (move_view step.entry.now ∷ [])) }
-{
-    match step {
-        Move::Loads(module) => Ok(names.push(module.name.as_str())?),
-        Move::Unloads(_) => Ok(()),
-    }
-}
-
-/// The names of the modules that the moves load, in order.
-pub fn loaded_names(alloc: Global, moves: &[Move]) -> Result<Vec<&str>, AllocError>
-    ensures { IfOk result (λ names. map (λ name. name.now) names.items
-        ≡ records.loaded_names (map move_view moves.entry.now)) }
-{
-    let mut names = Vec::new(alloc);
-    let mut rest = moves;
-    while let [step, after @ ..] = rest {
-        keep_loaded(&mut names, step)?;
-        rest = after;
-    }
-    Ok(names)
 }

@@ -1,27 +1,28 @@
 //! Requests one after another.
-ghost use Rattle.std.specs.Prelude.{◌≡◌, ◌<◌, ◌≤◌, ◌+◌, [], ◌∷◌, map, IfOk, OnErr};
-ghost use Rattle.lookup.specs.Agreement.{Narrows, InEachPair};
+ghost use Rattle.std.specs.Prelude.{◌≡◌, ◌<◌, ◌≤◌, ◌+◌, [], ◌∷◌, map, IfOk, IfErr, OnErr};
+ghost use Rattle.filetree.specs.Agreement.{Narrows, InEachPair};
 ghost use Rattle.shells.specs.declared.shell.Shell.{Shell};
 ghost use Rattle.requests.specs.RequestViews.{asked_view, request_view};
 ghost use Rattle.requests.specs.Sessions.{Session, IsResponse, env_after, left_by};
 ghost use Rattle.requests.specs.Steps.{RequestStep};
 ghost use Rattle.modulesteps.specs.Answers.{Tells};
 ghost use Rattle.modulesteps.specs.Views.{done_view};
+ghost use Rattle.modulesteps.specs.declared.refusal.Refusal.TheVariants as refusals;
 ghost use Rattle.modules.specs.Replies.{site_in};
 ghost use Rattle.modules.specs.Responses.{response_of, responses, count_failed, Returns};
 
 use crate::running::run_changes;
 use environment::{Env, Vars};
-use lookup::Tree;
+use filetree::Tree;
 use modulesteps::{Done, Refusal};
 use requests::Request;
-use std::alloc::{AllocError, Global};
+use std::alloc::Global;
 use tclrules::Limits;
 
 /// What came of a request.
-#[derive(Debug, Drop)]
+#[derive(Drop)]
 pub enum Outcome {
-    /// It was accepted, and its changes were made.
+    /// It was accepted, and its changes were made: the names that it loaded, its messages and its report.
     Accepted(Done),
     /// It was refused, and nothing was changed.
     Refused(Refusal),
@@ -45,7 +46,12 @@ fn change<T: Tree>(
 {
     let changed = run_changes(alloc, request, env, tree, limits)?;
     env.apply(changed.changes)?;
-    Ok(changed.done)
+    Ok(Done {
+        loaded: changed.loaded,
+        messages: changed.messages,
+        report: changed.report,
+        moves: changed.moves,
+    })
 }
 
 /// What comes of a request, whose changes are made where it is accepted.
@@ -75,18 +81,21 @@ fn respond<T: Tree>(
 /// outcome for each. A refused request leaves the environment, and the next is run.
 ///
 /// For every pair of maps that agrees with the tree, the outcomes are those of a session. No more of them are refused
-/// by 43 than the device failed. Where the environment is in order, and only new modules that are reversible and apart
-/// are loaded, each environment on the way is in order and stands over it, and with none of them loaded it is the same
-/// again.
+/// by 43 than the device failed.
 ///
-/// Errors: want of memory for the list of outcomes.
+/// The session leads back where the environment is in order, no module is unloaded that was loaded in it, the modules
+/// that are loaded are reversible and apart, and each unload leaves the records of the load that it undoes. Then each
+/// environment on the way is in order and stands over the first one with the modules that are live there, and with none
+/// live it is the first one again.
+///
+/// Errors: want of memory for the list of outcomes (31).
 pub fn session<T: Tree>(
     alloc: Global,
     requests: &[Request],
     env: Env,
     tree: &mut T,
     limits: Limits,
-) -> Result<(Env, Vec<Outcome>), AllocError>
+) -> Result<(Env, Vec<Outcome>), Refusal>
     ensures before { Narrows (T.agrees tree.old) (T.agrees tree.new) }
     ensures failures { IfOk result (λ p. T.failures tree.old + count_failed p.1.items ≤ T.failures tree.new) }
     ensures ran { IfOk result (λ p. InEachPair (T.agrees tree.new) (λ files listings. (shell : Shell)
@@ -96,6 +105,7 @@ pub fn session<T: Tree>(
         p.0 ≡ left_by env (responses env p.1.items))) }
     ensures returns { IfOk result (λ p. InEachPair (T.agrees tree.new) (λ files listings.
         Returns env (responses env p.1.items))) }
+    ensures only { IfErr result (λ refusal. refusal ≡ refusals.OutOfMemory) }
 {
     requests::session_returns();
     let mut after = env;

@@ -8,8 +8,13 @@ use Rattle.std.proofs.lemmas.List.Splits.{slice_split-cons_no}
 use Rattle.std.proofs.lemmas.Str.Pattern.{IsSplitOnceResult, split_parts}
 use Rattle.std.proofs.lemmas.List.{take_all}
 use Rattle.environment.specs.Texts.{Text}
+use Rattle.environment.specs.Environment.{Environment}
+use Rattle.relations.specs.Relations.{After}
+use Rattle.modulerecords.specs.Effects.{Mode}
+use Rattle.modulerecords.specs.Records.{Record}
+use Rattle.modulesearch.specs.Found.{FoundModule}
 use Rattle.requests.specs.Reasons.{RequestReason}
-use Rattle.requests.specs.Steps.{Done, Each, Named, first_part}
+use Rattle.requests.specs.Steps.{Site, Done, begun, Each, Named, ShowsName, ShowsNames, first_part}
 
 split_first : {X : Type 0} (view : X → Text) (x : X) (rest : List X) → 1 ≤ length rest → x ≡ get_or rest 0 x
     → map view rest ≡ view x ∷ map view (take (length rest - 1) (drop 1 rest))
@@ -29,6 +34,15 @@ pub named_some : (names : List (String Global)) (b : Bool) → b ≡ nat_eq (len
     → Named (map (λ (s : String Global). string_bytes s) names) Comes o
 named_some [] b e isnt Comes o h = let z : true ≡ false = sym e ∙ isnt in absurd (cc)
 named_some (n ∷ ns) b e isnt Comes o h = h
+
+-- reports on names, of which the first reads the loaded modules
+pub shows_some : (s : Site) (mode : Mode) (text_of : FoundModule → List Record → Text) (e : Environment) (names : List (String Global)) (b : Bool) → b ≡ nat_eq (length names) 0 → b ≡ false → (o : Result Done RequestReason)
+    → Each (ShowsName s mode text_of) (map (λ (t : String Global). string_bytes t) names) (begun e) o
+    → Named (map (λ (t : String Global). string_bytes t) names) (ShowsNames s mode text_of e (map (λ (t : String Global). string_bytes t) names)) o
+shows_some s mode text_of e [] b is isnt o h = let z : true ≡ false = sym is ∙ isnt in absurd (cc)
+shows_some s mode text_of e (n ∷ ns) b is isnt o (first, (Err r, read, stops), rest) =
+    (Err r, read, subst (λ (x : Result Done RequestReason). After (Each (ShowsName s mode text_of) (map (λ (t : String Global). string_bytes t) ns)) x o) stops rest)
+shows_some s mode text_of e (n ∷ ns) b is isnt o (first, (Ok xs, read, goes), rest) = (Ok xs, read, (first, (Ok xs, read, goes), rest))
 
 -- ---- the first part of a name
 

@@ -1,4 +1,5 @@
 pub mod ListLemmas
+pub mod MoveLemmas
 pub mod RecordLemmas
 pub mod StepLemmas
 pub mod NameLemmas

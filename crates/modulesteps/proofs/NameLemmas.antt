@@ -3,7 +3,6 @@ use Rattle.std.proofs.Common.{◌≡◌, Bool, true, false, List, Option, Result
 use Rattle.modulename.specs.ModuleName.{is_module_name}
 use Rattle.environment.specs.Texts.{Text, has}
 use Rattle.loadedlist.specs.Loaded.{Entry, names_of}
-use Rattle.lookup.specs.Search.{modulefile}
 use Rattle.relations.specs.Relations.{Is, Then}
 use Rattle.modulerecords.specs.Effects as modes
 use Rattle.modulefile.specs.Files.{Ran, RunsFile}

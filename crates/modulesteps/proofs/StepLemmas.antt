@@ -4,8 +4,8 @@ use Rattle.environment.specs.Texts.{Text}
 use Rattle.environment.specs.Environment.{Environment}
 use Rattle.environment.specs.Reasons.{EnvReason}
 use Rattle.loadedlist.specs.Loaded.{Entry, dropped_loaded}
-use Rattle.lookup.specs.Agreement.{Files, Listings, InEachPair}
-use Rattle.lookup.specs.Causes.{Cause, Applies, memory, device, because}
+use Rattle.filetree.specs.Agreement.{Files, Listings, InEachPair}
+use Rattle.filetree.specs.Causes.{Cause, Applies, memory, device, because}
 use Rattle.tclrules.specs.declared.limits.Limits.{Limits}
 use Rattle.tclrules.specs.Derivation.{Outcome, Ended, Halted}
 use Rattle.tclrules.specs.Plans.{Ending, Normal, Raised, Returned, Broken, Continued}

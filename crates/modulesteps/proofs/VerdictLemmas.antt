@@ -1,9 +1,9 @@
 -- A verdict, by what the file left.
-use Rattle.std.proofs.Common.{◌≡◌, Bool, true, false, if◌then◌else◌, List, Result, Ok, Err, IfOk, refl}
+use Rattle.std.proofs.Common.{◌≡◌, Bool, true, false, if◌then◌else◌, Result, Ok, Err, IfOk, refl}
 use Rattle.std.specs.List.{list_all}
 use Rattle.environment.specs.Texts.{Text}
 use Rattle.environment.specs.Environment.{Environment}
-use Rattle.lookup.specs.Agreement.{Files, Listings, InEachPair}
+use Rattle.filetree.specs.Agreement.{Files, Listings, InEachPair}
 use Rattle.tclrules.specs.declared.limits.Limits.{Limits}
 use Rattle.modulefile.specs.Files.{Ran}
 use Rattle.reversal.specs.Ways.{is_reversible}

@@ -2,18 +2,19 @@
 use Rattle.std.specs.Prelude.{Option, Some, None, Result, Ok, Err, string_bytes}
 use Rattle.environment.specs.Texts.{texts_in}
 use Rattle.environment.specs.Reasons.{reason_of}
-use Rattle.lookup.specs.Agreement.{Files, Listings}
-use Rattle.lookup.specs.Causes as causes
-use Rattle.lookup.specs.Causes.{Cause, Applies, memory, device, because}
-use Rattle.lookup.specs.declared.search.FindFault.TheVariants as finds
-use Rattle.lookup.specs.declared.tree.TreeFault.{TreeFault}
-use Rattle.lookup.specs.declared.tree.TreeFault.TheVariants as trees
+use Rattle.filetree.specs.Agreement.{Files, Listings}
+use Rattle.filetree.specs.Causes as causes
+use Rattle.filetree.specs.Causes.{Cause, Applies, memory, device, because}
+use Rattle.filetree.specs.declared.search.FindFault.TheVariants as finds
+use Rattle.filetree.specs.declared.tree.TreeFault.{TreeFault}
+use Rattle.filetree.specs.declared.tree.TreeFault.TheVariants as trees
 use Rattle.modulerecords.specs.Judgments.{bad_edit}
 use Rattle.modulefind.specs.Answers.{cause_of as find_cause}
 use Rattle.modulerun.specs.Running.{stop_of}
 use Rattle.modulesearch.specs.Reasons as search
-use Rattle.requests.specs.Reasons.{RequestReason, missed, file_gone, not_a_modulefile, stopped, conflict_with, prereq_missing, still_needed_by, refused_edit}
-use Rattle.requests.specs.RequestViews.{reason_of as request_reason}
+use Rattle.requests.specs.Reasons.{RequestReason, bad_arguments, unknown_subcommand, missed, file_gone, not_a_modulefile, stopped, conflict_with, prereq_missing, still_needed_by, refused_edit}
+use Rattle.requests.specs.declared.request_fault.RequestFault.{RequestFault}
+use Rattle.requests.specs.declared.request_fault.RequestFault.TheVariants as requests
 use Rattle.modulesteps.specs.declared.refusal.Refusal.{Refusal}
 use Rattle.modulesteps.specs.declared.refusal.Refusal.TheVariants as refusals
 
@@ -32,7 +33,8 @@ cause_of refusals.OutOfMemory = memory
 cause_of (refusals.Run fault) = by_reason stopped (stop_of fault)
 cause_of (refusals.Find fault) = by_search (find_cause fault)
 cause_of (refusals.Env fault) = by_reason (λ r. refused_edit (bad_edit r)) (reason_of fault)
-cause_of (refusals.Request fault) = by_reason (λ r. r) (request_reason fault)
+cause_of refusals.BadArguments = because bad_arguments
+cause_of (refusals.UnknownSubcommand word) = because (unknown_subcommand (string_bytes word))
 cause_of (refusals.ConflictWith name) = because (conflict_with (string_bytes name))
 cause_of (refusals.PrereqMissing missing) = because (prereq_missing (texts_in missing.names))
 cause_of (refusals.StillNeededBy name) = because (still_needed_by (string_bytes name))
@@ -54,3 +56,9 @@ Tells = causes.Tells cause_of
 abbrev pub refused_read : TreeFault → Refusal
 refused_read trees.OutOfMemory = refusals.Find finds.OutOfMemory
 refused_read trees.Device = refusals.Find finds.Device
+
+-- words that make no request, as a refusal
+abbrev pub refused_words : RequestFault → Refusal
+refused_words requests.OutOfMemory = refusals.OutOfMemory
+refused_words requests.BadArguments = refusals.BadArguments
+refused_words (requests.UnknownSubcommand word) = refusals.UnknownSubcommand word

@@ -1,5 +1,7 @@
+pub mod MoveViews
 pub mod Views
 pub mod Answers
+pub mod Spaced
 pub mod Messages
 pub mod Verdicts
 -- for this crate's own contracts alone

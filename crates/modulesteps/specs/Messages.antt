@@ -1,33 +1,50 @@
 -- The numbers of refusals, and what each says: the text of its layer's fault, or its own.
 use Rattle.std.specs.Prelude.{ℕ, codes, string_bytes}
 use Rattle.environment.specs.Reasons as edits
-use Rattle.lookup.specs.Answers.{find_message, find_number}
+use Rattle.environment.specs.Texts.{texts_in}
+use Rattle.filetree.specs.Answers.{find_message}
+use Rattle.filetree.specs.Causes.{Cause, memory, device, because}
 use Rattle.message.specs.Messages.{Text, quoting}
 use Rattle.modulerun.specs.Messages as runs
-use Rattle.requests.specs.RequestViews.{fault_message, fault_number}
+use Rattle.requests.specs.Reasons.{RequestReason, reason_number}
+use Rattle.modulesteps.specs.Answers.{cause_of}
+use Rattle.modulesteps.specs.Spaced.{spaced}
 use Rattle.modulesteps.specs.declared.refusal.Refusal.{Refusal}
 use Rattle.modulesteps.specs.declared.refusal.Refusal.TheVariants as refusals
 
+-- the number of a cause: for want of memory this one, 43 for a failed device, and else that of the step's reason
+abbrev pub number_by : ℕ → Cause RequestReason → ℕ
+number_by wanting memory = wanting
+number_by wanting device = 43
+number_by wanting (because reason) = reason_number reason
+
+-- the number of want of memory: 41 in the search, and else 31
+abbrev pub memory_number : Refusal → ℕ
+memory_number refusals.OutOfMemory = 31
+memory_number (refusals.Run fault) = 31
+memory_number (refusals.Find fault) = 41
+memory_number (refusals.Env fault) = 31
+memory_number refusals.BadArguments = 31
+memory_number (refusals.UnknownSubcommand word) = 31
+memory_number (refusals.ConflictWith name) = 31
+memory_number (refusals.PrereqMissing missing) = 31
+memory_number (refusals.StillNeededBy name) = 31
+memory_number (refusals.FileGone path) = 31
+memory_number (refusals.NotAModulefile path) = 31
+
+-- the number of a refusal is that of its cause
 abbrev pub number_of : Refusal → ℕ
-number_of refusals.OutOfMemory = 31
-number_of (refusals.Run fault) = runs.number_of fault
-number_of (refusals.Find fault) = find_number fault
-number_of (refusals.Env fault) = edits.number_of fault
-number_of (refusals.Request fault) = fault_number fault
-number_of (refusals.ConflictWith name) = 51
-number_of (refusals.PrereqMissing missing) = 52
-number_of (refusals.StillNeededBy name) = 53
-number_of (refusals.FileGone path) = 54
-number_of (refusals.NotAModulefile path) = 55
+number_of refusal = number_by (memory_number refusal) (cause_of refusal)
 
 abbrev pub message_of : Refusal → Text
 message_of refusals.OutOfMemory = codes "Out of memory"
 message_of (refusals.Run fault) = runs.message_of fault
 message_of (refusals.Find fault) = find_message fault
 message_of (refusals.Env fault) = edits.message_of fault
-message_of (refusals.Request fault) = fault_message fault
+message_of refusals.BadArguments = codes "Bad arguments"
+message_of (refusals.UnknownSubcommand word) = quoting (codes "Unknown subcommand '") (string_bytes word)
 message_of (refusals.ConflictWith name) = quoting (codes "Conflict with '") (string_bytes name)
-message_of (refusals.PrereqMissing missing) = quoting (codes "Missing one of '") (string_bytes missing.text)
+message_of (refusals.PrereqMissing missing) = quoting (codes "Missing one of '") (spaced (texts_in missing.names))
 message_of (refusals.StillNeededBy name) = quoting (codes "Still needed by '") (string_bytes name)
 message_of (refusals.FileGone path) = quoting (codes "No file at '") (string_bytes path)
 message_of (refusals.NotAModulefile path) = quoting (codes "Not a modulefile: '") (string_bytes path)

@@ -1,9 +1,9 @@
 -- What the verdict on a modulefile says, as the definitions see it.
-use Rattle.std.specs.Prelude.{◌≡◌, true, Result, Ok}
+use Rattle.std.specs.Prelude.{◌≡◌, true, Ok}
 use Rattle.std.specs.List.{list_all}
 use Rattle.environment.specs.Texts.{Text}
 use Rattle.environment.specs.Environment.{Environment}
-use Rattle.lookup.specs.Agreement.{Files, Listings}
+use Rattle.filetree.specs.Agreement.{Files, Listings}
 use Rattle.shells.specs.declared.shell.Shell.TheVariants.{Sh}
 use Rattle.tclrules.specs.declared.limits.Limits.{Limits}
 use Rattle.modulefile.specs.Files.{Ran}

@@ -6,7 +6,7 @@ ghost use Rattle.environment.specs.Texts.{texts_in};
 ghost use Rattle.loadedlist.specs.Loaded.{names_of};
 ghost use Rattle.loadedlist.specs.LoadedEntries.{entry_of};
 ghost use Rattle.relations.specs.Relations.{Then};
-ghost use Rattle.lookup.specs.Agreement.{Narrows};
+ghost use Rattle.filetree.specs.Agreement.{Narrows};
 ghost use Rattle.modulename.specs.ModuleName.{parts};
 ghost use Rattle.requests.specs.Requests as asked;
 ghost use Rattle.requests.specs.RequestViews.{asked_view};
@@ -25,10 +25,10 @@ use crate::reports::list_report;
 use availreport::avail_report;
 use defaultfiles::Evaluated;
 use environment::Vars;
+use filetree::Tree;
 use loadedlist::Loaded;
-use lookup::Tree;
 use modulelist::available;
-use requests::{Action, Request, RequestFault};
+use requests::{Action, Request};
 use std::alloc::{AllocError, Global};
 use tclrules::Limits;
 
@@ -150,7 +150,7 @@ fn change_names<T: Tree, V: Vars>(
         (λ before. Each (DoesForName doing (site_of terms files listings)) (map string_bytes names.now)))) }
 {
     if names.is_empty() {
-        return Err(Refusal::Request(RequestFault::BadArguments));
+        return Err(Refusal::BadArguments);
     }
     let before = entries_of(alloc, env)?;
     change_each(alloc, terms, doing, names, before.as_slice(), env, tree)
@@ -287,9 +287,8 @@ fn report_names<T: Tree, V: Vars>(
         (topic_text topic) (V.vars env.old) (map string_bytes names.now))) }
 {
     if names.is_empty() {
-        return Err(Refusal::Request(RequestFault::BadArguments));
+        return Err(Refusal::BadArguments);
     }
-    entries_of(alloc, env)?;
     let mut done = Done::new(alloc);
     do_each(
         alloc,

@@ -10,15 +10,16 @@ ghost use Rattle.modulerecords.specs.Moves as moves;
 ghost use Rattle.modulefile.specs.RecordViews.{record_view};
 ghost use Rattle.requests.specs.Refusals.{unless};
 ghost use Rattle.requests.specs.Steps.{entries_of, modulepath};
-ghost use Rattle.modulesteps.specs.Views.{module_view};
+ghost use Rattle.modulesteps.specs.MoveViews.{module_view};
 ghost use Rattle.modulesteps.specs.Answers.{GivesOrRefuses};
 ghost use Rattle.modulesteps.specs.Parts.{entries_view, objection, added};
 
 use crate::conditions::{missing_group, own_conflict, recorded_conflict};
 use crate::done::Module;
-use crate::refusal::{MissingNames, Refusal};
+use crate::missing::MissingNames;
+use crate::refusal::Refusal;
 use environment::Vars;
-use environment::fields::{copies, join, once, slices};
+use environment::fields::{copies, once, slices};
 use loadedlist::{Loaded, add_loaded, loaded};
 use modulefile::Record;
 use std::alloc::{AllocError, Global};
@@ -60,13 +61,11 @@ fn push_conflicts<'a>(
     ensures { OnOk result (shown all.new.items
         ≡ shown all.old.items ++ conflict_names (record_view kept.entry.now ∷ [])) }
 {
-    match kept {
-        Record::Conflict(names) => {
-            let mut names = slices(alloc, names.as_slice())?;
-            all.append(&mut names)
-        }
-        _ => Ok(()),
+    if let Record::Conflict(names) = kept {
+        let mut names = slices(alloc, names.as_slice())?;
+        all.append(&mut names)?;
     }
+    Ok(())
 }
 
 /// The names that the records are in conflict with.
@@ -110,17 +109,6 @@ fn prereq_groups(alloc: Global, records: &[Record]) -> Result<Vec<Vec<String>>, 
     Ok(groups)
 }
 
-/// Refuses for want of these names.
-fn missing(alloc: Global, group: &[String]) -> Result<MissingNames, AllocError>
-    ensures { IfOk result (λ m. texts_in m.names ≡ map string_bytes group.now) }
-{
-    let names = slices(alloc, group)?;
-    Ok(MissingNames {
-        text: join(alloc, names.as_slice(), ' ')?,
-        names: copies(alloc, names.as_slice())?,
-    })
-}
-
 /// Refuses a module of this name that is in conflict with loaded ones, or lacks what it needs.
 fn judge(
     alloc: Global,
@@ -139,7 +127,7 @@ fn judge(
         return Err(Refusal::ConflictWith(String::from_str(alloc, entry.name.as_str())?));
     }
     match missing_group(prereqs, entries) {
-        Some(group) => Err(Refusal::PrereqMissing(missing(alloc, group.as_slice())?)),
+        Some(group) => Err(Refusal::PrereqMissing(MissingNames::of(alloc, group.as_slice())?)),
         None => Ok(()),
     }
 }

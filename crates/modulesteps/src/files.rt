@@ -1,8 +1,8 @@
 //! The files of modules, evaluated for the names of a request.
 ghost use Rattle.std.specs.Prelude.{◌≡◌, ◌<◌, ◌≤◌, IfOk, map, string_bytes};
 ghost use Rattle.loadedlist.specs.LoadedEntries.{entry_of};
-ghost use Rattle.lookup.specs.Agreement.{Files, Listings, Narrows};
-ghost use Rattle.lookup.specs.Search.{modulefile};
+ghost use Rattle.filetree.specs.Agreement.{Files, Listings, Narrows};
+ghost use Rattle.filetree.specs.Search.{modulefile};
 ghost use Rattle.relations.specs.Relations.{Is};
 ghost use Rattle.modulefile.specs.RecordViews.{mode_view, record_view};
 ghost use Rattle.modulefile.specs.Files.{RunsFile};
@@ -21,8 +21,8 @@ use crate::entries::{entries_of, join_loaded, modulepath, names_of};
 use crate::refusal::Refusal;
 use defaultfiles::Evaluated;
 use environment::Vars;
+use filetree::{FindFault, Modulefile, Tree, read_modulefile};
 use loadedlist::{Loaded, drop_loaded};
-use lookup::{FindFault, Modulefile, Tree, read_modulefile};
 use modulefile::Mode;
 use modulefind::{Found, locate};
 use modulename::is_module_name;

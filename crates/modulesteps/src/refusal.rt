@@ -2,11 +2,14 @@
 ghost use Rattle.std.specs.Prelude.{◌≡◌, Some};
 ghost use Rattle.message.specs.Messages.{text_of};
 ghost use Rattle.modulesteps.specs.declared.refusal.Refusal.TheVariants as refusals;
-ghost use Rattle.modulesteps.specs.Answers.{refused_read};
-ghost use Rattle.modulesteps.specs.Messages.{number_of, message_of};
+ghost use Rattle.modulerun.specs.Running.{stop_of};
+ghost use Rattle.requests.specs.Reasons.{stopped};
+ghost use Rattle.modulesteps.specs.Answers.{by_reason, refused_read, refused_words};
+ghost use Rattle.modulesteps.specs.Messages.{number_by, number_of, message_of};
 
+use crate::missing::MissingNames;
 use environment::EnvFault;
-use lookup::{FindFault, TreeFault};
+use filetree::{FindFault, TreeFault};
 use message::Message;
 use modulerun::RunFault;
 use requests::RequestFault;
@@ -14,28 +17,23 @@ use std::alloc::{AllocError, AllocFailed};
 use std::error::Error;
 use std::fmt;
 use std::fmt::Display;
-
-/// Names of which none is loaded, and their text.
-#[derive(Debug, Drop)]
-pub struct MissingNames {
-    pub names: Vec<String>,
-    /// The names, parted by spaces.
-    pub text: String,
-}
+use tclrules::EvalFault;
 
 /// Why a request is refused. Its `Display` is what follows `ERROR: `.
 #[derive(Debug, Drop)]
 pub enum Refusal {
     /// 31: a growth of memory was refused.
     OutOfMemory,
-    /// A modulefile is refused.
+    /// 2 to 37 and 56, by its cause: a modulefile is refused.
     Run(RunFault),
     /// 41 to 46: no modulefile is found, or it can't be read.
     Find(FindFault),
     /// 31 to 37: an edit of the environment is refused.
     Env(EnvFault),
-    /// 31, 56 and 57: the words make no request.
-    Request(RequestFault),
+    /// 56: the words don't fit the subcommand, or there is none.
+    BadArguments,
+    /// 57: no subcommand has this name.
+    UnknownSubcommand(String),
     /// 51: the module and this loaded one are in conflict.
     ConflictWith(String),
     /// 52: none of these is loaded.
@@ -48,17 +46,29 @@ pub enum Refusal {
     NotAModulefile(String),
 }
 
+/// The number of a modulefile's fault in a request.
+fn run_number(fault: &RunFault) -> u16
+    ensures { result ≡ number_by 31 (by_reason stopped (stop_of fault.now)) }
+{
+    if let RunFault::Eval(EvalFault::OutOfMemory) = fault {
+        return 31;
+    }
+    fault.number()
+}
+
 impl Refusal {
-    /// The number of the refusal.
+    /// The number of the refusal: that of its reason, or 43 for a failed device, or for want of memory 41 in the search
+    /// and else 31.
     pub fn number(&self) -> u16
         ensures { result ≡ number_of self.now }
     {
         match self {
             Refusal::OutOfMemory => 31,
-            Refusal::Run(fault) => fault.number(),
+            Refusal::Run(fault) => run_number(fault),
             Refusal::Find(fault) => fault.number(),
             Refusal::Env(fault) => fault.number(),
-            Refusal::Request(fault) => fault.number(),
+            Refusal::BadArguments => 56,
+            Refusal::UnknownSubcommand(_) => 57,
             Refusal::ConflictWith(_) => 51,
             Refusal::PrereqMissing(_) => 52,
             Refusal::StillNeededBy(_) => 53,
@@ -76,10 +86,13 @@ impl Refusal {
             Refusal::Run(fault) => fault.message(),
             Refusal::Find(fault) => fault.message(),
             Refusal::Env(fault) => fault.message(),
-            Refusal::Request(fault) => fault.message(),
+            Refusal::BadArguments => Message::plain("Bad arguments"),
+            Refusal::UnknownSubcommand(word) => {
+                Message::quoting("Unknown subcommand '", word.as_str())
+            }
             Refusal::ConflictWith(name) => Message::quoting("Conflict with '", name.as_str()),
             Refusal::PrereqMissing(missing) => {
-                Message::quoting("Missing one of '", missing.text.as_str())
+                Message::quoting("Missing one of '", missing.text())
             }
             Refusal::StillNeededBy(name) => Message::quoting("Still needed by '", name.as_str()),
             Refusal::FileGone(path) => Message::quoting("No file at '", path.as_str()),
@@ -141,10 +154,14 @@ impl From<EnvFault> for Refusal {
 }
 
 impl From<RequestFault> for Refusal {
-    ghost from_gives = { λ fault e. e ≡ refusals.Request fault };
+    ghost from_gives = { λ fault e. e ≡ refused_words fault };
 
     fn from(fault: RequestFault) -> Refusal {
-        Refusal::Request(fault)
+        match fault {
+            RequestFault::OutOfMemory => Refusal::OutOfMemory,
+            RequestFault::BadArguments => Refusal::BadArguments,
+            RequestFault::UnknownSubcommand(word) => Refusal::UnknownSubcommand(word),
+        }
     }
 }
 

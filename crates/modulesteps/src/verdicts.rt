@@ -1,6 +1,6 @@
 //! The verdict on the module that a name means.
 ghost use Rattle.std.specs.Prelude.{◌<◌, ◌≤◌, IfOk};
-ghost use Rattle.lookup.specs.Agreement.{Narrows, InEachPair};
+ghost use Rattle.filetree.specs.Agreement.{Narrows, InEachPair};
 ghost use Rattle.requests.specs.Verdicts.{Judged};
 ghost use Rattle.modulesteps.specs.Answers.{Tells};
 ghost use Rattle.modulesteps.specs.Verdicts.{verdict_view, in_sh, PlainMeans};
@@ -11,7 +11,7 @@ use crate::files::{Asking, File, evaluate, find_module};
 use crate::judged::{Verdict, verdict_on};
 use crate::refusal::Refusal;
 use environment::{Env, Vars, Working};
-use lookup::Tree;
+use filetree::Tree;
 use modulefile::Mode;
 use shells::Shell;
 use std::alloc::Global;

@@ -1,5 +1,5 @@
 //! What the process was given: its arguments and its environment.
-ghost use Rattle.std.specs.Prelude.{◌≡◌, ◌≤◌, Some, IfOk, IfSome, vec_len};
+ghost use Rattle.std.specs.Prelude.{◌≡◌, ◌<◌, ◌≤◌, Some, IfOk, IfSome, OnOk, vec_len};
 ghost use Rattle.message.specs.Messages.{text_of};
 ghost use Rattle.processinput.specs.Faults.{number_of, message_of};
 
@@ -128,18 +128,18 @@ fn block_by_entries<R: Env + AllocGlobal>(rt: &R) -> Result<Vec<u8>, AllocError>
 fn entry_into<R: Env>(rt: &R, i: usize, room: &mut Vec<u8>) -> Result<Option<usize>, AllocError>
     ensures { IfOk result (λ found. IfSome found (λ n. n ≤ vec_len room.new)) }
 {
-    for _ in 0..usize::BITS {
+    loop {
         match rt.var_at(i, room.as_mut_slice()) {
             Ok(length) => return Ok(Some(length)),
             Err(FillError::NotPresent) => return Ok(None),
             Err(FillError::TooLong) => grow(room)?,
         }
     }
-    Err(AllocError)
 }
 
-/// Doubles the room.
-fn grow(room: &mut Vec<u8>) -> Result<(), AllocError> {
-    let more = room.len().saturating_add(room.len()).max(FIRST_ROOM);
-    room.resize(more, 0)
+/// Doubles the room, and gives an empty one its first.
+fn grow(room: &mut Vec<u8>) -> Result<(), AllocError>
+    ensures { OnOk result (vec_len room.old < vec_len room.new) }
+{
+    room.resize(room.len() + room.len().max(FIRST_ROOM), 0)
 }

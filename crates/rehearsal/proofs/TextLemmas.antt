@@ -6,7 +6,7 @@ use Rattle.std.specs.declared.string.String.{String}
 use Rattle.environment.specs.Texts.{Text}
 use Rattle.environment.specs.Environment.{Environment}
 use Rattle.environment.specs.Changes.{NewValue, AreChanges}
-use Rattle.lookup.specs.Agreement.{Files, Listings, InEachPair}
+use Rattle.filetree.specs.Agreement.{Files, Listings, InEachPair}
 use Rattle.shells.specs.declared.shell.Shell.{Shell}
 use Rattle.tclrules.specs.declared.limits.Limits.{Limits}
 use Rattle.shelltext.specs.Reading.{IsText}
@@ -19,7 +19,7 @@ use Rattle.requests.specs.RequestViews.{request_view}
 use Rattle.requests.specs.declared.asked.Request as code
 use Rattle.requests.specs.Steps.{Site, Done, RequestStep}
 use Rattle.requests.specs.Sessions.{accepted, refused, given_up, Session, left_by}
-use Rattle.lookup.specs.Causes.{Cause, Applies, memory, device, because}
+use Rattle.filetree.specs.Causes.{Cause, Applies, memory, device, because}
 use Rattle.modulesteps.specs.Answers.{cause_of}
 use Rattle.modulesteps.specs.declared.refusal.Refusal.{Refusal}
 use Rattle.modules.specs.Replies.{site_in}

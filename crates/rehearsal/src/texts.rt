@@ -1,6 +1,6 @@
 //! The texts that requests print, one after another.
 ghost use Rattle.std.specs.Prelude.{◌≡◌, map, IfOk, IfErr};
-ghost use Rattle.lookup.specs.Agreement.{Narrows, InEachPair};
+ghost use Rattle.filetree.specs.Agreement.{Narrows, InEachPair};
 ghost use Rattle.shells.specs.declared.shell.Shell.{Shell};
 ghost use Rattle.requests.specs.RequestViews.{request_view};
 ghost use Rattle.modulesteps.specs.declared.refusal.Refusal.TheVariants as refusals;
@@ -9,7 +9,7 @@ ghost use Rattle.rehearsal.specs.Rehearsals.{Rehearsal, Makes, ComesBack};
 ghost use Rattle.rehearsal.specs.Parts.{Came, print_view, prints};
 
 use environment::{Env, Vars};
-use lookup::Tree;
+use filetree::Tree;
 use modules::{Refusal, Request, run_changes};
 use shelltext::print_changes;
 use std::alloc::Global;
@@ -44,9 +44,11 @@ fn print_request<T: Tree>(
 /// the environment; so for one whose changes can't be said in its shell (62).
 ///
 /// For every pair of maps that agrees with the tree it is a rehearsal. No more requests have no text since the device
-/// failed than it failed. So shells that ran the texts so far hold the environment that the session has there; and
-/// where the environment is in order, only new modules that are reversible and apart are loaded, and none is left
-/// loaded, they hold it again at the end.
+/// failed than it failed. So shells that ran the texts so far hold the environment that the session has there.
+///
+/// They hold the first environment again at the end where it is in order, no module is unloaded that was loaded in it,
+/// the modules that are loaded are reversible and apart, each unload leaves the records of the load that it undoes, and
+/// none of them is left loaded.
 ///
 /// Errors: want of memory for the list of texts (31).
 pub fn rehearse<T: Tree>(

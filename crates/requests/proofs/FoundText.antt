@@ -1,8 +1,8 @@
 -- The text of a module that was found is the script at its path.
 use Rattle.std.proofs.Common.{◌≡◌, inl, inr, true, false, Bool, List, [], ◌∷◌, Option, Ok, Err, refl, subst}
 use Rattle.modulename.specs.ModuleName.{Text, is_module_name}
-use Rattle.lookup.specs.Agreement.{Files, Listings}
-use Rattle.lookup.specs.Search.{Held, absent, no_cookie, not_utf8, script, modulefile, directories, path_of}
+use Rattle.filetree.specs.Agreement.{Files, Listings}
+use Rattle.filetree.specs.Search.{Held, absent, no_cookie, not_utf8, script, modulefile, directories, path_of}
 use Rattle.relations.specs.Relations.{Is, If}
 use Rattle.modulesearch.specs.Reasons.{bad_name, not_found}
 use Rattle.modulesearch.specs.DefaultFiles.{Left}

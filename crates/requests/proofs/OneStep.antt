@@ -4,7 +4,7 @@ use Rattle.modulename.specs.ModuleName.{is_module_name}
 use Rattle.environment.specs.Texts.{Text, has}
 use Rattle.environment.specs.Environment.{Environment}
 use Rattle.loadedlist.specs.Loaded.{Entry, names_of}
-use Rattle.lookup.specs.Search.{modulefile}
+use Rattle.filetree.specs.Search.{modulefile}
 use Rattle.tclrules.specs.declared.limits.Limits.{Limits}
 use Rattle.relations.specs.Relations.{Is, Then, IsOne}
 use Rattle.relations.proofs.One.{one_is, one_then, one_if}

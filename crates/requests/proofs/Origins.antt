@@ -4,7 +4,7 @@ use Rattle.modulename.specs.ModuleName.{is_module_name}
 use Rattle.environment.specs.Texts.{Text, has}
 use Rattle.environment.specs.Environment.{Environment}
 use Rattle.loadedlist.specs.Loaded.{Entry, names_of}
-use Rattle.lookup.specs.Search.{Held, absent, no_cookie, not_utf8, script, modulefile}
+use Rattle.filetree.specs.Search.{Held, absent, no_cookie, not_utf8, script, modulefile}
 use Rattle.relations.specs.Relations.{Is, Then, If}
 use Rattle.modulerecords.specs.Effects as modes
 use Rattle.modulerecords.specs.Moves.{Module, Move, Loads, Unloads, moved}

@@ -11,7 +11,7 @@ use Rattle.environment.specs.Fields.{are_distinct}
 use Rattle.environment.specs.Environment.{Environment}
 use Rattle.environment.proofs.ChangeLemmas.{are_distinct-push}
 use Rattle.loadedlist.specs.Loaded.{Entry, names_of, loaded_in}
-use Rattle.lookup.specs.Search.{script, modulefile}
+use Rattle.filetree.specs.Search.{script, modulefile}
 use Rattle.shells.specs.declared.shell.Shell.{Shell}
 use Rattle.modulerecords.specs.Moves.{Module, Move, Loads, Unloads, entry_of, Fits, Lead}
 use Rattle.modulefile.specs.Files.{Ran, halted, RunsFile, IsSameOrRefused}

@@ -8,8 +8,8 @@ use Rattle.std.proofs.lemmas.Slice.Eq.{bytes_eq-Decides}
 use Rattle.modulename.specs.ModuleName.{Text, is_module_name}
 use Rattle.moduleversion.specs.Versions.{IsGreatest, IsIn, greater}
 use Rattle.moduleversion.proofs.GreatestLemmas.{greatest_of_more, greatest_of_one}
-use Rattle.lookup.specs.Agreement.{Files, Listings}
-use Rattle.lookup.specs.Search.{Held, absent, no_cookie, not_utf8, script, modulefile, is_module, directories, path_of}
+use Rattle.filetree.specs.Agreement.{Files, Listings}
+use Rattle.filetree.specs.Search.{Held, absent, no_cookie, not_utf8, script, modulefile, is_module, directories, path_of}
 use Rattle.relations.specs.Relations.{Is, After, Then, If, Where}
 use Rattle.modulesearch.specs.Reasons.{bad_name, not_found, bad_default}
 use Rattle.modulesearch.specs.Single.{is_single}

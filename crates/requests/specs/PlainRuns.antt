@@ -2,7 +2,7 @@
 use Rattle.std.specs.Prelude.{◌≡◌, false, List, [], ◌∷◌, Ok}
 use Rattle.environment.specs.Texts.{Text}
 use Rattle.environment.specs.Environment.{Environment}
-use Rattle.lookup.specs.Search.{script, modulefile}
+use Rattle.filetree.specs.Search.{script, modulefile}
 use Rattle.modulerecords.specs.Moves.{Module, Move, Loads, Unloads}
 use Rattle.modulefile.specs.Answers.{Context}
 use Rattle.modulefile.specs.Files.{Ran, RunsFile}

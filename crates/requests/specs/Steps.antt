@@ -7,8 +7,8 @@ use Rattle.environment.specs.Reasons as edits
 use Rattle.loadedlist.specs.Loaded.{Entry, names_of, loaded_in}
 use Rattle.tclrules.specs.declared.limits.Limits.{Limits}
 use Rattle.shells.specs.declared.shell.Shell.{Shell}
-use Rattle.lookup.specs.Agreement.{Files, Listings}
-use Rattle.lookup.specs.Search.{Held, absent, no_cookie, not_utf8, script, modulefile}
+use Rattle.filetree.specs.Agreement.{Files, Listings}
+use Rattle.filetree.specs.Search.{Held, absent, no_cookie, not_utf8, script, modulefile}
 use Rattle.relations.specs.Relations.{Is, If, ◌>>◌}
 use Rattle.modulerecords.specs.Records.{Record}
 use Rattle.modulerecords.specs.Judgments.{bad_edit}

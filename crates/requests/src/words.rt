@@ -37,7 +37,7 @@ fn no_names(action: Action, words: &[String]) -> Result<Action, RequestFault>
 {
     match words {
         [] => Ok(action),
-        _ => Err(RequestFault::BadArguments),
+        [_, ..] => Err(RequestFault::BadArguments),
     }
 }
 
@@ -47,7 +47,7 @@ fn switch_of(words: &[String]) -> Result<Action, RequestFault>
     match words {
         [new] => Ok(Action::Switch(None, new.clone()?)),
         [old, new] => Ok(Action::Switch(Some(old.clone()?), new.clone()?)),
-        _ => Err(RequestFault::BadArguments),
+        [] | [_, _, _, ..] => Err(RequestFault::BadArguments),
     }
 }
 

@@ -11,3 +11,4 @@ mod Requests
 mod Losses
 mod Histories
 mod Lost
+mod Parts

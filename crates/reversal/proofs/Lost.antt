@@ -15,12 +15,12 @@ use Rattle.pathstate.specs.PathOrder.{IsPathInOrder}
 use Rattle.stackstate.specs.StackVariables.{IsStackInOrder}
 use Rattle.loadedlist.specs.LoadedTexts.{names_variable, files_variable, conflicts_variable, prereqs_variable}
 use Rattle.loadedlist.specs.Loaded.{Entry, IsLoadedList, AreLoadedInOrder, names_of, names_text, files_text, conflicts_text, prereqs_text, with_loaded}
-use Rattle.modulerecords.specs.Records.{Set}
-use Rattle.modulerecords.specs.Moves.{Move, Loads, Unloads}
+use Rattle.modulerecords.specs.Records.{Record, Set, Unset, Back, Remove}
+use Rattle.modulerecords.specs.Moves.{Module, Move, Loads, Unloads}
 use Rattle.reversal.specs.Ways.{Way, Untouched, Fixed, Pathed, Stacked}
 use Rattle.reversal.specs.Standing.{IsStart}
 use Rattle.reversal.specs.Runs.{live_after}
-use Rattle.reversal.specs.Examples.{only_way, Lose, first_module, second_module, variable, EmptyPath, CounterOfNone, BottomAlone, HiddenValue, OtherEscapes, OwnerNotLoaded, ValueBeforeSet, OtherValue, EmptyLists, NeedsOfNone, ConflictTwice, IllSpelled, EmptyGroup, UnsetWithoutValue, ElementRemoved, OtherRecords, StartUnloaded, SetAndPushed, UnsetAndPushed, AddedAndPushed, TwoDelimiters, SetByTwo}
+use Rattle.reversal.specs.Examples.{of_kind, in_way, apart, alive, unchanged, HasPart, OtherParts, only_way, Lose, first_module, second_module, variable, there_and_back, crossed, add_front, push_value, EmptyPath, CounterOfNone, BottomAlone, HiddenValue, OtherEscapes, OwnerNotLoaded, ValueBeforeSet, OtherValue, EmptyLists, NeedsOfNone, ConflictTwice, IllSpelled, EmptyGroup, UnsetWithoutValue, ElementRemoved, OtherRecords, StartUnloaded, SetAndPushed, UnsetAndPushed, AddedAndPushed, TwoDelimiters, SetByTwo}
 use Rattle.reversal.proofs.OneVariable.{by_test}
 use Rattle.reversal.proofs.Histories.{History, env, seen, lookup_seen, path_at, path_seen, played, played_leads}
 
@@ -217,11 +217,56 @@ empty_group =
     let h : History = (codes "LOADEDMODULES", Some (codes "a/1")) ∷ (codes "_LMFILES_", Some (codes "/m/a/1")) ∷ (codes "__MODULES_LMPREREQ", Some (codes "a/1&k&")) ∷ [] in
     record { reversible = (record { suits = tt; alone = λ v s. refl }, (record { loaded = _; found = refl; records = refl }, tt)); lose = lose _ h (codes "__MODULES_LMPREREQ") refl refl refl }
 
+-- every part but one
+but_kind : (ways : Text → Way) (ms : List Move) → HasPart in_way ways [] ms → HasPart apart ways [] ms → HasPart alive ways [] ms → HasPart unchanged ways [] ms → OtherParts of_kind ways ms
+but_kind ways ms w a l u of_kind n = absurd (n refl)
+but_kind ways ms w a l u in_way n = w
+but_kind ways ms w a l u apart n = a
+but_kind ways ms w a l u alive n = l
+but_kind ways ms w a l u unchanged n = u
+
+but_way : (ways : Text → Way) (ms : List Move) → HasPart of_kind ways [] ms → HasPart apart ways [] ms → HasPart alive ways [] ms → HasPart unchanged ways [] ms → OtherParts in_way ways ms
+but_way ways ms k a l u of_kind n = k
+but_way ways ms k a l u in_way n = absurd (n refl)
+but_way ways ms k a l u apart n = a
+but_way ways ms k a l u alive n = l
+but_way ways ms k a l u unchanged n = u
+
+but_apart : (ways : Text → Way) (ms : List Move) → HasPart of_kind ways [] ms → HasPart in_way ways [] ms → HasPart alive ways [] ms → HasPart unchanged ways [] ms → OtherParts apart ways ms
+but_apart ways ms k w l u of_kind n = k
+but_apart ways ms k w l u in_way n = w
+but_apart ways ms k w l u apart n = absurd (n refl)
+but_apart ways ms k w l u alive n = l
+but_apart ways ms k w l u unchanged n = u
+
+but_alive : (ways : Text → Way) (ms : List Move) → HasPart of_kind ways [] ms → HasPart in_way ways [] ms → HasPart apart ways [] ms → HasPart unchanged ways [] ms → OtherParts alive ways ms
+but_alive ways ms k w a u of_kind n = k
+but_alive ways ms k w a u in_way n = w
+but_alive ways ms k w a u apart n = a
+but_alive ways ms k w a u alive n = absurd (n refl)
+but_alive ways ms k w a u unchanged n = u
+
+but_unchanged : (ways : Text → Way) (ms : List Move) → HasPart of_kind ways [] ms → HasPart in_way ways [] ms → HasPart apart ways [] ms → HasPart alive ways [] ms → OtherParts unchanged ways ms
+but_unchanged ways ms k w a l of_kind n = k
+but_unchanged ways ms k w a l in_way n = w
+but_unchanged ways ms k w a l apart n = a
+but_unchanged ways ms k w a l alive n = l
+but_unchanged ways ms k w a l unchanged n = absurd (n refl)
+
+-- the records of a module that is found
+abbrev records_in : Option Module → List Record
+records_in None = []
+records_in (Some m) = m.records
+
+nothing_found : (loaded : Module) → ◌≡◌ {A = Option Module} None (Some loaded) → ⊥
+nothing_found loaded h = absurd cc
+
 pub unset_without_value : UnsetWithoutValue
 unset_without_value =
     let h : History = (codes "V", Some (codes "y")) ∷ [] in
     record {
       begins = start_at variable Untouched (env h) (nothing_listed h refl refl refl refl) tt;
+      others = but_kind (only_way variable Untouched) (there_and_back (Unset variable None)) ((tt, tt), (tt, tt)) ((λ v s. refl), (tt, tt)) (tt, ((_, refl), tt)) (tt, ((λ loaded f. ap records_in f), tt));
       lose = lose _ h (codes "V") refl refl refl;
     }
 
@@ -230,6 +275,7 @@ element_removed =
     let h : History = (codes "V", Some (codes "/a:/b")) ∷ [] in
     record {
       begins = start_at variable (Pathed colon) (env h) (nothing_listed h refl refl refl refl) (path_ordered h variable colon refl refl);
+      others = but_kind (only_way variable (Pathed colon)) (there_and_back (Remove colon variable (codes "/a" ∷ []))) ((tt, tt), (tt, tt)) ((λ v s. refl), (tt, tt)) (tt, ((_, refl), tt)) (tt, ((λ loaded f. ap records_in f), tt));
       lose = lose _ h (codes "V") refl refl refl;
     }
 
@@ -238,6 +284,7 @@ other_records =
     let h : History = (codes "V", Some (codes "/b")) ∷ [] in
     record {
       begins = start_at variable (Pathed colon) (env h) (nothing_listed h refl refl refl refl) (path_ordered h variable colon refl refl);
+      others = but_unchanged (only_way variable (Pathed colon)) (Loads (first_module (add_front ∷ [])) ∷ Unloads (first_module []) ∷ []) (refl, (tt, tt)) ((refl, tt), (tt, tt)) ((λ v s. refl), (tt, tt)) (tt, ((_, refl), tt));
       lose = lose _ h (codes "V") refl refl refl;
     }
 
@@ -246,39 +293,71 @@ start_unloaded =
     let h : History = (codes "LOADEDMODULES", Some (codes "a/1")) ∷ (codes "_LMFILES_", Some (codes "/m/a/1")) ∷ [] in
     record {
       begins = start_at variable Untouched (env h) (a1_listed h refl refl refl refl) tt;
+      others = but_alive (only_way variable Untouched) (Unloads (record { name = codes "a/1"; path = codes "/m/a/1"; records = [] }) ∷ []) (tt, tt) (tt, tt) (tt, tt) ((λ loaded f. absurd (nothing_found loaded f)), tt);
       lose = lose _ h (codes "LOADEDMODULES") refl refl refl;
     }
+
+-- modules that are loaded, and unloaded in that order
+crossed_alive : (ways : Text → Way) (r s : Record) → HasPart alive ways [] (crossed r s)
+crossed_alive ways r s = (tt, (tt, ((_, refl), ((_, refl), tt))))
+
+crossed_unchanged : (ways : Text → Way) (r s : Record) → HasPart unchanged ways [] (crossed r s)
+crossed_unchanged ways r s = (tt, (tt, ((λ loaded f. ap records_in f), ((λ loaded f. ap records_in f), tt))))
 
 pub set_and_pushed : SetAndPushed
 set_and_pushed =
     let h : History = [] in
     record {
-      begins = start_at variable Stacked (env h) (nothing_listed h refl refl refl refl) (lookup_seen h (stack_name variable));
-      lose = lose _ h (codes "V") refl refl refl;
+      in_one = record {
+        begins = start_at variable (Fixed None) (env h) (nothing_listed h refl refl refl refl) (lookup_seen h variable);
+        others = but_way (only_way variable (Fixed None)) (crossed (Set variable (codes "y")) push_value) (refl, (refl, (tt, (tt, tt)))) ((λ v s. refl), ((λ v s. absurd (false≢true s)), (tt, (tt, tt)))) (crossed_alive (λ v. Untouched) _ _) (crossed_unchanged (λ v. Untouched) _ _);
+        lose = lose _ h (codes "V") refl refl refl;
+      };
+      in_other = start_at variable Stacked (env h) (nothing_listed h refl refl refl refl) (lookup_seen h (stack_name variable));
+      first = ((refl, refl), tt);
+      second = ((refl, refl), tt);
     }
 
 pub unset_and_pushed : UnsetAndPushed
 unset_and_pushed =
     let h : History = (codes "V", Some (codes "y")) ∷ [] in
     record {
-      begins = start_at variable Stacked (env h) (nothing_listed h refl refl refl refl) (lookup_seen h (stack_name variable));
-      lose = lose _ h (codes "V") refl refl refl;
+      in_one = record {
+        begins = start_at variable (Fixed (Some (codes "y"))) (env h) (nothing_listed h refl refl refl refl) (lookup_seen h variable);
+        others = but_way (only_way variable (Fixed (Some (codes "y")))) (crossed (Unset variable (Some (codes "y"))) push_value) (refl, (refl, (tt, (tt, tt)))) ((λ v s. refl), ((λ v s. absurd (false≢true s)), (tt, (tt, tt)))) (crossed_alive (λ v. Untouched) _ _) (crossed_unchanged (λ v. Untouched) _ _);
+        lose = lose _ h (codes "V") refl refl refl;
+      };
+      in_other = start_at variable Stacked (env h) (nothing_listed h refl refl refl refl) (lookup_seen h (stack_name variable));
+      first = ((refl, refl), tt);
+      second = ((refl, refl), tt);
     }
 
 pub added_and_pushed : AddedAndPushed
 added_and_pushed =
     let h : History = (codes "V", Some (codes "/b")) ∷ [] in
     record {
-      begins = start_at variable (Pathed colon) (env h) (nothing_listed h refl refl refl refl) (path_ordered h variable colon refl refl);
-      lose = lose _ h (codes "V") refl refl refl;
+      in_one = record {
+        begins = start_at variable (Pathed colon) (env h) (nothing_listed h refl refl refl refl) (path_ordered h variable colon refl refl);
+        others = but_way (only_way variable (Pathed colon)) (crossed add_front push_value) (refl, (refl, (tt, (tt, tt)))) ((λ v s. refl), ((λ v s. refl), (tt, (tt, tt)))) (crossed_alive (λ v. Untouched) _ _) (crossed_unchanged (λ v. Untouched) _ _);
+        lose = lose _ h (codes "V") refl refl refl;
+      };
+      in_other = start_at variable Stacked (env h) (nothing_listed h refl refl refl refl) (lookup_seen h (stack_name variable));
+      first = ((refl, refl), tt);
+      second = ((refl, refl), tt);
     }
 
 pub two_delimiters : TwoDelimiters
 two_delimiters =
     let h : History = (codes "V", Some (codes "a")) ∷ [] in
     record {
-      begins = start_at variable (Pathed colon) (env h) (nothing_listed h refl refl refl refl) (path_ordered h variable colon refl refl);
-      lose = lose _ h (codes "V") refl refl refl;
+      in_one = record {
+        begins = start_at variable (Pathed colon) (env h) (nothing_listed h refl refl refl refl) (path_ordered h variable colon refl refl);
+        others = but_way (only_way variable (Pathed colon)) (crossed (Back colon variable (codes "b" ∷ [])) (Back 59 variable (codes "c" ∷ []))) (refl, (refl, (tt, (tt, tt)))) ((λ v s. refl), ((λ v s. refl), (tt, (tt, tt)))) (crossed_alive (λ v. Untouched) _ _) (crossed_unchanged (λ v. Untouched) _ _);
+        lose = lose _ h (codes "V") refl refl refl;
+      };
+      in_other = start_at variable (Pathed 59) (env h) (nothing_listed h refl refl refl refl) (path_ordered h variable 59 refl refl);
+      first = ((refl, refl), tt);
+      second = ((refl, refl), tt);
     }
 
 abbrev set_by_two : List Move
@@ -287,6 +366,7 @@ set_by_two = Loads (first_module (Set variable (codes "x") ∷ [])) ∷ Loads (s
 pub set_by_two_falls : SetByTwo
 set_by_two_falls = record {
   begins = start_at variable (Fixed None) (env []) (nothing_listed [] refl refl refl refl) (lookup_seen [] variable);
+  others = but_apart (only_way variable (Fixed None)) set_by_two (refl, (refl, (tt, tt))) ((refl, tt), ((refl, tt), (tt, tt))) (tt, (tt, ((_, refl), tt))) (tt, (tt, ((λ loaded f. ap records_in f), tt)));
   end = env (end_of set_by_two []);
   lead = played_leads set_by_two [] (end_of set_by_two []) refl;
   fallen = λ s. differ (seen (end_of set_by_two []) variable) (Some (codes "y")) refl (sym (lookup_seen (end_of set_by_two []) variable) ∙ (s.variables variable refl).value);

@@ -1,15 +1,17 @@
 -- Worked examples of what is lost where one premise doesn't hold, each over one variable and one or two modules.
-use Rattle.std.specs.Prelude.{◌≡◌, ◌≢◌, List, [], ◌∷◌, bytes_eq, codes, if◌then◌else◌, Some, None}
+use Rattle.std.specs.Prelude.{◌≡◌, ◌≢◌, true, List, [], ◌∷◌, bytes_eq, codes, if◌then◌else◌, is_some, Some, None}
 use Rattle.std.specs.FinMap as finite
+use Rattle.std.specs.List.{list_all}
 use Rattle.environment.specs.Texts.{Text}
 use Rattle.environment.specs.Environment.{Environment, with_value}
 use Rattle.environment.specs.Fields.{colon}
 use Rattle.loadedlist.specs.Loaded.{AreLoadedInOrder}
 use Rattle.modulerecords.specs.Records.{Record, Set, Unset, Push, Front, Back, Remove}
 use Rattle.modulerecords.specs.Moves.{Module, Move, Loads, Unloads, Lead}
-use Rattle.reversal.specs.Ways.{Way, Untouched, Fixed, Pathed, Stacked}
+use Rattle.reversal.specs.Ways.{Way, Untouched, Fixed, Pathed, Stacked, is_reversible, IsInWay, AllSuit}
+use Rattle.reversal.specs.Live.{last_set, live_set}
 use Rattle.reversal.specs.Standing.{IsStart, Stands}
-use Rattle.reversal.specs.Runs.{live_after, AreReversible}
+use Rattle.reversal.specs.Runs.{live_named, without_live, live_after, AreReversible}
 
 -- the environment with these values
 abbrev pub held : List (Text × Text) → Environment
@@ -38,14 +40,65 @@ pub record LoseUnlisted (start : Environment) (ms : List Move) : Type 0 where
   pub reversible : AreReversible (λ v. Untouched) [] ms
   pub lose : Lose start ms
 
--- It is a start, but the moves aren't reversible.
-pub record LoseIrreversible (ways : Text → Way) (start : Environment) (ms : List Move) : Type 0 where
+-- The parts of what is asked of moves.
+pub data Part : Type 0 where
+  -- A module that is loaded has records of the kinds alone that unloading undoes;
+  of_kind : Part
+  -- it uses each variable in the variable's way;
+  in_way : Part
+  -- and it sets or unsets none that a live module sets or unsets.
+  apart : Part
+  -- A module that is unloaded is live;
+  alive : Part
+  -- and it has the records of its load.
+  unchanged : Part
+
+-- all records use their variables in the variables' ways
+abbrev pub AllInWay : (Text → Way) → List Record → Type 0
+AllInWay ways [] = Unit {0}
+AllInWay ways (r ∷ rs) = IsInWay ways r × AllInWay ways rs
+
+-- what a part says of a load, and of an unload, while these modules are live
+abbrev pub OfLoad : Part → (Text → Way) → List Module → Module → Type 0
+OfLoad of_kind ways live m = list_all is_reversible m.records ≡ true
+OfLoad in_way ways live m = AllInWay ways m.records
+OfLoad apart ways live m = (v : Text) → is_some (last_set v m.records) ≡ true → live_set v live ≡ None
+OfLoad alive ways live m = Unit {0}
+OfLoad unchanged ways live m = Unit {0}
+
+abbrev pub OfUnload : Part → List Module → Module → Type 0
+OfUnload of_kind live m = Unit {0}
+OfUnload in_way live m = Unit {0}
+OfUnload apart live m = Unit {0}
+OfUnload alive live m = (loaded : Module) × (live_named m.name live ≡ Some loaded)
+OfUnload unchanged live m = (loaded : Module) → live_named m.name live ≡ Some loaded → m.records ≡ loaded.records
+
+-- it says so of each move
+abbrev pub HasPart : Part → (Text → Way) → List Module → List Move → Type 0
+HasPart p ways live [] = Unit {0}
+HasPart p ways live (Loads m ∷ ms) = OfLoad p ways live m × HasPart p ways (m ∷ live) ms
+HasPart p ways live (Unloads m ∷ ms) = OfUnload p live m × HasPart p ways (without_live m.name live) ms
+
+-- All parts together are what is asked.
+abbrev pub PartsAreAll : Type 0
+PartsAreAll =
+    (ways : Text → Way) (ms : List Move) → ((part : Part) → HasPart part ways [] ms) → AreReversible ways [] ms
+
+-- every part but this one
+abbrev pub OtherParts : Part → (Text → Way) → List Move → Type 0
+OtherParts part ways ms = (other : Part) → other ≢ part → HasPart other ways [] ms
+
+-- It is a start, and the moves have every part but this one.
+pub record LoseIrreversible (part : Part) (ways : Text → Way) (start : Environment) (ms : List Move) : Type 0 where
   pub begins : IsStart ways start
+  pub others : OtherParts part ways ms
   pub lose : Lose start ms
 
--- It is a start, and the moves are accepted, but they lead to an environment that doesn't stand over it.
-pub record LoseStanding (ways : Text → Way) (start : Environment) (ms : List Move) : Type 0 where
+-- The same where they don't lead elsewhere in the end, but on the way to an environment that doesn't stand over the
+-- start.
+pub record LoseStanding (part : Part) (ways : Text → Way) (start : Environment) (ms : List Move) : Type 0 where
   pub begins : IsStart ways start
+  pub others : OtherParts part ways ms
   pub end : Environment
   pub lead : Lead ms start end
   pub fallen : Stands ways start (live_after [] ms) end → ⊥
@@ -154,48 +207,53 @@ EmptyGroup = LoseUnlisted (listed_with ((codes "__MODULES_LMPREREQ", codes "a/1&
 -- Kinds that unloading doesn't undo.
 abbrev pub UnsetWithoutValue : Type 0
 UnsetWithoutValue =
-    LoseIrreversible (only_way variable Untouched) (held ((variable, codes "y") ∷ []))
+    LoseIrreversible of_kind (only_way variable Untouched) (held ((variable, codes "y") ∷ []))
     (there_and_back (Unset variable None))
 
 abbrev pub ElementRemoved : Type 0
 ElementRemoved =
-    LoseIrreversible (only_way variable (Pathed colon)) (held ((variable, codes "/a:/b") ∷ []))
+    LoseIrreversible of_kind (only_way variable (Pathed colon)) (held ((variable, codes "/a:/b") ∷ []))
     (there_and_back (Remove colon variable (codes "/a" ∷ [])))
 
 -- Other records at the unload than at the load.
 abbrev pub OtherRecords : Type 0
 OtherRecords =
-    LoseIrreversible (only_way variable (Pathed colon)) (held ((variable, codes "/b") ∷ []))
+    LoseIrreversible unchanged (only_way variable (Pathed colon)) (held ((variable, codes "/b") ∷ []))
     (Loads (first_module (add_front ∷ [])) ∷ Unloads (first_module []) ∷ [])
 
 -- A module of the start is unloaded.
 abbrev pub StartUnloaded : Type 0
 StartUnloaded =
-    LoseIrreversible (only_way variable Untouched) (listed_with [])
+    LoseIrreversible alive (only_way variable Untouched) (listed_with [])
     (Unloads (record { name = codes "a/1"; path = codes "/m/a/1"; records = [] }) ∷ [])
 
--- Two ways of one variable.
+-- Two ways of one variable: the start is one in either, and the record of each module suits one of them.
+pub record LoseInTwoWays (one other : Way) (start : Environment) (r s : Record) : Type 0 where
+  pub in_one : LoseIrreversible in_way (only_way variable one) start (crossed r s)
+  pub in_other : IsStart (only_way variable other) start
+  pub first : AllSuit (only_way variable one) (r ∷ [])
+  pub second : AllSuit (only_way variable other) (s ∷ [])
+
 abbrev pub SetAndPushed : Type 0
-SetAndPushed = LoseIrreversible (only_way variable Stacked) (held []) (crossed (Set variable (codes "y")) push_value)
+SetAndPushed = LoseInTwoWays (Fixed None) Stacked (held []) (Set variable (codes "y")) push_value
 
 abbrev pub UnsetAndPushed : Type 0
 UnsetAndPushed =
-    LoseIrreversible (only_way variable Stacked) (held ((variable, codes "y") ∷ []))
-    (crossed (Unset variable (Some (codes "y"))) push_value)
+    LoseInTwoWays (Fixed (Some (codes "y"))) Stacked (held ((variable, codes "y") ∷ []))
+    (Unset variable (Some (codes "y"))) push_value
 
 abbrev pub AddedAndPushed : Type 0
 AddedAndPushed =
-    LoseIrreversible (only_way variable (Pathed colon)) (held ((variable, codes "/b") ∷ []))
-    (crossed add_front push_value)
+    LoseInTwoWays (Pathed colon) Stacked (held ((variable, codes "/b") ∷ [])) add_front push_value
 
 abbrev pub TwoDelimiters : Type 0
 TwoDelimiters =
-    LoseIrreversible (only_way variable (Pathed colon)) (held ((variable, codes "a") ∷ []))
-    (crossed (Back colon variable (codes "b" ∷ [])) (Back 59 variable (codes "c" ∷ [])))
+    LoseInTwoWays (Pathed colon) (Pathed 59) (held ((variable, codes "a") ∷ []))
+    (Back colon variable (codes "b" ∷ [])) (Back 59 variable (codes "c" ∷ []))
 
 -- Two live modules set one variable, and the first of them is unloaded: the other one's value is gone.
 abbrev pub SetByTwo : Type 0
 SetByTwo =
-    LoseStanding (only_way variable (Fixed None)) (held [])
+    LoseStanding apart (only_way variable (Fixed None)) (held [])
     (Loads (first_module (Set variable (codes "x") ∷ [])) ∷ Loads (second_module (Set variable (codes "y") ∷ []))
     ∷ Unloads (first_module (Set variable (codes "x") ∷ [])) ∷ [])

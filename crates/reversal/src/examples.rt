@@ -1,9 +1,10 @@
-//! Why each premise is asked: worked examples in which the others hold, and a run of accepted moves loses the start.
-//! They are computed over the definitions.
+//! Why each premise is asked: worked examples in which the others hold, and a run of accepted moves loses the start, or
+//! in one of them what stands over it. They are computed over the definitions.
 ghost use Rattle.reversal.specs.Examples.{EmptyPath, CounterOfNone, BottomAlone, HiddenValue, OtherEscapes, OwnerNotLoaded, ValueBeforeSet, OtherValue};
 ghost use Rattle.reversal.specs.Examples.{EmptyLists, NeedsOfNone, ConflictTwice, IllSpelled, EmptyGroup};
 ghost use Rattle.reversal.specs.Examples.{UnsetWithoutValue, ElementRemoved, OtherRecords, StartUnloaded};
 ghost use Rattle.reversal.specs.Examples.{SetAndPushed, UnsetAndPushed, AddedAndPushed, TwoDelimiters, SetByTwo};
+ghost use Rattle.reversal.specs.Examples.{PartsAreAll};
 
 /// Starts that aren't in order, or where a fixed variable has another value, though their loaded list is in order and
 /// the modules are reversible and apart.
@@ -27,8 +28,8 @@ pub fn lists()
     ensures empty_group { EmptyGroup }
 {}
 
-/// From a start: records of a kind that unloading doesn't undo, other records at the unload than at the load, and an
-/// unload of a module of the start.
+/// From a start, where the moves have every other part of what is asked: records of a kind that unloading doesn't
+/// undo, other records at the unload than at the load, and an unload of a module of the start.
 pub fn kinds()
     ensures unset_without_value { UnsetWithoutValue }
     ensures element_removed { ElementRemoved }
@@ -36,13 +37,18 @@ pub fn kinds()
     ensures start_unloaded { StartUnloaded }
 {}
 
-/// From a start: two ways of one variable. And where two live modules set one variable, the unload of one takes the
-/// other's value away, so that the environment stands over the start no more (the start comes back when both are
-/// unloaded).
+/// From a start, where the moves have every other part of what is asked: two ways of one variable, in each of which it
+/// is a start. And where two live modules set one variable, the unload of one takes the other's value away, so that the
+/// environment stands over the start no more (the start comes back when both are unloaded).
 pub fn ways()
     ensures set_and_pushed { SetAndPushed }
     ensures unset_and_pushed { UnsetAndPushed }
     ensures added_and_pushed { AddedAndPushed }
     ensures two_delimiters { TwoDelimiters }
     ensures set_by_two { SetByTwo }
+{}
+
+/// Moves that have every part of what is asked are of modules that are reversible and apart.
+pub fn parts()
+    ensures { PartsAreAll }
 {}

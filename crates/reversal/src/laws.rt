@@ -29,7 +29,8 @@ pub fn loads()
 {}
 
 /// Why it is asked that a variable that records set is unset at the start, that one that they unset with a value has
-/// that value there, and that they unset none without a value: else a load and its unload lose the start.
+/// that value there, and that they unset none without a value: else a load and its unload of that one record lose the
+/// start (of an unset without a value, where the variable had one).
 pub fn losses()
     ensures set { SetLosesValue }
     ensures unset { UnsetLosesValue }

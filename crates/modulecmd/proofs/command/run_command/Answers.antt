@@ -1,6 +1,7 @@
 use Rattle.std.proofs.Common.{◌<◌, map, string_bytes, String, inr}
 use Rattle.std.specs.declared.alloc.Global.{Global}
 use Rattle.modulecmd.specs.Command.{CommandDoes}
+use Rattle.modulecmd.proofs.CommandLemmas.{numbered}
 use Rattle.modulecmd.proofs.OutputLemmas.{answered}
 use Rattle.modulecmd.proofs.WriterLemmas.{keeps_same}
 use Rattle.modulecmd.proofs.command.run_command.Goals as goal
@@ -11,4 +12,4 @@ returns-in-Ok-clause-ended g c =
     c.args.env (CommandDoes (map (λ (s : String Global). string_bytes s) c.args.args.now) c.args.env) c.in-Ok.answer _ _ _ _ c.in-Ok.ensures.answered c.finish.ensures
 
 pub returns-clause-ended : goal.returns-clause-ended
-returns-clause-ended g c = inr (c.in-Err.fault, c.in-Err.ensures.refused, (keeps_same _, c.tell.ensures))
+returns-clause-ended g c = inr (c.in-Err.fault, (c.in-Err.ensures.refused, numbered c.in-Err.fault _ _ _ c.in-Err.ensures.refused), (keeps_same _, c.tell.ensures))

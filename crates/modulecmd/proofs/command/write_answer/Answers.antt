@@ -5,7 +5,7 @@ use Rattle.modulecmd.proofs.command.write_answer.Goals as goal
 pub returns-in_err-write_texts-clause-cut : goal.returns-in_err-write_texts-clause-cut
 returns-in_err-write_texts-clause-cut g c =
     let part = rw c.as_slice.ensures.value at c.in_err-write_texts.ensures.cut in
-    on_err _ _ (inl (keeps_same _, part_more (g.E.Write.contents c.args.err.now) _ _ [] _ (string_bytes c.args.answer.now.changed.done.report) (appends_none _) part))
+    on_err _ _ (inl (keeps_same _, part_more (g.E.Write.contents c.args.err.now) _ _ [] _ (string_bytes c.args.answer.now.changed.report) (appends_none _) part))
 
 pub returns-in_err-write_bytes-clause-cut : goal.returns-in_err-write_bytes-clause-cut
 returns-in_err-write_bytes-clause-cut g c =

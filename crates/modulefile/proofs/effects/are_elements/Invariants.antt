@@ -5,7 +5,7 @@ use Rattle.modulefile.proofs.effects.are_elements.Given as goal
 
 -- what is left decides
 abbrev pub invariant-loop-rest : goal.invariant-loop-rest
-invariant-loop-rest l = list_all (is_element l.delim) (map string_bytes l.rest) ≡ list_all (is_element l.delim) (map string_bytes l.texts)
+invariant-loop-rest l = list_all (is_element l.delim.character) (map string_bytes l.rest) ≡ list_all (is_element l.delim.character) (map string_bytes l.texts)
 
 abbrev pub decreases-loop-rest : goal.decreases-loop-rest
 decreases-loop-rest l = length l.rest

@@ -4,7 +4,7 @@ use Rattle.modulefile.specs.Calls.{elements_of}
 use Rattle.modulerun.proofs.made.elements.Given as goal
 
 abbrev pub invariant-loop-rest : goal.invariant-loop-rest
-invariant-loop-rest l = shown l.elements.items ++ elements_of l.delim (map string_bytes l.rest) ≡ elements_of l.delim (map string_bytes l.values)
+invariant-loop-rest l = shown l.elements.items ++ elements_of l.delim.character (map string_bytes l.rest) ≡ elements_of l.delim.character (map string_bytes l.values)
 
 abbrev pub decreases-loop-rest : goal.decreases-loop-rest
 decreases-loop-rest l = length l.rest

@@ -25,4 +25,4 @@ returns-in-Err g c =
     (started c.args.limits c.args.text.now c.args.context.now c.over-runner.result.context start c.over-runner.result.journal c.over-runner.result.messages c.over-runner.result.asked (texts_of c.in_ok-globals.globals.items) (Err c.in-Err.fault)
     (told_with c.evaluate.new.host.journal c.evaluate.new.host.messages c.evaluate.new.host.asked)
     c.over-runner.ensures.journal c.over-runner.ensures.context c.over-runner.ensures.messages c.over-runner.ensures.asked c.in_ok-globals.ensures c.in-Err.ensures.evaluates)
-    c.refusal.ensures
+    c.refusal.ensures.stop

@@ -1,5 +1,5 @@
 use Rattle.std.proofs.Common.{◌≡◌, ◌≤◌, ◌+◌, ◌++◌, List, length, map}
-use Rattle.lookup.specs.Agreement.{InEachPair}
+use Rattle.filetree.specs.Agreement.{InEachPair}
 use Rattle.shells.specs.declared.shell.Shell.{Shell}
 use Rattle.requests.specs.RequestViews.{request_view}
 use Rattle.requests.specs.Sessions.{Response, Session, left_by}

@@ -1,6 +1,6 @@
 use Rattle.std.proofs.Common.{[], List, map, string_bytes, Ok, ap, ◌∙◌, subst}
 use Rattle.environment.specs.Texts.{Text}
-use Rattle.modulesearch.specs.Listed.{Listed, Listing}
+use Rattle.modulesearch.specs.Listed.{Listed}
 use Rattle.modulelist.specs.Listings.{listing_view}
 use Rattle.modulelist.specs.declared.listings.Listing as code
 use Rattle.defaultfiles.specs.Leaves.{Leaves}

@@ -1,10 +1,8 @@
-use Rattle.std.proofs.Common.{◌<◌, false, map, string_bytes, String, Result, Ok, Err, refl}
+use Rattle.std.proofs.Common.{◌<◌, map, string_bytes, String, Ok, Err, refl}
 use Rattle.std.proofs.lemmas.Result.{err_from_is_err_and}
 use Rattle.std.specs.declared.alloc.Global.{Global}
 use Rattle.loadedlist.specs.LoadedEntries.{entry_of}
 use Rattle.relations.specs.Relations.{Is, Then}
-use Rattle.requests.specs.Requests as asked
-use Rattle.requests.specs.Steps as steps
 use Rattle.requests.specs.Steps.{begun, entries_of, Each, EndsRequest, Named, Changes}
 use Rattle.modulesteps.specs.declared.done.Done.{Done}
 use Rattle.modulesteps.specs.Views.{site_of, done_view}

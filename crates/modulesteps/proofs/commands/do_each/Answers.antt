@@ -1,8 +1,7 @@
-use Rattle.std.proofs.Common.{◌<◌, map, string_bytes, String, Result, Ok, Err, ◌∙◌, subst, arith}
+use Rattle.std.proofs.Common.{◌<◌, map, string_bytes, String, Ok, Err, ◌∙◌, subst, arith}
 use Rattle.std.proofs.lemmas.Result.{err_from_is_err_and}
 use Rattle.std.specs.declared.alloc.Global.{Global}
 use Rattle.environment.specs.Texts.{Text}
-use Rattle.requests.specs.Steps as steps
 use Rattle.requests.specs.Steps.{Each}
 use Rattle.modulesteps.specs.Views.{site_of, done_view}
 use Rattle.modulesteps.specs.Parts.{DoesForName}

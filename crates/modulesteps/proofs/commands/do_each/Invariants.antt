@@ -1,5 +1,5 @@
 use Rattle.std.proofs.Common.{◌≡◌, ◌≤◌, Result, length, map, string_bytes}
-use Rattle.lookup.specs.Agreement.{InEachPair, Narrows}
+use Rattle.filetree.specs.Agreement.{InEachPair, Narrows}
 use Rattle.requests.specs.Reasons.{RequestReason}
 use Rattle.requests.specs.Steps as steps
 use Rattle.requests.specs.Steps.{Each}

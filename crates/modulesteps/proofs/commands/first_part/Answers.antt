@@ -1,5 +1,4 @@
 use Rattle.std.proofs.Common.{Some, None}
-use Rattle.requests.specs.Steps as steps
 use Rattle.modulesteps.proofs.EachLemmas.{first_cut}
 use Rattle.modulesteps.proofs.commands.first_part.Goals as goal
 

@@ -1,4 +1,4 @@
-use Rattle.std.proofs.Common.{◌≡◌, ◌<◌, false, List, map, reverse, string_bytes, String, Result, Ok, Err, refl, ap, ◌∙◌, subst}
+use Rattle.std.proofs.Common.{◌≡◌, ◌<◌, false, List, map, reverse, string_bytes, String, Ok, Err, refl, ap, ◌∙◌, subst}
 use Rattle.std.proofs.lemmas.Result.{err_from_is_err_and}
 use Rattle.std.specs.declared.alloc.Global.{Global}
 use Rattle.environment.specs.Texts.{Text}
@@ -7,7 +7,6 @@ use Rattle.loadedlist.specs.LoadedEntries.{entry_of}
 use Rattle.loadedlist.specs.declared.entry.Loaded.{Loaded}
 use Rattle.relations.specs.Relations.{Is, Then}
 use Rattle.requests.specs.Requests as asked
-use Rattle.requests.specs.Steps as steps
 use Rattle.requests.specs.Steps.{begun, entries_of, Each, EndsRequest, RequestStep, UnloadsName}
 use Rattle.modulesteps.specs.declared.done.Done.{Done}
 use Rattle.modulesteps.specs.declared.commands.Doing.TheVariants.{Unload}

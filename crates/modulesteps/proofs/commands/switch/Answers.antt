@@ -1,11 +1,10 @@
-use Rattle.std.proofs.Common.{◌<◌, true, map, Some, Result, Ok, Err, refl, subst}
+use Rattle.std.proofs.Common.{◌<◌, true, map, Some, Ok, Err, refl, subst}
 use Rattle.std.proofs.lemmas.Result.{err_from_is_err_and}
 use Rattle.std.specs.Option.{option_map}
 use Rattle.environment.specs.Texts.{Text}
 use Rattle.loadedlist.specs.LoadedEntries.{entry_of}
 use Rattle.relations.specs.Relations.{Is, Then}
 use Rattle.requests.specs.Requests as asked
-use Rattle.requests.specs.Steps as steps
 use Rattle.requests.specs.Steps.{begun, entries_of, EndsRequest, RequestStep, LoadsName, UnloadsName, Switches}
 use Rattle.modulesteps.specs.declared.done.Done.{Done}
 use Rattle.modulesteps.specs.Views.{site_of, done_view}

@@ -1,7 +1,5 @@
-use Rattle.std.proofs.Common.{◌<◌, true, Some, Result, Ok, Err, refl, arith}
+use Rattle.std.proofs.Common.{◌<◌, true, Some, Ok, Err, refl, arith}
 use Rattle.std.proofs.lemmas.Result.{err_from_is_err_and}
-use Rattle.requests.specs.Requests as asked
-use Rattle.requests.specs.Steps as steps
 use Rattle.requests.specs.Steps.{LoadsName, UnloadsName, Switches}
 use Rattle.modulesteps.specs.Views.{site_of, done_view}
 use Rattle.modulesteps.proofs.StepLemmas.{tells_same, tells_refused}

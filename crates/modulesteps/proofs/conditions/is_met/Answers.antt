@@ -7,7 +7,6 @@ use Rattle.environment.specs.Texts.{Text}
 use Rattle.loadedlist.specs.LoadedEntries.{entry_of}
 use Rattle.std.specs.declared.string.String.{String}
 use Rattle.std.specs.declared.alloc.Global.{Global}
-use Rattle.requests.specs.Conditions.{is_met}
 use Rattle.modulesteps.proofs.ListLemmas.{any_seen}
 use Rattle.modulesteps.proofs.conditions.is_met.Goals as goal
 

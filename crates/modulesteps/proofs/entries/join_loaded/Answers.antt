@@ -1,14 +1,12 @@
-use Rattle.std.proofs.Common.{◌≡◌, List, map, Result, Ok, Err, ap, ◌∙◌}
+use Rattle.std.proofs.Common.{◌≡◌, List, map, Ok, Err, ap, ◌∙◌}
 use Rattle.std.proofs.lemmas.Result.{err_from_is_err_and}
 use Rattle.environment.specs.Texts.{shown, texts_in}
 use Rattle.loadedlist.specs.LoadedEntries.{entry_of}
 use Rattle.modulerecords.specs.Records.{conflict_names, prereq_groups}
-use Rattle.modulerecords.specs.Effects as modes
 use Rattle.modulefile.specs.RecordViews.{record_view}
 use Rattle.modulefile.specs.declared.records.Record.{Record}
 use Rattle.requests.specs.Refusals.{unless}
-use Rattle.requests.specs.Steps as steps
-use Rattle.modulesteps.specs.Views.{module_view}
+use Rattle.modulesteps.specs.MoveViews.{module_view}
 use Rattle.modulesteps.specs.Answers.{cause_of}
 use Rattle.modulesteps.specs.Parts.{added, objection}
 use Rattle.modulesteps.proofs.StepLemmas.{stands_as, judged, objection_same}

@@ -1,14 +1,11 @@
-use Rattle.std.proofs.Common.{◌≡◌, List, map, string_bytes, Result, Ok, Err, IfSome, refl, ap, ◌∙◌, subst}
+use Rattle.std.proofs.Common.{◌≡◌, List, map, string_bytes, Ok, Err, IfSome, refl, ap, ◌∙◌, subst}
 use Rattle.std.proofs.lemmas.Result.{err_from_is_err_and}
 use Rattle.environment.specs.Texts.{Text}
 use Rattle.loadedlist.specs.Loaded.{names_of}
 use Rattle.loadedlist.specs.LoadedEntries.{entry_of}
-use Rattle.loadedlist.specs.declared.entry.Loaded.{Loaded}
-use Rattle.modulerecords.specs.Effects as modes
 use Rattle.modulefile.specs.RecordViews.{mode_view}
 use Rattle.modulefile.specs.Files.{RunsFile}
 use Rattle.modulerun.specs.Running.{ran_view, stop_of}
-use Rattle.requests.specs.Steps as steps
 use Rattle.modulesteps.specs.Parts.{context_among, file_context}
 use Rattle.modulesteps.proofs.StepLemmas.{run_refused}
 use Rattle.modulesteps.proofs.files.evaluate.Goals as goal

@@ -1,16 +1,14 @@
-use Rattle.std.proofs.Common.{◌≡◌, false, map, Result, Ok, Err, sym, ap, ◌∙◌}
+use Rattle.std.proofs.Common.{◌≡◌, false, map, Ok, Err, sym, ap, ◌∙◌}
 use Rattle.std.proofs.lemmas.Result.{err_from_is_err_and}
 use Rattle.environment.specs.Texts.{Text, has}
 use Rattle.loadedlist.specs.Loaded.{names_of}
 use Rattle.loadedlist.specs.LoadedEntries.{entry_of}
-use Rattle.loadedlist.specs.declared.entry.Loaded.{Loaded}
 use Rattle.modulerecords.specs.Effects as modes
 use Rattle.modulefile.specs.Files.{RunsFile}
 use Rattle.modulefind.specs.Answers.{found_view}
 use Rattle.modulerun.specs.Running.{ran_view}
 use Rattle.requests.specs.Reasons.{stopped}
 use Rattle.requests.specs.Refusals.{RefusedAs}
-use Rattle.requests.specs.Steps as steps
 use Rattle.requests.specs.Steps.{LoadsFound, module_of}
 use Rattle.modulesteps.specs.Views.{site_of, done_view}
 use Rattle.modulesteps.specs.Answers.{cause_of}

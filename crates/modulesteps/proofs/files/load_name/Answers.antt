@@ -5,7 +5,6 @@ use Rattle.loadedlist.specs.Loaded.{names_of}
 use Rattle.loadedlist.specs.LoadedEntries.{entry_of}
 use Rattle.loadedlist.specs.declared.entry.Loaded.{Loaded}
 use Rattle.relations.specs.Relations.{Is}
-use Rattle.modulerecords.specs.Effects as modes
 use Rattle.modulefind.specs.Answers.{found_view}
 use Rattle.requests.specs.Steps.{entries_of, Finds, LoadsFound, LoadsName}
 use Rattle.modulesteps.specs.Views.{site_of, done_view}

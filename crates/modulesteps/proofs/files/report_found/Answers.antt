@@ -1,15 +1,13 @@
-use Rattle.std.proofs.Common.{◌≡◌, map, Result, Ok, Err, refl, ap, ◌∙◌}
+use Rattle.std.proofs.Common.{◌≡◌, map, Ok, Err, refl, ap, ◌∙◌}
 use Rattle.std.proofs.lemmas.Result.{err_from_is_err_and}
 use Rattle.environment.specs.Texts.{Text}
 use Rattle.environment.specs.Environment.{Environment}
 use Rattle.loadedlist.specs.LoadedEntries.{entry_of}
-use Rattle.modulerecords.specs.Effects as modes
 use Rattle.modulefile.specs.Files.{RunsFile}
 use Rattle.modulefind.specs.Answers.{found_view}
 use Rattle.modulerun.specs.Running.{ran_view}
 use Rattle.requests.specs.Reasons.{stopped}
 use Rattle.requests.specs.Refusals.{RefusedAs}
-use Rattle.requests.specs.Steps as steps
 use Rattle.requests.specs.Steps.{reported}
 use Rattle.modulesteps.specs.Views.{done_view}
 use Rattle.modulesteps.specs.Answers.{cause_of}

@@ -1,15 +1,13 @@
-use Rattle.std.proofs.Common.{◌≡◌, map, string_bytes, Result, Ok, Err, refl, ap, ◌∙◌}
+use Rattle.std.proofs.Common.{◌≡◌, map, string_bytes, Ok, Err, refl, ap, ◌∙◌}
 use Rattle.std.proofs.lemmas.Result.{err_from_is_err_and}
 use Rattle.environment.specs.Reasons.{EnvReason, reason_of}
 use Rattle.loadedlist.specs.Loaded.{dropped_loaded}
 use Rattle.loadedlist.specs.LoadedEntries.{entry_of}
-use Rattle.loadedlist.specs.declared.entry.Loaded.{Loaded}
 use Rattle.modulerecords.specs.Effects as modes
 use Rattle.modulefile.specs.Files.{RunsFile}
 use Rattle.modulerun.specs.Running.{ran_view}
 use Rattle.requests.specs.Reasons.{stopped}
 use Rattle.requests.specs.Refusals.{RefusedAs}
-use Rattle.requests.specs.Steps as steps
 use Rattle.requests.specs.Steps.{module_of}
 use Rattle.modulesteps.specs.Views.{done_view}
 use Rattle.modulesteps.specs.Answers.{cause_of}

@@ -2,7 +2,7 @@ use Rattle.std.proofs.Common.{◌<◌, map, string_bytes, String, Ok, Err, refl}
 use Rattle.std.proofs.lemmas.Result.{err_from_is_err_and}
 use Rattle.std.specs.declared.alloc.Global.{Global}
 use Rattle.loadedlist.specs.LoadedEntries.{entry_of}
-use Rattle.lookup.specs.Search.{modulefile}
+use Rattle.filetree.specs.Search.{modulefile}
 use Rattle.relations.specs.Relations.{Is}
 use Rattle.requests.specs.Steps.{UnloadsEntry, script_at}
 use Rattle.modulesteps.specs.Views.{site_of, done_view}

@@ -1,4 +1,4 @@
-use Rattle.std.proofs.Common.{true, false, map, ◌≡◌, sym, ap, ◌∙◌}
+use Rattle.std.proofs.Common.{sym, ap, ◌∙◌}
 use Rattle.std.specs.List.{list_all}
 use Rattle.modulefile.specs.RecordViews.{record_view}
 use Rattle.modulerun.specs.Running.{ran_view}

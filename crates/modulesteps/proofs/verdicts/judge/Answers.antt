@@ -1,7 +1,6 @@
-use Rattle.std.proofs.Common.{◌<◌, false, map, None, Result, Ok, Err, refl, ap}
+use Rattle.std.proofs.Common.{◌<◌, map, None, Ok, Err, refl, ap}
 use Rattle.std.proofs.lemmas.Result.{err_from_is_err_and}
 use Rattle.loadedlist.specs.LoadedEntries.{entry_of}
-use Rattle.modulerecords.specs.Effects as modes
 use Rattle.modulefile.specs.Files.{RunsFile}
 use Rattle.modulefind.specs.Answers.{found_view}
 use Rattle.modulerun.specs.Running.{ran_view}

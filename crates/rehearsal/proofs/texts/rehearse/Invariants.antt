@@ -1,7 +1,7 @@
 use Rattle.std.proofs.Common.{ℕ, ◌++◌, List, Option, length, map}
 use Rattle.environment.specs.Texts.{Text}
 use Rattle.environment.specs.Environment.{Environment}
-use Rattle.lookup.specs.Agreement.{InEachPair}
+use Rattle.filetree.specs.Agreement.{InEachPair}
 use Rattle.shells.specs.declared.shell.Shell.{Shell}
 use Rattle.requests.specs.RequestViews.{request_view}
 use Rattle.modules.specs.Replies.{site_in}

@@ -1,19 +1,11 @@
-use Rattle.std.proofs.Common.{◌≡◌, Result, Ok, map, string_bytes, refl, ap, sym, ◌∙◌}
-use Rattle.environment.specs.Texts.{texts_in}
+use Rattle.std.proofs.Common.{map, string_bytes, refl, ap, sym, ◌∙◌}
 use Rattle.modulefile.specs.Calls as calls
-use Rattle.modulefile.specs.Calls.{elements_of}
-use Rattle.modulefile.specs.CallViews.{texts_of, call_view, topic_view}
+use Rattle.modulefile.specs.CallViews.{call_view, topic_view}
 use Rattle.modulefile.specs.Answers.{asked, truth}
 use Rattle.modulerun.specs.Journals.{found}
 use Rattle.modulerun.specs.Hosting.{context_with, told_with}
-use Rattle.modulerun.proofs.DelimiterLemmas.{ascii_delimiter}
 use Rattle.modulerun.proofs.ReplyLemmas.{asked_reply}
 use Rattle.modulerun.proofs.runner.Runner.answer.Goals as goal
-
-pub path-requires : goal.path-requires
-path-requires g c =
-    ascii_delimiter (map string_bytes c.args.words.now) c.in-Path.edit c.in-Path.delim c.in-Path.var.now (elements_of c.in-Path.delim (texts_of c.in-Path.values.now))
-    (c.requires ∙ ap (λ x. Ok (call_view x)) c.in-Path.is)
 
 pub returns-in-TypedName-clause-replies : goal.returns-in-TypedName-clause-replies
 returns-in-TypedName-clause-replies g c =

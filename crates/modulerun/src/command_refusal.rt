@@ -1,0 +1,42 @@
+//! Why a command of a modulefile is refused by a number.
+use crate::run_fault::RunFault;
+use modulefile::RecordFault;
+
+/// Why a command of a modulefile is refused. The evaluation is told its number alone.
+#[derive(Debug, Drop)]
+pub(crate) enum CommandRefusal {
+    /// The words don't fit the command.
+    BadArguments,
+    /// The command names what it may not, or what it would leave on record has no effect.
+    BadRecord(RecordFault),
+}
+
+impl CommandRefusal {
+    ghost use Rattle.std.specs.Prelude.{◌≡◌, IfSome};
+    ghost use Rattle.tclrules.specs.Derivation.{ByHost};
+    ghost use Rattle.modulefile.specs.Files.{halted};
+    ghost use Rattle.modulerun.specs.Messages.{number_of};
+    ghost use Rattle.modulerun.specs.Running.{stop_of};
+    ghost use Rattle.modulerun.specs.Refusals.{fault_of};
+
+    /// The number that the evaluation is told.
+    pub(crate) fn number(&self) -> u16
+        ensures exact { result ≡ number_of (fault_of self.now) }
+        ensures by_stop { IfSome (stop_of (fault_of self.now)) (λ stop. stop ≡ halted (ByHost result)) }
+    {
+        match self {
+            CommandRefusal::BadArguments => 56,
+            CommandRefusal::BadRecord(fault) => fault.number(),
+        }
+    }
+
+    /// The refusal of the file.
+    pub(crate) fn into_fault(self) -> RunFault
+        ensures { result ≡ fault_of self }
+    {
+        match self {
+            CommandRefusal::BadArguments => RunFault::BadArguments,
+            CommandRefusal::BadRecord(fault) => RunFault::BadRecord(fault),
+        }
+    }
+}

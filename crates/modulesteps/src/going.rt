@@ -1,0 +1,64 @@
+//! What a request has done, one file after the other.
+ghost use Rattle.std.specs.Prelude.{◌≡◌, ◌++◌, [], ◌∷◌, OnOk, OnErr};
+ghost use Rattle.environment.specs.Environment.{Environment};
+ghost use Rattle.environment.specs.Texts.{texts_in};
+ghost use Rattle.modulerecords.specs.Moves.{loaded_names};
+ghost use Rattle.requests.specs.Steps.{begun, moved_on, reported};
+ghost use Rattle.modulesteps.specs.MoveViews.{move_view};
+ghost use Rattle.modulesteps.specs.Views.{done_view};
+
+use crate::done::{Done, Move};
+use std::alloc::{AllocError, Global};
+use std::snapshot::Snapshot;
+
+/// Adds the name of the module that the move loads, if it loads one.
+fn keep_loaded(names: &mut Vec<String>, step: Move) -> Result<(), AllocError>
+    ensures added { OnOk result (texts_in names.new ≡ texts_in names.old ++ loaded_names (move_view step ∷ [])) }
+    ensures kept { OnErr result (names.new.items ≡ names.old.items) }
+{
+    match step {
+        Move::Loads(module) => Ok(names.push(module.name)?),
+        Move::Unloads(_) => Ok(()),
+    }
+}
+
+impl Done {
+    /// Nothing.
+    pub fn new(alloc: Global) -> Done
+        ensures { (env : Environment) → done_view result env ≡ begun env }
+    {
+        Done {
+            loaded: Vec::new(alloc),
+            messages: Vec::new(alloc),
+            report: String::new(alloc),
+            moves: Vec::new(alloc),
+        }
+    }
+
+    /// One move more, with the messages of its file.
+    pub(crate) fn go_on(&mut self, step: Move, mut messages: Vec<String>) -> Result<(), AllocError>
+        ensures { OnOk result ((old new : Environment) → done_view self.new new
+            ≡ moved_on (done_view self.old old) (move_view step) (texts_in messages) new) }
+    {
+        self.messages.append(&mut messages)?;
+        self.moves.push(Snapshot::of(&step))?;
+        if let Err(refused) = keep_loaded(&mut self.loaded, step) {
+            self.moves.pop();
+            return Err(refused);
+        }
+        Ok(())
+    }
+
+    /// The report goes on, with the messages of a file.
+    pub(crate) fn report_on(
+        &mut self,
+        mut messages: Vec<String>,
+        text: &str,
+    ) -> Result<(), AllocError>
+        ensures { OnOk result ((env : Environment) → done_view self.new env
+            ≡ reported (done_view self.old env) (texts_in messages) text.now) }
+    {
+        self.messages.append(&mut messages)?;
+        self.report.push_str(text)
+    }
+}

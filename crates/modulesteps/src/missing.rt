@@ -1,0 +1,37 @@
+//! Names of which none is loaded.
+ghost use Rattle.std.specs.Prelude.{◌≡◌, string_bytes};
+ghost use Rattle.environment.specs.Texts.{texts_in};
+ghost use Rattle.modulesteps.specs.Spaced.{spaced};
+
+use environment::fields::{copies, join, slices};
+use std::alloc::{AllocError, Global};
+
+/// Names of which none is loaded, and their text.
+#[derive(Debug, Drop)]
+pub struct MissingNames {
+    pub names: Vec<String>,
+    text: String,
+    pub ghost joined: { string_bytes text ≡ spaced (texts_in names) },
+}
+
+impl MissingNames {
+    ghost use Rattle.std.specs.Prelude.{map, IfOk};
+
+    /// These names.
+    pub(crate) fn of(alloc: Global, group: &[String]) -> Result<MissingNames, AllocError>
+        ensures { IfOk result (λ missing. texts_in missing.names ≡ map string_bytes group.now) }
+    {
+        let names = slices(alloc, group)?;
+        Ok(MissingNames {
+            names: copies(alloc, names.as_slice())?,
+            text: join(alloc, names.as_slice(), ' ')?,
+        })
+    }
+
+    /// The names, with a space between two.
+    pub fn text(&self) -> &str
+        ensures { result.now ≡ spaced (texts_in self.entry.now.names) }
+    {
+        self.text.as_str()
+    }
+}
