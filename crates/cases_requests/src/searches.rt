@@ -96,7 +96,8 @@ fn searched<T: Tree>(
         return Ok(None);
     };
     let answer = answer.as_str().trim_end();
-    let (reads, wholes, listings) = (tree.reads, tree.wholes, tree.listings);
+    let counts = &tree.counts;
+    let (reads, wholes, listings) = (counts.reads, counts.wholes, counts.listings);
     Ok(Some(if is_whole {
         format!(in alloc; "{answer} [{wholes} whole]")?
     } else {
