@@ -39,13 +39,49 @@ fn needs<V: Vars>(alloc: Global, vars: &V, name: &str) -> Result<String, EnvFaul
     Ok(text)
 }
 
-/// The answer to a question about a word; None where it is none.
-fn of_word(query: &str, word: &str) -> Option<bool> {
+/// A call that changes nothing.
+#[derive(Clone, Copy)]
+enum Question<'a> {
+    Get(&'a str),
+    Loaded,
+    Conflicts(&'a str),
+    Prereqs(&'a str),
+    ShareName(&'a str),
+    /// A question about a word, with its answer.
+    Holds(bool),
+}
+
+/// The call that these words are, the first of them its name; None where they are another.
+fn question_of<'a>(query: &str, word: &'a str) -> Option<Question<'a>> {
     match query {
-        "is_name" => Some(is_variable_name(word)),
-        "is_protected" => Some(is_protected(word)),
-        "is_plain" => Some(is_plain_value(word)),
+        "get" => Some(Question::Get(word)),
+        "loaded" => Some(Question::Loaded),
+        "conflicts" => Some(Question::Conflicts(word)),
+        "prereqs" => Some(Question::Prereqs(word)),
+        "share_name" => Some(Question::ShareName(word)),
+        "is_name" => Some(Question::Holds(is_variable_name(word))),
+        "is_protected" => Some(Question::Holds(is_protected(word))),
+        "is_plain" => Some(Question::Holds(is_plain_value(word))),
         _ => None,
+    }
+}
+
+fn question_named(words: &[String]) -> Option<Question<'_>> {
+    match words {
+        [query] => question_of(query.as_str(), ""),
+        [query, word] => question_of(query.as_str(), word.as_str()),
+        _ => None,
+    }
+}
+
+fn answer<V: Vars>(alloc: Global, vars: &V, question: Question<'_>) -> Result<String, EnvFault> {
+    match question {
+        Question::Get(name) => Ok(String::from_str(alloc, vars.get(name).unwrap_or("-"))?),
+        Question::Loaded => entries(alloc, vars),
+        Question::Conflicts(name) => conflicts(alloc, vars, name),
+        Question::Prereqs(name) => needs(alloc, vars, name),
+        Question::ShareName(name) => Ok(share_name(alloc, name)?),
+        Question::Holds(holds) => Ok(String::from_str(alloc, if holds { "1" } else { "0" })?),
     }
 }
 
@@ -55,21 +91,8 @@ pub(crate) fn query<V: Vars>(
     vars: &V,
     words: &[String],
 ) -> Result<Option<String>, EnvFault> {
-    let (query, word) = match words {
-        [query] => (query.as_str(), ""),
-        [query, word] => (query.as_str(), word.as_str()),
-        _ => return Ok(None),
-    };
-    let text = match query {
-        "get" => String::from_str(alloc, vars.get(word).unwrap_or("-"))?,
-        "loaded" => entries(alloc, vars)?,
-        "conflicts" => conflicts(alloc, vars, word)?,
-        "prereqs" => needs(alloc, vars, word)?,
-        "share_name" => share_name(alloc, word)?,
-        _ => match of_word(query, word) {
-            Some(holds) => String::from_str(alloc, if holds { "1" } else { "0" })?,
-            None => return Ok(None),
-        },
-    };
-    Ok(Some(text))
+    match question_named(words) {
+        Some(question) => answer(alloc, vars, question).map(Some),
+        None => Ok(None),
+    }
 }

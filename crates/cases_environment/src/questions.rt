@@ -5,21 +5,40 @@ use crate::{disks, processes, trees};
 use filetree::{DiskTree, MemoryTree};
 use std::io;
 
+/// The answer to a line, of a disk, of a tree in memory or of a process.
+fn answer_to(
+    rt: &HostRuntime,
+    disk: &mut DiskTree<HostRuntime>,
+    memory: &mut MemoryTree,
+    line: &str,
+) -> io::Result<String> {
+    let (what, rest) = parted(line);
+    match what {
+        "disk" => disks::answer(rt, disk, rest),
+        "told" => Ok(disks::told_answer(rt, rest)?),
+        "begins" => Ok(disks::begins_answer(rt, rest)?),
+        "memory" => Ok(trees::answer(rt.alloc(), memory, rest)?),
+        "process" => Ok(processes::answer(rt, rest)?),
+        _ => Ok(String::from_str(rt.alloc(), "bad line")?),
+    }
+}
+
+fn answer_line(
+    rt: &HostRuntime,
+    disk: &mut DiskTree<HostRuntime>,
+    memory: &mut MemoryTree,
+    line: &str,
+) -> io::Result<()> {
+    let answer = answer_to(rt, disk, memory, line)?;
+    println!(rt; "{line}: {answer}")
+}
+
 /// Answers lines, each shown before its answer.
 pub(crate) fn answer(rt: &HostRuntime, lines: &[String]) -> io::Result<()> {
     let mut disk = DiskTree::new(rt.clone()?);
     let mut memory = MemoryTree::new(rt.alloc());
     for line in lines {
-        let (what, rest) = parted(line);
-        let answer = match what {
-            "disk" => disks::answer(rt, &mut disk, rest)?,
-            "told" => disks::told_answer(rt, rest)?,
-            "begins" => disks::begins_answer(rt, rest)?,
-            "memory" => trees::answer(rt.alloc(), &mut memory, rest)?,
-            "process" => processes::answer(rt, rest)?,
-            _ => String::from_str(rt.alloc(), "bad line")?,
-        };
-        println!(rt; "{line}: {answer}")?;
+        answer_line(rt, &mut disk, &mut memory, line)?;
     }
     Ok(())
 }

@@ -48,17 +48,30 @@ fn made<V: Vars>(
     }
 }
 
+/// The answer of a call that is no edit, where it has left the variables.
+fn unless_lost(
+    alloc: Global,
+    are_lost: bool,
+    made: Result<Option<String>, EnvFault>,
+) -> Result<String, EnvFault> {
+    match made {
+        _ if are_lost => Ok(String::from_str(alloc, "the variables are lost")?),
+        Ok(Some(answer)) => Ok(answer),
+        Ok(None) => Ok(String::new(alloc)),
+        Err(fault) => Err(fault),
+    }
+}
+
 /// The answer of the environment: of an edit the variables after it. Whatever else it answers leaves them.
 fn changed(alloc: Global, env: &mut Env, words: &[String]) -> Result<(bool, String), EnvFault> {
     let before = shown(alloc, env)?;
     let made = made(alloc, env, words);
     let after = shown(alloc, env)?;
-    match made {
-        Ok(None) => Ok((true, after)),
-        _ if after != before => Ok((false, String::from_str(alloc, "the variables are lost")?)),
-        Ok(Some(answer)) => Ok((false, answer)),
-        Err(fault) => Err(fault),
+    if let Ok(None) = made {
+        return Ok((true, after));
     }
+    let answer = unless_lost(alloc, after != before, made)?;
+    Ok((false, answer))
 }
 
 /// The answer of both to a call.
