@@ -1,7 +1,9 @@
 """Cases over the built program: each makes a folder of its own, runs the program and compares what it wrote."""
 
 import os
+import resource
 import shutil
+import signal
 import subprocess
 import sys
 import tempfile
@@ -115,23 +117,29 @@ class Folder:
             given[name.encode()] = value
         return encoded(given)
 
-    def run(self, *words, env=None, stdout=subprocess.PIPE, stderr=subprocess.PIPE, close=(), user=None):
-        """Runs the program. `close` holds the numbers of the streams that are closed before."""
+    def run(
+        self, *words, env=None, given=None, stdin=subprocess.DEVNULL, stdout=subprocess.PIPE, stderr=subprocess.PIPE,
+        close=(), most=None, user=None,
+    ):  # fmt: skip
+        """Runs the program, which reads what is given, if something is. `close` holds the numbers of the streams that are
+        closed before, and a file takes `most` bytes and then fails."""
 
         def prepare():
             for number in close:
                 os.close(number)
+            if most is not None:
+                signal.signal(signal.SIGXFSZ, signal.SIG_IGN)
+                resource.setrlimit(resource.RLIMIT_FSIZE, (most, most))
 
-        options = {}
+        options = {"stdin": stdin} if given is None else {"input": given}
         if user is not None and os.geteuid() == 0:
-            options = {"user": user, "group": user, "extra_groups": []}
+            options.update(user=user, group=user, extra_groups=[])
         done = subprocess.run(
             [self.program, *[os.fsencode(word) for word in words]],
             env=self.environment() if env is None else env,
-            stdin=subprocess.DEVNULL,
             stdout=stdout,
             stderr=stderr,
-            preexec_fn=prepare if close else None,
+            preexec_fn=prepare if close or most is not None else None,
             timeout=SECONDS,
             check=False,
             **options,

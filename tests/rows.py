@@ -13,27 +13,12 @@ import subprocess
 import sys
 
 from harness import SECONDS, Failed, case, run_all, same, true
-from worked import FILES
+from worked import FILES, real, write
 
 SH = shutil.which("dash") or "/bin/sh"
 ENV = shutil.which("env")
-FOLDER = re.compile(rb"(?<![A-Za-z0-9_])/([mno])(?=[/:'&\n]|$)")
 LINE = re.compile(rb"([A-Za-z_][A-Za-z0-9_]*)='((?:[^']|'\\'')*)'; export \1;\n|unset ([A-Za-z_][A-Za-z0-9_]*);\n")
 OWN = (b"PWD", b"OLDPWD", b"_")
-
-
-def real(folder, text):
-    """The text with the folders of the row in place of `/m`, `/n` and `/o`."""
-    text = text if isinstance(text, bytes) else text.encode()
-    return FOLDER.sub(lambda found: os.path.join(folder.path, found[1]), text)
-
-
-def write(folder, path, text):
-    """Writes a modulefile, whose first line is the cookie."""
-    path = real(folder, path)
-    os.makedirs(os.path.dirname(path), exist_ok=True)
-    with open(path, "wb") as file:
-        file.write(b"#%Module\n" + real(folder, text))
 
 
 def printed(text):
@@ -563,6 +548,45 @@ def the_two_default_files(folder):
     for text in ("module-alias v ver/1.9\n", "catch {module-alias v ver/1.9}\n"):
         write(folder, "/n/ver/.modulerc", text)
         s.refuses("load ver", "Bad default file '/n/ver/.modulerc'")
+
+
+# Streams that fail.
+
+
+def fails_at_each_byte(session, line, stream, text, said):
+    """The stream takes every number of bytes short of the text, and fails; then it takes all. `said` is what is then on the
+    other one. Of a failed stream the beginning is there, and the program says so where it can."""
+    path = os.path.join(session.folder.path, b"taken")
+    for most in range(len(text) + 1):
+        with open(path, "wb") as file:
+            done = session.folder.run("sh", *line.split(), env=session.env, most=most, **{stream: file})
+        with open(path, "rb") as file:
+            same(file.read(), text[:most], f"what {most} bytes hold of {line}")
+        is_whole = most == len(text)
+        other = done.stderr if stream == "stdout" else done.stdout
+        failed = b"ERROR: Writing failed\n" if stream == "stdout" else b""
+        same(other, said if is_whole else failed, f"the other stream of {line}, at {most} bytes")
+        same(done.returncode, 0 if is_whole else 1, f"status of {line}, at {most} bytes")
+
+
+@case
+def a_standard_output_that_fails_at_each_byte(folder):
+    s = Session(folder, PATH="/usr/bin:/bin")
+    text = (
+        "FOO='on'; export FOO;\n"
+        "LOADEDMODULES='foo/1.0'; export LOADEDMODULES;\n"
+        "PATH='/opt/foo/bin:/usr/bin:/bin'; export PATH;\n"
+        "_LMFILES_='/m/foo/1.0'; export _LMFILES_;\n"
+    )
+    fails_at_each_byte(s, "load foo/1.0", "stdout", real(folder, text), b"")
+
+
+@case
+def a_standard_error_that_fails_at_each_byte(folder):
+    s = Session(folder, PATH="/usr/bin:/bin")
+    fails_at_each_byte(s, "list", "stderr", b"No Modulefiles Currently Loaded.\n", b"")
+    s.makes("load foo", FOO="on", PATH="/opt/foo/bin:/usr/bin:/bin")
+    fails_at_each_byte(s, "list", "stderr", b"Currently Loaded Modulefiles:\nfoo/1.0\n", b"")
 
 
 # Hostile files and variables.

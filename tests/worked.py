@@ -1,4 +1,7 @@
-"""The modulefiles of the worked rows."""
+"""The modulefiles of the worked rows, and how they are written into the folder of a row."""
+
+import os
+import re
 
 # By path, without the first line, which is `#%Module`. `/m` and `/n` stand for folders.
 FILES = {
@@ -26,3 +29,19 @@ FILES = {
     "/n/ver/1.10": "setenv V 1.10\n",
     "/n/ver/1.10-rc": "setenv V 1.10-rc\n",
 }
+
+FOLDER = re.compile(rb"(?<![A-Za-z0-9_])/([mno])(?=[/:'&\n]|$)")
+
+
+def real(folder, text):
+    """The text with the folders of the row in place of `/m`, `/n` and `/o`."""
+    text = text if isinstance(text, bytes) else text.encode()
+    return FOLDER.sub(lambda found: os.path.join(folder.path, found[1]), text)
+
+
+def write(folder, path, text):
+    """Writes a modulefile, whose first line is the cookie."""
+    path = real(folder, path)
+    os.makedirs(os.path.dirname(path), exist_ok=True)
+    with open(path, "wb") as file:
+        file.write(b"#%Module\n" + real(folder, text))
