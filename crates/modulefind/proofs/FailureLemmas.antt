@@ -1,5 +1,5 @@
 -- Where a call of several steps failed.
-use Rattle.std.proofs.Common.{◌≡◌, Bool, true, false, List, ℕ, Result, Ok, Err, refl, sym, subst, ◌∙◌}
+use Rattle.std.proofs.Common.{◌≡◌, Bool, true, false, List, ℕ, Result, Ok, Err, refl, subst, ◌∙◌}
 use Rattle.filetree.specs.Agreement.{FailsAt, FailsIf, is_device}
 use Rattle.filetree.specs.Answers.{fault_of_tree}
 use Rattle.filetree.specs.declared.tree.TreeFault.{TreeFault}

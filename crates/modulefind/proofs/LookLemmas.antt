@@ -1,12 +1,11 @@
 -- Where the steps of a search look.
-use Rattle.std.proofs.Common.{◌≡◌, ◌≢◌, ◌≤◌, ◌-◌, ◌⊎◌, true, List, ◌∷◌, length, get_or, map, take, drop, Option, Some, None, Result, Ok, Err, inl, inr, refl, sym, ap, ◌∙◌, subst}
+use Rattle.std.proofs.Common.{◌≡◌, ◌≤◌, ◌-◌, true, List, length, get_or, map, take, drop, Option, Some, None, Result, Ok, Err, inl, inr, refl, sym, ap, subst}
 use Rattle.std.specs.Prelude.{codes}
 use Rattle.modulename.specs.ModuleName.{Text}
 use Rattle.filetree.specs.Agreement.{Files, Listings}
 use Rattle.filetree.specs.Search.{Held, absent, no_cookie, not_utf8, script, modulefile, is_module, path_of}
-use Rattle.modulesearch.specs.Reasons.{Reason}
 use Rattle.modulesearch.specs.DefaultFiles.{Left, VersionIn, Names, by_command, by_variable}
-use Rattle.modulesearch.specs.Found.{FoundModule, IsModuleAt, IsCandidate, HasCandidates, IsOneOf, NamedDefault, Default, default_file}
+use Rattle.modulesearch.specs.Found.{IsModuleAt, IsCandidate, HasCandidates, IsOneOf, NamedDefault, Default, default_file}
 use Rattle.modulesearch.specs.Looked.{IsVersionIn, LooksBy, LooksForNamed, LooksInFolder, LooksBelow, Gives, LooksAlong}
 use Rattle.modulefind.specs.Steps.{module_in, module_at, DefaultIn, OfDefault, Below}
 use Rattle.modulefind.proofs.VersionLemmas.{split_first}

@@ -1,4 +1,4 @@
-use Rattle.std.proofs.Common.{◌<◌, ◌-◌, ◌∙◌, None, List, length, take, drop, [], ℕ, Bor, get_or, map, option_map, Ok, Err, refl, sym, subst, arith}
+use Rattle.std.proofs.Common.{◌<◌, ◌-◌, ◌∙◌, List, length, take, drop, [], ℕ, Bor, get_or, map, option_map, Ok, Err, refl, sym, subst, arith}
 use Rattle.std.proofs.lemmas.Result.{err_from_is_err_and}
 use Rattle.filetree.specs.Agreement.{InEachPair}
 use Rattle.modulesearch.specs.Found.{FoundAlong}

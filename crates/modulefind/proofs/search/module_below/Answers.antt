@@ -6,7 +6,7 @@ use Rattle.filetree.specs.Search.{modulefile, path_of}
 use Rattle.relations.specs.Relations.{Is}
 use Rattle.modulesearch.specs.Looked.{LooksInFolder, LooksBelow}
 use Rattle.modulefind.specs.Answers.{found_view, is_failure}
-use Rattle.modulefind.specs.Steps.{module_in, module_at, DefaultIn, Below}
+use Rattle.modulefind.specs.Steps.{module_at, DefaultIn, Below}
 use Rattle.modulefind.proofs.FailureLemmas.{fails_then, fails_last}
 use Rattle.modulefind.proofs.LookLemmas.{not_at, default_looked}
 use Rattle.modulefind.proofs.StepLemmas.{tells_fault, tells_weaker, below_first, below_default, below_fault}

@@ -1,10 +1,10 @@
-use Rattle.std.proofs.Common.{◌≡◌, List, ℕ, Bor, [], get_or, map, true, false, Some, refl, sym, ap, ◌∙◌, arith}
+use Rattle.std.proofs.Common.{◌≡◌, List, ℕ, Bor, [], get_or, map, refl, ◌∙◌, arith}
 use Rattle.std.proofs.lemmas.Result.{err_from_is_err_and}
 use Rattle.filetree.specs.Agreement.{InEachPair, is_device}
 use Rattle.filetree.specs.Search.{path_of}
 use Rattle.modulefind.specs.Versions.{is_module_in, LooksDown}
 use Rattle.modulefind.proofs.FailureLemmas.{fails_then}
-use Rattle.modulefind.proofs.VersionLemmas.{find_first, find_later, looks_first, looks_later}
+use Rattle.modulefind.proofs.VersionLemmas.{find_later, looks_first, looks_later}
 use Rattle.modulefind.proofs.versions.first_module.Goals as goal
 
 nothing : Bor (List ℕ)
