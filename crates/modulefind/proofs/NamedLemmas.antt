@@ -5,6 +5,7 @@ use Rattle.filetree.specs.Agreement.{Files, Listings}
 use Rattle.modulesearch.specs.Reasons.{Reason}
 use Rattle.modulesearch.specs.DefaultFiles.{Left}
 use Rattle.modulesearch.specs.Found.{IsCandidate, IsOneOf, NamedDefault}
+use Rattle.modulesearch.specs.Looked.{PassesOn}
 use Rattle.modulefind.specs.declared.sayings.DefaultFile.{DefaultFile}
 use Rattle.modulefind.specs.declared.sayings.DefaultFile.TheVariants.{Modulerc, Version}
 use Rattle.modulefind.specs.Sayings.{NamedBy}
@@ -12,14 +13,20 @@ use Rattle.modulefind.specs.Sayings.{NamedBy}
 same_value : (x y : Option Text) (o p : Result (Option Text) Reason) → o ≡ Ok x → p ≡ Ok y → o ≡ p → x ≡ y
 same_value x y o p h k e = cc
 
--- `.version` is asked where `.modulerc` names no candidate
-pub named_second : (leaves : Text → Text → Option Left → Type 0) (files : Files) (listings : Listings) (dir name : Text) (o : Result (Option Text) Reason)
-    → NamedBy leaves files listings dir name Modulerc (Ok None) → NamedBy leaves files listings dir name Version o → NamedDefault leaves files listings dir name o
-named_second leaves files listings dir name o (Ok first, names, rest) second = (Ok first, names, inr (no, second))
+-- `.modulerc` passes on to `.version`
+pub passes_on : (leaves : Text → Text → Option Left → Type 0) (files : Files) (listings : Listings) (dir name : Text)
+    → NamedBy leaves files listings dir name Modulerc (Ok None) → PassesOn leaves files listings dir name
+passes_on leaves files listings dir name (Ok first, names, rest) = (first, names, no)
   where
     no : IsOneOf (IsCandidate files listings dir name) first → ⊥
     no h = ⊎_elim (λ c. let e : first ≡ None = same_value first None (Ok first) (Ok None) refl refl (sym c.1) in subst (IsOneOf (IsCandidate files listings dir name)) e h) (λ c. c.0 h) rest
-named_second leaves files listings dir name o (Err r, names, rest) second = absurd (cc)
+passes_on leaves files listings dir name (Err r, names, rest) = absurd (cc)
+
+-- `.version` is asked where `.modulerc` names no candidate
+pub named_second : (leaves : Text → Text → Option Left → Type 0) (files : Files) (listings : Listings) (dir name : Text) (o : Result (Option Text) Reason)
+    → NamedBy leaves files listings dir name Modulerc (Ok None) → NamedBy leaves files listings dir name Version o → NamedDefault leaves files listings dir name o
+named_second leaves files listings dir name o first second =
+    let p = passes_on leaves files listings dir name first in (Ok p.0, p.1, inr (p.2, second))
 
 named_by_candidate : (leaves : Text → Text → Option Left → Type 0) (files : Files) (listings : Listings) (dir name v : Text) (file : DefaultFile)
     → NamedBy leaves files listings dir name file (Ok (Some v)) → IsCandidate files listings dir name v

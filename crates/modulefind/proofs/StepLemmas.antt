@@ -107,6 +107,12 @@ Continues leaves files listings name dirs (Ok None) o = FoundAlong leaves files 
 Continues leaves files listings name dirs (Ok (Some m)) o = o ≡ Ok m
 Continues leaves files listings name dirs (Err r) o = o ≡ Err r
 
+module _ (leaves : Text → Text → Option Left → Type 0) (files : Files) (listings : Listings) (dir name : Text) where
+  pub default_is_candidate : (v : Text) → Default leaves files listings dir name (Ok v) → IsCandidate files listings dir name v
+  default_is_candidate v (Ok (Some w), h, e) = subst (IsCandidate files listings dir name) (sym (same_ok v w (Ok v) (Ok w) refl refl e)) (named_is_candidate leaves files listings dir name w h)
+  default_is_candidate v (Ok None, h, (w, greatest, e)) = subst (IsCandidate files listings dir name) (sym (same_ok v w (Ok v) (Ok w) refl refl e)) greatest.member
+  default_is_candidate v (Err r, h, e) = absurd (cc)
+
 module _ (leaves : Text → Text → Option Left → Type 0) (files : Files) (listings : Listings) (dir name : Text) (dirs : List Text) where
   given_read : (full path : Text) (held : Held) → is_module held ≡ true → (given : Result (Option FoundModule) Reason) (o : Result FoundModule Reason)
       → given ≡ module_in full path held → Continues leaves files listings name dirs given o → o ≡ read full path held
@@ -115,11 +121,6 @@ module _ (leaves : Text → Text → Option Left → Type 0) (files : Files) (li
   given_read full path not_utf8 m given o e k = subst (λ x. Continues leaves files listings name dirs x o) e k
   given_read full path (script text) m given o e k = subst (λ x. Continues leaves files listings name dirs x o) e k
 
-  default_is_candidate : (v : Text) → Default leaves files listings dir name (Ok v) → IsCandidate files listings dir name v
-  default_is_candidate v (Ok (Some w), h, e) = subst (IsCandidate files listings dir name) (sym (same_ok v w (Ok v) (Ok w) refl refl e)) (named_is_candidate leaves files listings dir name w h)
-  default_is_candidate v (Ok None, h, (w, greatest, e)) = subst (IsCandidate files listings dir name) (sym (same_ok v w (Ok v) (Ok w) refl refl e)) greatest.member
-  default_is_candidate v (Err r, h, e) = absurd (cc)
-
   along_default : (v : Option Text) (given : Result (Option FoundModule) Reason) (o : Result FoundModule Reason) → DefaultIn leaves files listings dir name (Ok v) → OfDefault files dir name v given
       → Continues leaves files listings name dirs given o
       → Where (HasCandidates files listings dir name) (Then (Default leaves files listings dir name) (λ w. At files dir (path_of name w))) (FoundAlong leaves files listings name dirs) o
@@ -127,7 +128,7 @@ module _ (leaves : Text → Text → Option Left → Type 0) (files : Files) (li
       let q : v ≡ Some w = same_ok v (Some w) (Ok v) (Ok (Some w)) refl refl e in
       let at : given ≡ module_at files dir (path_of name w) = subst (λ x. OfDefault files dir name x given) q of in
       let path = path_of dir (path_of name w) in
-      inl (c, (Ok w, default, given_read (path_of name w) path (modulefile (files path)) (default_is_candidate w default).file given o at k))
+      inl (c, (Ok w, default, given_read (path_of name w) path (modulefile (files path)) (default_is_candidate leaves files listings dir name w default).file given o at k))
   along_default v given o (inl (c, (Err r, default, e))) of k = absurd (cc)
   along_default v given o (inr (none, e)) of k =
       let q : v ≡ None = same_ok v None (Ok v) (Ok None) refl refl e in

@@ -1,5 +1,5 @@
 -- The first of some versions, from the greatest down, that is a module is the greatest candidate.
-use Rattle.std.proofs.Common.{◌≡◌, ℕ, suc, ◌≤◌, ◌<◌, ◌-◌, Bool, true, false, cond, List, [], ◌∷◌, length, get_or, map, take, drop, filter, find, Option, Some, None, Ordering, Less, Equal, Greater, refl, sym, ap, ◌∙◌, subst, ⊎_elim, arith}
+use Rattle.std.proofs.Common.{◌≡◌, ℕ, suc, ◌≤◌, ◌<◌, ◌-◌, Bool, true, false, cond, List, [], ◌∷◌, length, get_or, map, take, drop, filter, find, Option, Some, None, Ordering, Less, Equal, Greater, inl, inr, refl, sym, ap, ◌∙◌, subst, ⊎_elim, arith}
 use Rattle.std.specs.Prelude.{bytes_eq, if◌then◌else◌}
 use Rattle.std.specs.Cmp.{IsStrictWeakOrder}
 use Rattle.std.specs.List.{list_any, Contains, AllByRecursion}
@@ -19,7 +19,8 @@ use Rattle.filetree.specs.Agreement.{Files, Listings}
 use Rattle.filetree.specs.Search.{path_of}
 use Rattle.modulesearch.specs.Single.{is_single}
 use Rattle.modulesearch.specs.Found.{IsCandidate}
-use Rattle.modulefind.specs.Versions.{is_version, is_module_in, goes_before, IsGreatestOf}
+use Rattle.modulesearch.specs.Looked.{IsVersionIn, LooksForGreatest}
+use Rattle.modulefind.specs.Versions.{is_version, is_module_in, goes_before, IsGreatestOf, LooksDown}
 
 abbrev pub has : Text → List Text → Bool
 has v xs = list_any (bytes_eq v) xs
@@ -142,6 +143,36 @@ module _ {X : Type 0} (view : X → Text) (p : Text → Bool) (d : X) (rest : Li
       let more = map view (take (length rest - 1) (drop 1 rest)) in
       ap (find p) (split_first view d rest some) ∙ ap (λ t. cond t (Some (view (get_or rest 0 d))) (find p more)) e
 
+-- of versions from the greatest down, where the first that is a module is looked for
+module _ {X : Type 0} (view : X → Text) (files : Files) (dir name : Text) where
+  looked_down : (xs : List X) (at : Text) → Down view xs → LooksDown files dir name (map view xs) at
+      → (v : Text) × (has v (map view xs) ≡ true) × ((w : Text) → has w (map view xs) ≡ true → is_module_in files dir name w ≡ true → is_le (version_order w v) ≡ true)
+      × (at ≡ path_of dir (path_of name v))
+  looked_down [] at d h = absurd h
+  looked_down (x ∷ xs) at d (inl e) = (
+    view x,
+    or_left (bytes_eq (view x) (view x)) (has (view x) (map view xs)) (itself (view x)),
+    λ w h k. ⊎_elim (λ q. subst (λ z. is_le (version_order z (view x)) ≡ true) (sym (same w (view x) q)) (le_itself (view x)))
+        (λ q. later_is_le (view x) w (after_first view w (view x) xs d.0 q)) (or_cases (bytes_eq w (view x)) (has w (map view xs)) h),
+    e,
+  )
+  looked_down (x ∷ xs) at d (inr (passed, h)) =
+      let (v, there, last, e) = looked_down xs at d.1 h in (
+        v,
+        or_right (bytes_eq v (view x)) (has v (map view xs)) there,
+        λ w m k. ⊎_elim (λ q. absurd (let g : true ≡ false = sym k ∙ ap (is_module_in files dir name) (same w (view x) q) ∙ passed in cc)) (λ q. last w q k)
+            (or_cases (bytes_eq w (view x)) (has w (map view xs)) m),
+        e,
+      )
+
+  module _ (d : X) (rest : List X) (some : 1 ≤ length rest) (at : Text) where
+    pub looks_first : at ≡ path_of dir (path_of name (view (get_or rest 0 d))) → LooksDown files dir name (map view rest) at
+    looks_first e = subst (λ vs. LooksDown files dir name vs at) (sym (split_first view d rest some)) (inl e)
+
+    pub looks_later : is_module_in files dir name (view (get_or rest 0 d)) ≡ false → LooksDown files dir name (map view (take (length rest - 1) (drop 1 rest))) at
+        → LooksDown files dir name (map view rest) at
+    looks_later e h = subst (λ vs. LooksDown files dir name vs at) (sym (split_first view d rest some)) (inr (e, h))
+
 same_entries : (entries others : List Text) (o : Option (List Text)) → o ≡ Some entries → o ≡ Some others → others ≡ entries
 same_entries entries others o e f = cc
 
@@ -157,6 +188,17 @@ module _ (files : Files) (listings : Listings) (dir name : Text) (entries : List
 
   is_entry_of : (v : Text) → IsCandidate files listings dir name v → has v entries ≡ true
   is_entry_of v c = ap (has v) (sym (same_entries entries c.entry.0 (listings (path_of dir name)) listed c.entry.1)) ∙ c.entry.2
+
+  pub version_from : (v : Text) → has v entries ≡ true → is_version name v ≡ true → IsVersionIn listings dir name v
+  version_from v h k =
+      let p = and_parts (is_single v) (is_module_name (path_of name v)) k in record { entry = (entries, listed, h); single = p.0; spelled = p.1 }
+
+  -- an entry can be a version
+  pub some_version : list_any (is_version name) entries ≡ true → (v : Text) × IsVersionIn listings dir name v
+  some_version h = let (k, v, lt, at, q) = Any-from_list_any (is_version name) entries h in (v, version_from v (has_from_place v k lt at) q)
+    where
+      has_from_place : (v : Text) (k : ℕ) → k < length entries → get_or entries k v ≡ v → has v entries ≡ true
+      has_from_place v k lt at = has_from v entries (k, lt, at)
 
   -- no entry can be a version
   pub no_candidates : list_any (is_version name) entries ≡ false → IsGreatestOf files listings dir name None
@@ -186,3 +228,16 @@ module _ (files : Files) (listings : Listings) (dir name : Text) (entries : List
       (λ v h. ap (has v) (sym made) ∙ has_permutation v (map view sorted) (map view versions) back h)
       (λ v h. has_permutation v (map view versions) (map view sorted) there (ap (has v) made ∙ h))
       o (subst (IsFirstDown (is_module_in files dir name) (map view sorted)) (sym found) (first_down view (is_module_in files dir name) sorted (down_from view sorted far)))
+
+  pub greatest_looked : {X : Type 0} (view : X → Text) (versions sorted : List X) → map view versions ≡ filter (is_version name) entries → IsPermutation versions sorted
+      → IsSortedBy (λ v w. goes_before (view v) (view w)) sorted → (at : Text) → LooksDown files dir name (map view sorted) at → LooksForGreatest files listings dir name at
+  greatest_looked view versions sorted made moved up at h =
+      let there = IsPermutation-map view versions sorted moved in
+      let back = IsPermutation-sym (map view versions) (map view sorted) there in
+      let far : Far view sorted = sorted_far (λ v w. goes_before (view v) (view w)) (down_order view) sorted up in
+      let (v, here, last, e) = looked_down view files dir name sorted at (down_from view sorted far) h in
+      let p = in_filter (is_version name) v entries (ap (has v) (sym made) ∙ has_permutation v (map view sorted) (map view versions) back here) in (
+        v,
+        (version_from v p.0 p.1, e),
+        λ w c. last w (has_permutation w (map view versions) (map view sorted) there (ap (has w) made ∙ filter_has (is_version name) w entries (is_entry_of w c) (is_version_of w c))) c.file,
+      )

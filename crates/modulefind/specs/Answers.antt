@@ -1,5 +1,5 @@
 -- How the answers of a search show what the definitions say.
-use Rattle.std.specs.Prelude.{Result, string_bytes}
+use Rattle.std.specs.Prelude.{Bool, true, false, Result, string_bytes}
 use Rattle.filetree.specs.Agreement.{Files, Listings}
 use Rattle.filetree.specs.Causes as causes
 use Rattle.filetree.specs.Causes.{Cause, memory, device, because}
@@ -17,6 +17,15 @@ cause_of (faults.NotFound name) = because (not_found (string_bytes name))
 cause_of (faults.BadName name) = because (bad_name (string_bytes name))
 cause_of (faults.BadDefaultFile path) = because (bad_default (string_bytes path))
 cause_of (faults.NotUtf8 path) = because (not_utf8_at (string_bytes path))
+
+-- the fault of a device that failed
+abbrev pub is_failure : FindFault → Bool
+is_failure faults.OutOfMemory = false
+is_failure faults.Device = true
+is_failure (faults.NotFound name) = false
+is_failure (faults.BadName name) = false
+is_failure (faults.BadDefaultFile path) = false
+is_failure (faults.NotUtf8 path) = false
 
 -- what a call over a tree tells, whose faults are those of the search
 abbrev pub Tells : {X Y : Type 0} → (Files → Listings → Type 0) → Type 0 → (X → Y) → Result X FindFault

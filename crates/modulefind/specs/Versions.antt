@@ -1,5 +1,5 @@
 -- Versions in a folder, from the greatest down.
-use Rattle.std.specs.Prelude.{Bool, ◌&&◌, Option, Some, None}
+use Rattle.std.specs.Prelude.{◌≡◌, ◌⊎◌, Bool, false, ◌&&◌, List, [], ◌∷◌, Option, Some, None}
 use Rattle.std.specs.Ordering.{is_lt}
 use Rattle.modulename.specs.ModuleName.{Text, is_module_name}
 use Rattle.moduleversion.specs.Versions.{version_order, IsGreatest}
@@ -24,3 +24,10 @@ goes_before v w = is_lt (version_order w v)
 abbrev pub IsGreatestOf : Files → Listings → Text → Text → Option Text → Type 0
 IsGreatestOf files listings dir name None = HasCandidates files listings dir name → ⊥
 IsGreatestOf files listings dir name (Some v) = IsGreatest (IsCandidate files listings dir name) v
+
+-- the files of versions, one after the other, up to the first that is a module
+abbrev pub LooksDown : Files → Text → Text → List Text → Text → Type 0
+LooksDown files dir name [] at = ⊥
+LooksDown files dir name (v ∷ vs) at =
+    (at ≡ path_of dir (path_of name v))
+    ⊎ ((is_module_in files dir name v ≡ false) × LooksDown files dir name vs at)

@@ -1,6 +1,7 @@
 //! Candidates of a name.
 ghost use Rattle.std.specs.Prelude.{◌≡◌, IfOk};
-ghost use Rattle.filetree.specs.Agreement.{Files, Listings, Narrows, InEachPair, HasCause};
+ghost use Rattle.filetree.specs.Agreement.{FailsAt, Files, Listings, Narrows, InEachPair, HasCause, is_device};
+ghost use Rattle.filetree.specs.Search.{path_of};
 ghost use Rattle.modulefind.specs.Versions.{is_module_in};
 
 use crate::paths::path_of;
@@ -19,6 +20,8 @@ pub(crate) fn is_module_in<T: Tree>(
     ensures answer { IfOk result (λ r. InEachPair (T.agrees tree.new) (λ files listings.
         is_module_in files dir.now name.now version.now ≡ r)) }
     ensures cause { HasCause (T.failures tree.old) (T.failures tree.new) result }
+    ensures failed { FailsAt is_device (T.failed tree.old) (T.failed tree.new) result (λ at.
+        at ≡ path_of dir.now (path_of name.now version.now)) }
 {
     let full = path_of(alloc, name, version)?;
     let path = path_of(alloc, dir, &full)?;

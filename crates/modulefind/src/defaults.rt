@@ -1,9 +1,10 @@
 //! The candidate that the default files of a folder name.
 ghost use Rattle.std.specs.Prelude.{◌≡◌, map, Some, IfOk, string_bytes};
-ghost use Rattle.filetree.specs.Agreement.{Files, Listings, InEachPair, HasCause};
+ghost use Rattle.filetree.specs.Agreement.{FailsAt, Files, Listings, InEachPair, HasCause, is_device};
 ghost use Rattle.filetree.specs.Search.{path_of};
 ghost use Rattle.modulesearch.specs.DefaultFiles.{Names, said};
 ghost use Rattle.modulesearch.specs.Found.{IsCandidate, NamedDefault, default_file};
+ghost use Rattle.modulesearch.specs.Looked.{LooksAtVersion, LooksBy, LooksForNamed};
 ghost use Rattle.modulefind.specs.Sayings.{file_name, says, said_view, named_view, IsCandidateIfAny, NamedBy};
 ghost use Rattle.std.specs.Option.{option_map};
 ghost use Rattle.modulesearch.specs.Ended.{ended_view};
@@ -72,6 +73,8 @@ fn said_by<T: Tree, D: DefaultFiles>(
         Names (D.leaves default_files.now) files (says file name.now)
         (default_file dir.now name.now (file_name file)) (said_view s))) }
     ensures cause { HasCause (T.failures tree.old) (T.failures tree.new) result }
+    ensures failed { FailsAt is_device (T.failed tree.old) (T.failed tree.new) result (λ at.
+        at ≡ default_file dir.now name.now (file_name file)) }
 {
     let folder = path_of(alloc, dir, name)?;
     let path = path_of(alloc, &folder, file.file_name())?;
@@ -101,6 +104,9 @@ fn candidate_of<T: Tree>(
     ensures answer { IfOk result (λ r. InEachPair (T.agrees tree.new) (λ files listings.
         IsCandidateIfAny (IsCandidate files listings dir.now name.now) (string_bytes version) (option_map string_bytes r))) }
     ensures cause { HasCause (T.failures tree.old) (T.failures tree.new) result }
+    ensures failed { FailsAt is_device (T.failed tree.old) (T.failed tree.new) result (λ at.
+        InEachPair (T.agrees tree.new) (λ files listings.
+        LooksAtVersion listings dir.now name.now (string_bytes version) at)) }
 {
     if !has(entries, &version) || !is_version(alloc, name, &version)? {
         return Ok(None);
@@ -128,6 +134,9 @@ fn named_by<T: Tree, D: DefaultFiles>(
     ensures answer { IfOk result (λ n. InEachPair (T.agrees tree.new) (λ files listings.
         NamedBy (D.leaves default_files.now) files listings dir.now name.now file (named_view n))) }
     ensures cause { HasCause (T.failures tree.old) (T.failures tree.new) result }
+    ensures failed { FailsAt is_device (T.failed tree.old) (T.failed tree.new) result (λ at.
+        InEachPair (T.agrees tree.new) (λ files listings. LooksBy (D.leaves default_files.now) files listings
+        dir.now name.now (says file name.now) (file_name file) at)) }
 {
     match said_by(alloc, tree, default_files, dir, name, file)? {
         Said::Nothing => Ok(Named::Nothing),
@@ -158,6 +167,9 @@ pub fn named_default<T: Tree, D: DefaultFiles>(
     ensures answer { IfOk result (λ n. InEachPair (T.agrees tree.new) (λ files listings.
         NamedDefault (D.leaves default_files.now) files listings dir.now name.now (named_view n))) }
     ensures cause { HasCause (T.failures tree.old) (T.failures tree.new) result }
+    ensures failed { FailsAt is_device (T.failed tree.old) (T.failed tree.new) result (λ at.
+        InEachPair (T.agrees tree.new) (λ files listings.
+        LooksForNamed (D.leaves default_files.now) files listings dir.now name.now at)) }
 {
     match named_by(
         alloc,

@@ -1,13 +1,14 @@
 //! The search for a module along MODULEPATH.
-ghost use Rattle.std.specs.Prelude.{◌≡◌, ◌<◌, ◌≤◌, map, false, Some, IfOk, string_bytes};
+ghost use Rattle.std.specs.Prelude.{◌≡◌, ◌⊎◌, ◌<◌, ◌≤◌, map, false, Some, IfOk, string_bytes};
 ghost use Rattle.std.specs.Option.{option_map};
 ghost use Rattle.modulename.specs.ModuleName.{is_module_name};
-ghost use Rattle.filetree.specs.Agreement.{Files, Listings, InEachPair};
+ghost use Rattle.filetree.specs.Agreement.{FailsAt, Files, Listings, InEachPair};
 ghost use Rattle.filetree.specs.Search.{path_of, directories};
 ghost use Rattle.relations.specs.Relations.{Is};
 ghost use Rattle.modulesearch.specs.Found as meaning;
 ghost use Rattle.filetree.specs.Answers.{modulefile_view};
-ghost use Rattle.modulefind.specs.Answers.{Tells, found_view};
+ghost use Rattle.modulesearch.specs.Looked.{LooksInFolder, LooksBelow, LooksAlong, LooksAt};
+ghost use Rattle.modulefind.specs.Answers.{Tells, found_view, is_failure};
 ghost use Rattle.modulefind.specs.Steps.{caused, because_of, module_in, module_at, DefaultIn, Below};
 
 use crate::defaults::{Named, named_default};
@@ -53,6 +54,8 @@ fn module_at<T: Tree>(
     ensures later { T.failures tree.old ≤ T.failures tree.new }
     ensures told { Tells (T.agrees tree.new) (T.failures tree.old < T.failures tree.new) (option_map found_view) result
         (λ files listings. Is (module_at files dir.now name.now)) }
+    ensures failed { FailsAt is_failure (T.failed tree.old) (T.failed tree.new) result (λ at.
+        at ≡ path_of dir.now name.now) }
 {
     let path = path_of(alloc, dir, name)?;
     let file = read_modulefile(tree, &path)?;
@@ -75,6 +78,9 @@ fn default_of<T: Tree, D: DefaultFiles>(
     ensures later { T.failures tree.old ≤ T.failures tree.new }
     ensures told { Tells (T.agrees tree.new) (T.failures tree.old < T.failures tree.new) (option_map string_bytes) result
         (λ files listings. DefaultIn (D.leaves default_files.now) files listings dir.now name.now) }
+    ensures failed { FailsAt is_failure (T.failed tree.old) (T.failed tree.new) result (λ at.
+        InEachPair (T.agrees tree.new) (λ files listings.
+        LooksInFolder (D.leaves default_files.now) files listings dir.now name.now at)) }
 {
     if !has_version(alloc, name, entries)? {
         return Ok(None);
@@ -101,6 +107,9 @@ fn default_in<T: Tree, D: DefaultFiles>(
     ensures later { T.failures tree.old ≤ T.failures tree.new }
     ensures told { Tells (T.agrees tree.new) (T.failures tree.old < T.failures tree.new) (option_map string_bytes) result
         (λ files listings. DefaultIn (D.leaves default_files.now) files listings dir.now name.now) }
+    ensures failed { FailsAt is_failure (T.failed tree.old) (T.failed tree.new) result (λ at.
+        InEachPair (T.agrees tree.new) (λ files listings. (at ≡ path_of dir.now name.now)
+        ⊎ LooksInFolder (D.leaves default_files.now) files listings dir.now name.now at)) }
 {
     let folder = path_of(alloc, dir, name)?;
     match tree.entries(&folder)? {
@@ -121,6 +130,9 @@ fn module_below<T: Tree, D: DefaultFiles>(
     ensures later { T.failures tree.old ≤ T.failures tree.new }
     ensures told { Tells (T.agrees tree.new) (T.failures tree.old < T.failures tree.new) (option_map found_view) result
         (λ files listings. Below (D.leaves default_files.now) files listings dir.now name.now) }
+    ensures failed { FailsAt is_failure (T.failed tree.old) (T.failed tree.new) result (λ at.
+        InEachPair (T.agrees tree.new) (λ files listings.
+        LooksBelow (D.leaves default_files.now) files listings dir.now name.now at)) }
 {
     if let Some(found) = module_at(alloc, tree, dir, name)? {
         return Ok(Some(found));
@@ -157,6 +169,9 @@ fn module_along<T: Tree, D: DefaultFiles>(
     ensures told { Tells (T.agrees tree.new) (T.failures tree.old < T.failures tree.new) found_view result
         (λ files listings. meaning.FoundAlong (D.leaves default_files.now) files listings name.now
         (map (λ dir. dir.now) dirs.now)) }
+    ensures failed { FailsAt is_failure (T.failed tree.old) (T.failed tree.new) result (λ at.
+        InEachPair (T.agrees tree.new) (λ files listings.
+        LooksAlong (D.leaves default_files.now) files listings name.now (map (λ dir. dir.now) dirs.now) at)) }
 {
     let mut rest = dirs;
     while let [dir, after @ ..] = rest {
@@ -174,8 +189,8 @@ fn module_along<T: Tree, D: DefaultFiles>(
 ///
 /// It fails with `BadName` exactly where the name is ill-spelled, before anything is read; with `NotFound` where no
 /// directory gives a module; with `BadDefaultFile` where a default file of the folder that was meant has a fault;
-/// with `NotUtf8` where the module found is not UTF-8; with `Device` only where the device failed in this call; and
-/// with `OutOfMemory`.
+/// with `NotUtf8` where the module found is not UTF-8; with `Device` only where the device failed in this call, at a
+/// path that the search for this name looks at; and with `OutOfMemory`.
 pub fn locate<T: Tree, D: DefaultFiles>(
     alloc: Global,
     tree: &mut T,
@@ -187,6 +202,9 @@ pub fn locate<T: Tree, D: DefaultFiles>(
     ensures later { T.failures tree.old ≤ T.failures tree.new }
     ensures told { Tells (T.agrees tree.new) (T.failures tree.old < T.failures tree.new) found_view result
         (λ files listings. meaning.Found (D.leaves default_files.now) files listings modulepath.now name.now) }
+    ensures failed { FailsAt is_failure (T.failed tree.old) (T.failed tree.new) result (λ at.
+        InEachPair (T.agrees tree.new) (λ files listings.
+        LooksAt (D.leaves default_files.now) files listings modulepath.now name.now at)) }
     ensures unread { is_module_name name.now ≡ false → tree.new ≡ tree.old }
 {
     if !is_module_name(name) {

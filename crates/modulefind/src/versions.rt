@@ -3,9 +3,10 @@ ghost use Rattle.std.specs.Prelude.{◌≡◌, map, filter, find, Some, OnOk, If
 ghost use Rattle.std.specs.List.{list_any};
 ghost use Rattle.std.specs.List.Sorted.{IsPermutation, IsSortedBy};
 ghost use Rattle.std.specs.Option.{option_map};
-ghost use Rattle.filetree.specs.Agreement.{Files, Listings, InEachPair, HasCause};
+ghost use Rattle.filetree.specs.Agreement.{FailsAt, Files, Listings, InEachPair, HasCause, is_device};
 ghost use Rattle.filetree.specs.Search.{path_of};
-ghost use Rattle.modulefind.specs.Versions.{is_version, is_module_in, goes_before, IsGreatestOf};
+ghost use Rattle.modulesearch.specs.Looked.{LooksForGreatest};
+ghost use Rattle.modulefind.specs.Versions.{is_version, is_module_in, goes_before, IsGreatestOf, LooksDown};
 
 use crate::candidates::is_module_in;
 use crate::paths::{is_single, path_of};
@@ -81,6 +82,9 @@ fn first_module<T: Tree>(
     ensures answer { IfOk result (λ r. InEachPair (T.agrees tree.new) (λ files listings.
         option_map string_bytes r ≡ find (is_module_in files dir.now name.now) (map (λ v. v.now) versions.now))) }
     ensures cause { HasCause (T.failures tree.old) (T.failures tree.new) result }
+    ensures failed { FailsAt is_device (T.failed tree.old) (T.failed tree.new) result (λ at.
+        InEachPair (T.agrees tree.new) (λ files listings.
+        LooksDown files dir.now name.now (map (λ v. v.now) versions.now) at)) }
 {
     let mut rest = versions;
     while let [version, after @ ..] = rest {
@@ -109,6 +113,8 @@ pub(crate) fn greatest_candidate<T: Tree>(
     ensures answer { IfOk result (λ r. InEachPair (T.agrees tree.new) (λ files listings.
         IsGreatestOf files listings dir.now name.now (option_map string_bytes r))) }
     ensures cause { HasCause (T.failures tree.old) (T.failures tree.new) result }
+    ensures failed { FailsAt is_device (T.failed tree.old) (T.failed tree.new) result (λ at.
+        InEachPair (T.agrees tree.new) (λ files listings. LooksForGreatest files listings dir.now name.now at)) }
 {
     let mut versions = versions_in(alloc, name, entries)?;
     sort_down(&mut versions)?;

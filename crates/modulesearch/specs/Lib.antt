@@ -3,4 +3,5 @@ pub mod DefaultFiles
 pub mod Single
 pub mod Found
 pub mod Listed
+pub mod Looked
 pub mod Ended

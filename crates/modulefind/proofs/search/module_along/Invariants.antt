@@ -1,7 +1,8 @@
-use Rattle.std.proofs.Common.{◌≤◌, Result, length, map}
+use Rattle.std.proofs.Common.{◌≡◌, ◌≤◌, List, ℕ, Result, length, map}
 use Rattle.filetree.specs.Agreement.{InEachPair}
 use Rattle.modulesearch.specs.Reasons.{Reason}
 use Rattle.modulesearch.specs.Found.{FoundModule, FoundAlong}
+use Rattle.modulesearch.specs.Looked.{LooksAlong}
 use Rattle.modulefind.proofs.search.module_along.Given as goal
 
 abbrev pub invariant-loop-rest : goal.invariant-loop-rest
@@ -11,6 +12,10 @@ invariant-loop-rest g l = record {
       → FoundAlong (g.D.DefaultFiles.leaves l.default_files) files listings l.name (map (λ dir. dir.now) l.rest) o
       → FoundAlong (g.D.DefaultFiles.leaves l.default_files) files listings l.name (map (λ dir. dir.now) l.dirs) o);
   later : g.T.Tree.failures l.initial.tree ≤ g.T.Tree.failures l.tree;
+  unfailed : g.T.Tree.failed l.tree ≡ g.T.Tree.failed l.initial.tree;
+  looked : InEachPair (g.T.Tree.agrees l.tree) (λ files listings. (at : List ℕ)
+      → LooksAlong (g.D.DefaultFiles.leaves l.default_files) files listings l.name (map (λ dir. dir.now) l.rest) at
+      → LooksAlong (g.D.DefaultFiles.leaves l.default_files) files listings l.name (map (λ dir. dir.now) l.dirs) at);
 }
 
 abbrev pub decreases-loop-rest : goal.decreases-loop-rest

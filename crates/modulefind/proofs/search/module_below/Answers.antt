@@ -1,10 +1,14 @@
-use Rattle.std.proofs.Common.{◌≡◌, ◌<◌, ◌∙◌, Ok, Err, Some, None, option_map, string_bytes, refl, sym, ap, subst, arith}
+use Rattle.std.proofs.Common.{◌≡◌, ◌<◌, ◌⊎◌, ◌∙◌, inl, inr, ⊎_elim, Ok, Err, Some, None, option_map, string_bytes, refl, sym, ap, subst, arith}
 use Rattle.std.specs.declared.alloc.Global.{Global}
 use Rattle.std.proofs.lemmas.Result.{err_from_is_err_and}
+use Rattle.filetree.specs.Agreement.{InEachPair}
 use Rattle.filetree.specs.Search.{modulefile, path_of}
 use Rattle.relations.specs.Relations.{Is}
-use Rattle.modulefind.specs.Answers.{found_view}
-use Rattle.modulefind.specs.Steps.{module_in, module_at, DefaultIn, Below}
+use Rattle.modulesearch.specs.Looked.{LooksInFolder, LooksBelow}
+use Rattle.modulefind.specs.Answers.{found_view, is_failure}
+use Rattle.modulefind.specs.Steps.{module_at, DefaultIn, Below}
+use Rattle.modulefind.proofs.FailureLemmas.{fails_then, fails_last}
+use Rattle.modulefind.proofs.LookLemmas.{not_at, default_looked}
 use Rattle.modulefind.proofs.StepLemmas.{tells_fault, tells_weaker, below_first, below_default, below_fault}
 use Rattle.modulefind.proofs.search.module_below.Goals as goal
 
@@ -62,3 +66,44 @@ returns-in_ok-full-in-Some-2-clause-told g c =
     (Some version) o (subst (λ v. DefaultIn leaves files listings dir name (Ok (option_map (string_bytes {Z = Global}) v))) c.in-Some-2.is (c.in_ok-default_in.ensures.told files listings b))
     (h ∙ ap (module_at files dir) full_is))
     c.module_at-in-Some-2.ensures.told
+
+pub returns-in_err-default_in-clause-failed : goal.returns-in_err-default_in-clause-failed
+returns-in_err-default_in-clause-failed g c =
+    let leaves = g.D.DefaultFiles.leaves c.args.default_files.now in
+    let dir = c.args.dir.now in
+    let name = c.args.name.now in
+    let agrees = g.T.Tree.agrees c.default_in.new.tree in
+    let fails = is_failure c.in_err-default_in.field-0.0 in
+    let p = err_from_is_err_and c.from_residual-in_err-default_in.result c.from_residual-in_err-default_in.ensures.1 in
+    rw (p.1, p.2) (fails_then fails fails (g.T.Tree.failed c.args.tree.now) (g.T.Tree.failed c.module_at.new.tree) (g.T.Tree.failed c.default_in.new.tree)
+    (λ at. InEachPair agrees (λ files listings. (at ≡ path_of dir name) ⊎ LooksInFolder leaves files listings dir name at))
+    (λ at. InEachPair agrees (λ files listings. LooksBelow leaves files listings dir name at))
+    c.in_ok-found.ensures.failed refl
+    (λ at h files listings a. ⊎_elim (λ e. inl e) (λ l. inr (
+      not_at files dir name
+          (sym (ap (λ m. Ok (option_map found_view m)) c.in_default.is) ∙ c.in_ok-found.ensures.told files listings (c.default_in.ensures.before files listings a)),
+      l,
+    )) (h files listings a))
+    c.in_err-default_in.ensures.failed)
+
+pub returns-in_ok-full-in-Some-2-clause-failed : goal.returns-in_ok-full-in-Some-2-clause-failed
+returns-in_ok-full-in-Some-2-clause-failed g c =
+    let leaves = g.D.DefaultFiles.leaves c.args.default_files.now in
+    let dir = c.args.dir.now in
+    let name = c.args.name.now in
+    let version = string_bytes c.in-Some-2.version in
+    let full = c.deref-in-Some-2.result.now in
+    let full_is : full ≡ path_of name version = c.deref-in-Some-2.ensures ∙ c.in_ok-full-in-Some-2.ensures ∙ ap (path_of name) c.deref.ensures in
+    let agrees = g.T.Tree.agrees c.module_at-in-Some-2.new.tree in
+    fails_last is_failure (g.T.Tree.failed c.args.tree.now) (g.T.Tree.failed c.default_in.new.tree) (g.T.Tree.failed c.module_at-in-Some-2.new.tree) c.module_at-in-Some-2.result
+    (λ at. at ≡ path_of dir full) (λ at. InEachPair agrees (λ files listings. LooksBelow leaves files listings dir name at))
+    (c.in_ok-default_in.ensures.failed ∙ c.in_ok-found.ensures.failed)
+    (λ at e files listings a.
+    let b = c.module_at-in-Some-2.ensures.before files listings a in
+    inr (
+      not_at files dir name (sym (ap (λ m. Ok (option_map found_view m)) c.in_default.is) ∙ c.in_ok-found.ensures.told files listings (c.default_in.ensures.before files listings b)),
+      subst (LooksInFolder leaves files listings dir name) (sym (e ∙ ap (path_of dir) full_is))
+          (default_looked leaves files listings dir name version
+          (subst (λ v. DefaultIn leaves files listings dir name (Ok (option_map (string_bytes {Z = Global}) v))) c.in-Some-2.is (c.in_ok-default_in.ensures.told files listings b))),
+    ))
+    c.module_at-in-Some-2.ensures.failed
