@@ -8,7 +8,7 @@ use std::alloc::{AllocError, Global};
 use tclcommands::{
     Value, append, consult, define, exists, get, global, increase, list_append, put, set, unset,
 };
-use tclexpr::own_expr;
+use tclexpr::{OwnedExpr, own_expr};
 use tclforms::{Form, Simple, core_form};
 use tclrules::{Limits, Recorder};
 use tclsteps::{Context, Control, Halt, Step, Stop, advance};
@@ -61,7 +61,9 @@ fn performed<'a>(alloc: Global, state: &mut State, form: Simple<'a>) -> Result<V
         Simple::Exists(name) => exists(alloc, variables, host, name),
         Simple::Global(names) => global(alloc, variables, names),
         Simple::Put(words) => put(alloc, variables, host, words),
-        _ => Err(Stop::Halted(Halt::Stopped)),
+        Simple::Return(_) | Simple::Break | Simple::Continue | Simple::Exit | Simple::Error(_) => {
+            Err(Stop::Halted(Halt::Stopped))
+        }
     }
 }
 
@@ -72,11 +74,15 @@ fn body(alloc: Global, variables: &Variables, name: &str) -> Result<String, Allo
     }
 }
 
-fn value(alloc: Global, state: &mut State, text: &str) -> Result<String, Stop> {
-    let owned = match own_expr(alloc, String::from_str(alloc, text)?) {
-        Ok(owned) => owned,
-        Err(fault) => return Err(Stop::of_text(fault)),
-    };
+/// The value, where a step has it.
+fn done(step: Result<Step<'_>, Stop>) -> Result<String, Stop> {
+    match step? {
+        Step::Done(text) => Ok(text),
+        Step::Next(_) | Step::Bracket(_) => Err(Stop::Halted(Halt::Stopped)),
+    }
+}
+
+fn computed(alloc: Global, state: &mut State, owned: &OwnedExpr) -> Result<String, Stop> {
     let context = Context {
         alloc,
         limits: LIMITS,
@@ -85,9 +91,13 @@ fn value(alloc: Global, state: &mut State, text: &str) -> Result<String, Stop> {
     };
     let mut stack = Vec::new(alloc);
     let control = Control::Expression(&owned.expression);
-    match advance(context, &mut state.host, &mut stack, control)? {
-        Step::Done(text) => Ok(text),
-        _ => Err(Stop::Halted(Halt::Stopped)),
+    done(advance(context, &mut state.host, &mut stack, control))
+}
+
+fn value(alloc: Global, state: &mut State, text: &str) -> Result<String, Stop> {
+    match own_expr(alloc, String::from_str(alloc, text)?) {
+        Ok(owned) => computed(alloc, state, &owned),
+        Err(fault) => Err(Stop::of_text(fault)),
     }
 }
 
@@ -104,36 +114,75 @@ fn left(alloc: Global, state: &mut State) -> String {
     String::new(alloc)
 }
 
-fn of_form(
+/// The form of a command that evaluates no script; None where it is no core command.
+fn simple_form<'a>(
     alloc: Global,
-    state: &mut State,
     name: &str,
-    words: &[String],
-) -> Result<Option<String>, Stop> {
-    match core_form(alloc, name, words)? {
-        Some(Form::Simple(form)) => {
-            let value = performed(alloc, state, form)?;
-            Ok(Some(value.into_text(alloc, &state.variables)?))
-        }
+    words: &'a [String],
+) -> Result<Option<Simple<'a>>, Stop> {
+    let form = core_form(alloc, name, words)?;
+    match &form {
+        Some(Form::Simple(simple)) => Ok(Some(*simple)),
         Some(_) => Err(Stop::Halted(Halt::Stopped)),
         None => Ok(None),
     }
 }
 
-fn result(alloc: Global, state: &mut State, words: &[String]) -> Result<String, Stop> {
+/// The value of a command of these words, which begin with its name.
+fn command<'a>(
+    alloc: Global,
+    state: &mut State,
+    name: &str,
+    rest: &'a [String],
+    words: &'a [String],
+) -> Result<Value<'a>, Stop> {
+    match simple_form(alloc, name, rest)? {
+        Some(form) => performed(alloc, state, form),
+        None => consult(alloc, &state.variables, &mut state.host, words),
+    }
+}
+
+fn command_text(
+    alloc: Global,
+    state: &mut State,
+    name: &str,
+    rest: &[String],
+    words: &[String],
+) -> Result<String, Stop> {
+    let value = command(alloc, state, name, rest, words)?;
+    Ok(value.into_text(alloc, &state.variables)?)
+}
+
+/// What a line asks for.
+#[derive(Clone, Copy)]
+enum Call<'a> {
+    Nothing,
+    Enter,
+    Leave,
+    Body(&'a str),
+    Value(&'a str),
+    Command(&'a str, &'a [String]),
+}
+
+fn call_of(words: &[String]) -> Call<'_> {
     match words {
-        [] => Ok(String::new(alloc)),
-        [name] if name.as_str() == "enter" => entered(alloc, state),
-        [name] if name.as_str() == "leave" => Ok(left(alloc, state)),
-        [name, of] if name.as_str() == "body" => Ok(body(alloc, &state.variables, of)?),
-        [name, text] if name.as_str() == "value" => value(alloc, state, text),
-        [name, rest @ ..] => match of_form(alloc, state, name, rest)? {
-            Some(text) => Ok(text),
-            None => {
-                let value = consult(alloc, &state.variables, &mut state.host, words)?;
-                Ok(value.into_text(alloc, &state.variables)?)
-            }
-        },
+        [] => Call::Nothing,
+        [name] if name.as_str() == "enter" => Call::Enter,
+        [name] if name.as_str() == "leave" => Call::Leave,
+        [name, of] if name.as_str() == "body" => Call::Body(of.as_str()),
+        [name, text] if name.as_str() == "value" => Call::Value(text.as_str()),
+        [name, rest @ ..] => Call::Command(name.as_str(), rest),
+    }
+}
+
+fn result(alloc: Global, state: &mut State, words: &[String]) -> Result<String, Stop> {
+    match call_of(words) {
+        Call::Nothing => Ok(String::new(alloc)),
+        Call::Enter => entered(alloc, state),
+        Call::Leave => Ok(left(alloc, state)),
+        Call::Body(name) => Ok(body(alloc, &state.variables, name)?),
+        Call::Value(text) => value(alloc, state, text),
+        Call::Command(name, rest) => command_text(alloc, state, name, rest, words),
     }
 }
 

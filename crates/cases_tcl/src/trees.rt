@@ -2,7 +2,8 @@
 use std::alloc::Global;
 use std::fmt::Debug;
 use tcltext::{
-    Command, Script, TextFault, Word, own_expr, own_script, parse_expr, parse_list, parse_script,
+    Command, Expr, Script, TextFault, Word, own_expr, own_script, parse_expr, parse_list,
+    parse_script,
 };
 
 fn push_word<P: Debug>(alloc: Global, line: &mut String, word: &Word<P>) -> Option<()> {
@@ -35,17 +36,29 @@ fn shown_fault(alloc: Global, fault: TextFault) -> Option<String> {
     format!(in alloc; "{fault:?}: {fault}").ok()
 }
 
+fn shown_expression<P: Debug>(alloc: Global, expression: &Expr<P>) -> Option<String> {
+    format!(in alloc; "ok {expression:?}").ok()
+}
+
+fn script_tree(alloc: Global, text: &str) -> Option<String> {
+    match parse_script(alloc, text) {
+        Ok(script) => shown_words(alloc, &script),
+        Err(fault) => shown_fault(alloc, fault),
+    }
+}
+
+fn expression_tree(alloc: Global, text: &str) -> Option<String> {
+    match parse_expr(alloc, text) {
+        Ok(expression) => shown_expression(alloc, &expression),
+        Err(fault) => shown_fault(alloc, fault),
+    }
+}
+
 /// The tree of a script or an expression.
 pub(crate) fn tree(alloc: Global, kind: &str, text: &str) -> Option<String> {
     match kind {
-        "script" => match parse_script(alloc, text) {
-            Ok(script) => shown_words(alloc, &script),
-            Err(fault) => shown_fault(alloc, fault),
-        },
-        "expr" => match parse_expr(alloc, text) {
-            Ok(expression) => format!(in alloc; "ok {expression:?}").ok(),
-            Err(fault) => shown_fault(alloc, fault),
-        },
+        "script" => script_tree(alloc, text),
+        "expr" => expression_tree(alloc, text),
         _ => None,
     }
 }
@@ -61,18 +74,26 @@ fn sources(alloc: Global, text: String) -> Option<String> {
     Some(line)
 }
 
+fn owned_script(alloc: Global, text: String) -> Option<String> {
+    match own_script(alloc, text) {
+        Ok(owned) => shown_words(alloc, &owned.script),
+        Err(fault) => shown_fault(alloc, fault),
+    }
+}
+
+fn owned_expression(alloc: Global, text: String) -> Option<String> {
+    match own_expr(alloc, text) {
+        Ok(owned) => shown_expression(alloc, &owned.expression),
+        Err(fault) => shown_fault(alloc, fault),
+    }
+}
+
 /// The tree of a script or an expression that keeps its text, whose pieces are ranges of it; or the sources of the
 /// commands.
 pub(crate) fn owned(alloc: Global, kind: &str, text: String) -> Option<String> {
     match kind {
-        "script" => match own_script(alloc, text) {
-            Ok(owned) => shown_words(alloc, &owned.script),
-            Err(fault) => shown_fault(alloc, fault),
-        },
-        "expr" => match own_expr(alloc, text) {
-            Ok(owned) => format!(in alloc; "ok {:?}", owned.expression).ok(),
-            Err(fault) => shown_fault(alloc, fault),
-        },
+        "script" => owned_script(alloc, text),
+        "expr" => owned_expression(alloc, text),
         "sources" => sources(alloc, text),
         _ => None,
     }
