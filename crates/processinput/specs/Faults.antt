@@ -1,8 +1,10 @@
--- The numbers of what is wrong with arguments, and what each says: as the refusal that it becomes.
+-- The numbers of what is wrong with arguments or an input, and what each says: as the refusal that it becomes.
 use Rattle.std.specs.Prelude.{ℕ, codes}
 use Rattle.message.specs.Messages.{Text}
 use Rattle.processinput.specs.declared.process.ArgumentsFault.{ArgumentsFault}
 use Rattle.processinput.specs.declared.process.ArgumentsFault.TheVariants.{OutOfMemory, NotUtf8}
+use Rattle.processinput.specs.declared.input.InputFault.{InputFault}
+use Rattle.processinput.specs.declared.input.InputFault.TheVariants as inputs
 
 abbrev pub number_of : ArgumentsFault → ℕ
 number_of OutOfMemory = 31
@@ -11,3 +13,13 @@ number_of NotUtf8 = 56
 abbrev pub message_of : ArgumentsFault → Text
 message_of OutOfMemory = codes "Out of memory"
 message_of NotUtf8 = codes "Bad arguments"
+
+abbrev pub input_number : InputFault → ℕ
+input_number inputs.OutOfMemory = 31
+input_number inputs.ReadFailed = 43
+input_number inputs.BadInput = 56
+
+abbrev pub input_message : InputFault → Text
+input_message inputs.OutOfMemory = codes "Out of memory"
+input_message inputs.ReadFailed = codes "Reading failed"
+input_message inputs.BadInput = codes "Bad arguments"

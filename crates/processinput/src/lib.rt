@@ -1,8 +1,10 @@
-//! What a process is given: its arguments, and its environment as variables.
+//! What a process is given: its arguments, its environment as variables, and the text that it reads.
 #![tactic(auto)]
 
 mod block;
+mod input;
 mod process;
 
 pub use block::environment_of;
+pub use input::{InputFault, read_input};
 pub use process::{ArgumentsFault, arguments, environment_block};

@@ -1,0 +1,31 @@
+-- One read after another.
+use Rattle.std.proofs.Common.{◌≡◌, ℕ, Bool, true, false, inl, inr, List, [], ◌++◌, Option, Some, None, refl, sym, ap, ◌∙◌, append_assoc}
+use Rattle.std.proofs.lemmas.Bool.{cases_Bool}
+use Rattle.std.proofs.lemmas.Str.{IsUtf8-from_is_utf8}
+use Rattle.std.specs.Str.{IsUtf8, is_utf8}
+use Rattle.std.specs.Io.KnownBytes.{Consumes, Keeps}
+
+pub consumes_none : (a : Option (List ℕ)) → Consumes a a []
+consumes_none None = tt
+consumes_none (Some xs) = refl
+
+pub consumes_more : (a b c : Option (List ℕ)) (x y : List ℕ) → Consumes a b x → Consumes b c y → Consumes a c (x ++ y)
+consumes_more None b c x y h k = tt
+consumes_more (Some xs) None c x y h k = absurd h
+consumes_more (Some xs) (Some ys) None x y h k = absurd k
+consumes_more (Some xs) (Some ys) (Some zs) x y h k = h ∙ (ap (λ l. x ++ l) k ∙ sym (append_assoc x y zs))
+
+pub consumes_kept : (a b c : Option (List ℕ)) (x : List ℕ) → Consumes a b x → Keeps b c → Consumes a c x
+consumes_kept None b c x h k = tt
+consumes_kept (Some xs) None c x h k = absurd h
+consumes_kept (Some xs) (Some ys) None x h k = absurd k
+consumes_kept (Some xs) (Some ys) (Some zs) x h k = h ∙ ap (λ l. x ++ l) (sym k)
+
+pub no_utf8 : (bytes : List ℕ) → (IsUtf8 bytes → ◌≡◌ {A = Bool} false true) → is_utf8 bytes ≡ false
+no_utf8 bytes h = elim (cases_Bool (is_utf8 bytes)) [
+  | inl t ↦ absurd (clash (h (IsUtf8-from_is_utf8 bytes t)))
+  | inr f ↦ f
+]
+  where
+    clash : ◌≡◌ {A = Bool} false true → ⊥
+    clash e = cc

@@ -1,0 +1,113 @@
+//! The text that a process reads.
+ghost use Rattle.std.specs.Prelude.{◌≡◌, ◌≤◌, ◌+◌, length, Some, IfOk, IfErr, string_bytes};
+ghost use Rattle.std.specs.Io.KnownBytes.{Consumes, IsAtEnd};
+ghost use Rattle.message.specs.Messages.{text_of};
+ghost use Rattle.processinput.specs.Faults.{input_number, input_message};
+ghost use Rattle.processinput.specs.Inputs.{most_bytes, GivesAll, Spoils};
+ghost use Rattle.processinput.specs.declared.input.InputFault.TheVariants.{OutOfMemory};
+
+use message::Message;
+use std::alloc::{AllocError, Global};
+use std::error::Error;
+use std::fmt;
+use std::fmt::Display;
+use std::io::Read;
+
+/// The most bytes that an input may have.
+const MOST_BYTES: usize = 1_048_576;
+
+/// How many bytes are asked for at once.
+const PIECE: usize = 4096;
+
+/// Why an input has no text.
+#[derive(Clone, Copy, Debug, PartialEq, Eq)]
+pub enum InputFault {
+    /// Memory was refused.
+    OutOfMemory,
+    /// A read failed.
+    ReadFailed,
+    /// It has more than 1,048,576 bytes, or isn't UTF-8.
+    BadInput,
+}
+
+impl InputFault {
+    /// The number of the refusal: 31 for want of memory, 43 for a read that failed, else 56.
+    pub fn number(&self) -> u16
+        ensures { result ≡ input_number self.now }
+    {
+        match self {
+            InputFault::OutOfMemory => 31,
+            InputFault::ReadFailed => 43,
+            InputFault::BadInput => 56,
+        }
+    }
+
+    /// What the fault says: as the refusal that it becomes.
+    pub fn message(&self) -> Message<'static>
+        ensures { text_of result ≡ input_message self.now }
+    {
+        match self {
+            InputFault::OutOfMemory => Message::plain("Out of memory"),
+            InputFault::ReadFailed => Message::plain("Reading failed"),
+            InputFault::BadInput => Message::plain("Bad arguments"),
+        }
+    }
+}
+
+impl fmt::Display for InputFault {
+    ghost output = { λ fault. Some (input_message fault) };
+
+    fn fmt<W: fmt::Write>(&self, f: &mut fmt::Formatter<W>) -> fmt::Result {
+        self.message().fmt(f)
+    }
+}
+
+impl Error for InputFault {}
+
+impl From<AllocError> for InputFault {
+    ghost from_gives = { λ _ e. e ≡ OutOfMemory };
+
+    fn from(_e: AllocError) -> InputFault {
+        InputFault::OutOfMemory
+    }
+}
+
+/// What the reader gives, a piece at a time, until it is at its end, or a byte more is there than an input may have.
+fn read_bytes<R: Read>(alloc: Global, input: &mut R) -> Result<Vec<u8>, InputFault>
+    ensures taken { IfOk result (λ bytes. Consumes (R.remaining input.old) (R.remaining input.new) bytes.items) }
+    ensures within { IfOk result (λ bytes. length bytes.items ≤ most_bytes + 1) }
+    ensures all { IfOk result (λ bytes. length bytes.items ≤ most_bytes → IsAtEnd (R.remaining input.new)) }
+    ensures spoilt { IfErr result (λ fault. Spoils fault (R.remaining input.old) (R.remaining input.new)) }
+{
+    let mut bytes = Vec::new(alloc);
+    let mut piece = [0; PIECE];
+    while bytes.len() <= MOST_BYTES {
+        let room = (MOST_BYTES + 1 - bytes.len()).min(PIECE);
+        match input.read(&mut piece[..room]) {
+            Ok(0) => return Ok(bytes),
+            Ok(n) => bytes.extend_from_slice(&piece[..n])?,
+            Err(_) => return Err(InputFault::ReadFailed),
+        }
+    }
+    Ok(bytes)
+}
+
+/// The whole text of an input, of which at most a byte more is read than it may have.
+///
+/// Errors: want of memory; a read that failed, an interrupted one too (43); an input of more than 1,048,576 bytes, or
+/// one that isn't UTF-8 (56).
+pub fn read_input<R: Read>(alloc: Global, input: &mut R) -> Result<String, InputFault>
+    ensures given { IfOk result (λ text.
+        GivesAll (R.remaining input.old) (R.remaining input.new) (string_bytes text)) }
+    ensures within { IfOk result (λ text. length (string_bytes text) ≤ most_bytes) }
+    ensures spoilt { IfErr result (λ fault. Spoils fault (R.remaining input.old) (R.remaining input.new)) }
+{
+    let bytes = read_bytes(alloc, input)?;
+    if bytes.len() > MOST_BYTES {
+        return Err(InputFault::BadInput);
+    }
+    match String::from_utf8(bytes) {
+        Ok(text) => Ok(text),
+        Err(_) => Err(InputFault::BadInput),
+    }
+}
