@@ -1,0 +1,5 @@
+pub mod ListLemmas
+pub mod RunLemmas
+pub mod JudgmentLemmas
+pub mod LawLemmas
+pub mod CheckLemmas
