@@ -1,4 +1,3 @@
-pub mod ListLemmas
 pub mod RunLemmas
 pub mod JudgmentLemmas
 pub mod LawLemmas
