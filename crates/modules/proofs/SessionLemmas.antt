@@ -82,7 +82,7 @@ responds law s e new asked done step =
     subst P (made_led law s e new asked done step) step
 
 -- the number of want of memory is that of a cause
-memory_is_cause : (refusal : Refusal) → is_cause (memory_number refusal) ≡ true
+pub memory_is_cause : (refusal : Refusal) → is_cause (memory_number refusal) ≡ true
 memory_is_cause refusals.OutOfMemory = refl
 memory_is_cause (refusals.Run fault) = refl
 memory_is_cause (refusals.Find fault) = refl

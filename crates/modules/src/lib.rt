@@ -13,6 +13,6 @@ pub use modulesteps::{Done, MissingNames, Module, Move, Refusal, Verdict, verdic
 pub use reply::{Changed, Reply};
 pub use requests::{Action, Request};
 pub use running::{run, run_changes};
-pub use sessions::{Outcome, session};
+pub use sessions::{Outcome, respond, session};
 pub use shells::Shell;
 pub use tclrules::Limits;

@@ -54,8 +54,10 @@ fn change<T: Tree>(
     })
 }
 
-/// What comes of a request, whose changes are made where it is accepted.
-fn respond<T: Tree>(
+/// What comes of a request, whose changes are made where it is accepted. Where it is refused the environment stays.
+///
+/// In each pair of maps that agrees with the tree it is a response to the request in the environment as it was.
+pub fn respond<T: Tree>(
     alloc: Global,
     request: &Request,
     env: &mut Env,

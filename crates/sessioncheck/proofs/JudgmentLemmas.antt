@@ -1,0 +1,107 @@
+-- Verdicts one after another, and the names that are judged.
+use Rattle.std.proofs.Common.{◌≡◌, ℕ, ◌<◌, ◌≤◌, ◌-◌, List, [], ◌∷◌, ◌++◌, length, take, drop, get_or, Bor, string_bytes, Result, Ok, Err, refl, sym, subst, ap, ◌∙◌, arith, append_assoc}
+use Rattle.std.proofs.lemmas.List.{take_all}
+use Rattle.std.specs.List.{flat_map}
+use Rattle.environment.specs.Texts.{Text, shown, texts_in}
+use Rattle.environment.specs.Environment.{Environment}
+use Rattle.filetree.specs.Agreement.{Files, Listings, InEachPair, Narrows}
+use Rattle.filetree.specs.Causes.{Cause, Applies, memory, device, because}
+use Rattle.modulerecords.specs.Moves.{Move, Loads, Unloads, loaded_names}
+use Rattle.tclrules.specs.declared.limits.Limits.{Limits}
+use Rattle.requests.specs.Reasons.{RequestReason}
+use Rattle.requests.specs.Sessions.{Response, session_moves, env_after}
+use Rattle.requests.specs.Verdicts as verdicts
+use Rattle.modulesteps.specs.Answers.{Tells, cause_of}
+use Rattle.modulesteps.specs.Verdicts.{in_sh, verdict_view}
+use Rattle.modulesteps.specs.MoveViews.{moves_of}
+use Rattle.modulesteps.specs.declared.refusal.Refusal.{Refusal}
+use Rattle.modules.specs.Responses.{by_cause, response_of, responses}
+use Rattle.modules.specs.declared.sessions.Outcome.{Outcome}
+use Rattle.modules.specs.declared.sessions.Outcome.TheVariants.{Accepted, Refused}
+use Rattle.modulesteps.specs.Messages.{number_of}
+use Rattle.sessioncheck.specs.Judgments.{IsJudgment, AreJudgments}
+use Rattle.sessioncheck.specs.Parts.{loaded_in}
+use Rattle.sessioncheck.specs.declared.judging.Judgment.{Judgment}
+
+-- ---- what was told of more maps, and after fewer failures
+
+narrowed_cause : (c : Cause RequestReason) (agrees agrees' : Files → Listings → Type 0) (failed failed' : Type 0) (Is : RequestReason → Files → Listings → Type 0)
+    → Narrows agrees agrees' → (failed → failed') → Applies c failed (λ r. InEachPair agrees (Is r)) → Applies c failed' (λ r. InEachPair agrees' (Is r))
+narrowed_cause memory agrees agrees' failed failed' Is narrows fails h = tt
+narrowed_cause device agrees agrees' failed failed' Is narrows fails h = fails h
+narrowed_cause (because r) agrees agrees' failed failed' Is narrows fails h = λ files listings a. h files listings (narrows files listings a)
+
+narrowed : {X Y : Type 0} (view : X → Y) (agrees agrees' : Files → Listings → Type 0) (failed failed' : Type 0) (r : Result X Refusal)
+    (Comes : Files → Listings → Result Y RequestReason → Type 0)
+    → Narrows agrees agrees' → (failed → failed') → Tells agrees failed view r Comes → Tells agrees' failed' view r Comes
+narrowed view agrees agrees' failed failed' (Ok x) Comes narrows fails h = λ files listings a. h files listings (narrows files listings a)
+narrowed view agrees agrees' failed failed' (Err e) Comes narrows fails h =
+    narrowed_cause (cause_of e) agrees agrees' failed failed' (λ r files listings. Comes files listings (Err r)) narrows fails h
+
+pub judgment_narrowed : (agrees agrees' : Files → Listings → Type 0) (failed failed' : Type 0) (limits : Limits) (e : Environment) (name : Text) (j : Judgment)
+    → Narrows agrees agrees' → (failed → failed') → IsJudgment agrees failed limits e name j → IsJudgment agrees' failed' limits e name j
+judgment_narrowed agrees agrees' failed failed' limits e name j narrows fails h = (h.0, narrowed _ agrees agrees' failed failed' j.verdict _ narrows fails h.1)
+
+pub judgments_narrowed : (agrees agrees' : Files → Listings → Type 0) (failed failed' : Type 0) (limits : Limits) (e : Environment) (names : List Text) (js : List Judgment)
+    → Narrows agrees agrees' → (failed → failed') → AreJudgments agrees failed limits e names js → AreJudgments agrees' failed' limits e names js
+judgments_narrowed agrees agrees' failed failed' limits e [] [] narrows fails h = tt
+judgments_narrowed agrees agrees' failed failed' limits e [] (j ∷ js) narrows fails h = absurd h
+judgments_narrowed agrees agrees' failed failed' limits e (name ∷ names) [] narrows fails h = absurd h
+judgments_narrowed agrees agrees' failed failed' limits e (name ∷ names) (j ∷ js) narrows fails h =
+    (judgment_narrowed agrees agrees' failed failed' limits e name j narrows fails h.0, judgments_narrowed agrees agrees' failed failed' limits e names js narrows fails h.1)
+
+-- ---- one judgment more
+
+pub judgments_push : (agrees : Files → Listings → Type 0) (failed : Type 0) (limits : Limits) (e : Environment) (names : List Text) (js : List Judgment) (name : Text) (j : Judgment)
+    → AreJudgments agrees failed limits e names js → IsJudgment agrees failed limits e name j → AreJudgments agrees failed limits e (names ++ name ∷ []) (js ++ j ∷ [])
+judgments_push agrees failed limits e [] [] name j h k = (k, tt)
+judgments_push agrees failed limits e [] (i ∷ js) name j h k = absurd h
+judgments_push agrees failed limits e (n ∷ names) [] name j h k = absurd h
+judgments_push agrees failed limits e (n ∷ names) (i ∷ js) name j h k = (h.0, judgments_push agrees failed limits e names js name j h.1 k)
+
+-- ---- the names that are left
+
+pub more_below : (a b c : ℕ) → a < b → b ≤ c → a < c
+more_below a b c h k = omega arith
+
+pub below_more : (a b c : ℕ) → a ≤ b → b < c → a < c
+below_more a b c h k = omega arith
+
+pub moves_on : (done : List Text) (name : Text) (d : Bor Text) (rest : List (Bor Text)) (all : List Text) → 1 ≤ length rest → name ≡ (get_or rest 0 d).now
+    → done ++ shown rest ≡ all → (done ++ name ∷ []) ++ shown (take (length rest - 1) (drop 1 rest)) ≡ all
+moves_on done name d [] all some is h = absurd (omega arith)
+moves_on done name d (x ∷ xs) all some is h =
+    let whole : take (length (x ∷ xs) - 1) xs ≡ xs = take_all _ xs (omega arith) in
+    rw (whole, is) (append_assoc done (x.now ∷ []) (shown xs) ∙ h)
+
+-- a judgment of a name that was copied
+pub judged_name : (agrees : Files → Listings → Type 0) (failed failed' : Type 0) (limits : Limits) (e : Environment) (name : Text) (j : Judgment)
+    → string_bytes j.name ≡ name → (failed → failed')
+    → Tells agrees failed verdict_view j.verdict (λ files listings. verdicts.Judged (in_sh limits files listings) e name)
+    → IsJudgment agrees failed' limits e (string_bytes j.name) j
+judged_name agrees failed failed' limits e name j same fails h =
+    let P : Text → Type 0 = λ n. Tells agrees failed' verdict_view j.verdict (λ files listings. verdicts.Judged (in_sh limits files listings) e n) in
+    (refl, subst P (sym same) (narrowed verdict_view agrees agrees failed failed' j.verdict _ (λ files listings a. a) fails h))
+
+-- ---- the names of what was loaded
+
+names_append : (ms ns : List Move) → loaded_names (ms ++ ns) ≡ loaded_names ms ++ loaded_names ns
+names_append [] ns = refl
+names_append (Loads m ∷ ms) ns = ap (λ (xs : List Text). m.name ∷ xs) (names_append ms ns)
+names_append (Unloads m ∷ ms) ns = names_append ms ns
+
+no_moves : (number : ℕ) (c : Cause RequestReason) (os : List Response) → session_moves (by_cause number c ∷ os) ≡ session_moves os
+no_moves number memory os = refl
+no_moves number device os = refl
+no_moves number (because r) os = refl
+
+-- what outcomes loaded is what their moves load
+pub names_of_responses : (e : Environment) (os : List Outcome) → loaded_names (session_moves (responses e os)) ≡ flat_map loaded_in os
+names_of_responses e [] = refl
+names_of_responses e (Accepted done ∷ os) =
+    names_append (moves_of done.moves) (session_moves (responses (env_after e (response_of e (Accepted done))) os))
+    ∙ (ap (λ xs. xs ++ loaded_names (session_moves (responses (env_after e (response_of e (Accepted done))) os))) (sym done.named)
+    ∙ ap (λ xs. texts_in done.loaded ++ xs) (names_of_responses (env_after e (response_of e (Accepted done))) os))
+names_of_responses e (Refused refusal ∷ os) =
+    ap loaded_names (no_moves (number_of refusal) (cause_of refusal) (responses (env_after e (response_of e (Refused refusal))) os))
+    ∙ names_of_responses (env_after e (response_of e (Refused refusal))) os

@@ -1,0 +1,4 @@
+pub mod RunLemmas
+pub mod JudgmentLemmas
+pub mod LawLemmas
+pub mod CheckLemmas

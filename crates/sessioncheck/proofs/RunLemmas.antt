@@ -1,0 +1,67 @@
+-- Sessions of lines grow by one line at their end.
+use Rattle.std.proofs.Common.{◌≡◌, ℕ, ◌<◌, ◌≤◌, ◌+◌, true, List, [], ◌∷◌, ◌++◌, map, length, refl, sym, subst, ap, ◌∙◌, Ok, Err, append_assoc, append-nil, arith}
+use Rattle.environment.specs.Texts.{Text}
+use Rattle.environment.specs.Environment.{Environment}
+use Rattle.filetree.specs.Causes.{Cause, Applies, memory, device, because}
+use Rattle.relations.specs.Relations.{Is}
+use Rattle.requests.specs.Reasons.{RequestReason}
+use Rattle.requests.specs.Requests.{Asked, request_of}
+use Rattle.requests.specs.Sessions.{Response, accepted, refused, given_up, IsResponse, env_after, is_cause}
+use Rattle.requests.specs.Steps.{Site}
+use Rattle.modulesteps.specs.Answers.{cause_of}
+use Rattle.modulesteps.specs.Messages.{memory_number, number_by}
+use Rattle.modulesteps.specs.declared.refusal.Refusal.{Refusal}
+use Rattle.modules.proofs.SessionLemmas.{memory_is_cause, refused_counts}
+use Rattle.modules.specs.Responses.{by_cause, count_failed, response_of}
+use Rattle.modules.specs.declared.sessions.Outcome.TheVariants.{Refused}
+use Rattle.sessioncheck.specs.Sessions.{IsLineResponse, LineSession}
+
+-- the response of a line's request is the line's
+pub line_responds : (s : Site) (e : Environment) (words : List Text) (asked : Asked) (o : Response) → request_of words ≡ Ok asked
+    → IsResponse s e asked o → IsLineResponse s e words o
+line_responds s e words asked (accepted d) made h = (Ok asked, sym made, h)
+line_responds s e words asked (refused reason) made h = (Ok asked, sym made, h)
+line_responds s e words asked (given_up number) made h = h
+
+-- a line that makes no request
+by_cause_responds : (s : Site) (e : Environment) (words : List Text) (wanting : ℕ) (c : Cause RequestReason) → is_cause wanting ≡ true
+    → Applies c ⊥ (λ r. Is (request_of words) (Err r)) → IsLineResponse s e words (by_cause (number_by wanting c) c)
+by_cause_responds s e words wanting memory is h = is
+by_cause_responds s e words wanting device is h = absurd h
+by_cause_responds s e words wanting (because r) is h = (Err r, h, refl)
+
+pub none_responds : (s : Site) (e : Environment) (words : List Text) (refusal : Refusal)
+    → Applies (cause_of refusal) ⊥ (λ r. Is (request_of words) (Err r)) → IsLineResponse s e words (response_of e (Refused refusal))
+none_responds s e words refusal h = by_cause_responds s e words (memory_number refusal) (cause_of refusal) (memory_is_cause refusal) h
+
+more_applies : (c : Cause RequestReason) (failed : Type 0) (Is : RequestReason → Type 0) → Applies c ⊥ Is → Applies c failed Is
+more_applies memory failed Is h = tt
+more_applies device failed Is h = absurd h
+more_applies (because r) failed Is h = h
+
+same_number : (n : ℕ) → n ≤ n
+same_number n = omega arith
+
+pub none_counts : (failures : ℕ) (refusal : Refusal) (Is : RequestReason → Type 0) → Applies (cause_of refusal) ⊥ Is → failures + count_failed (Refused refusal ∷ []) ≤ failures
+none_counts failures refusal Is h = refused_counts failures failures refusal Is (same_number failures) (more_applies (cause_of refusal) (failures < failures) Is h)
+
+-- what the rest of the lines has as responses, the whole has behind those so far
+pub lines_taken : (s : Site) (start e new : Environment) (words : List Text) (lines all : List (List Text)) (sofar grown : List Response) (o : Response)
+    → (os : List Response) → (LineSession s e (words ∷ lines) (o ∷ os) → LineSession s start all (sofar ++ o ∷ os))
+    → IsLineResponse s e words o → new ≡ env_after e o → grown ≡ sofar ++ o ∷ []
+    → LineSession s new lines os → LineSession s start all (grown ++ os)
+lines_taken s start e new words lines all sofar grown o os run is_response left more rest =
+    let P : Environment → Type 0 = λ x. LineSession s x lines os in
+    let Q : List Response → Type 0 = λ x. LineSession s start all x in
+    subst Q (sym (append_assoc sofar (o ∷ []) os) ∙ ap (λ x. x ++ os) (sym more)) (run (is_response, subst P left rest))
+
+no_more : {W : Type 0} (view : W → List Text) (s : Site) (e : Environment) (rest : List W) → length rest < 1 → LineSession s e (map view rest) []
+no_more view s e [] none = tt
+no_more view s e (w ∷ ws) none = absurd (omega arith)
+
+-- no line is left
+pub lines_done : {W : Type 0} (view : W → List Text) (s : Site) (start e : Environment) (rest : List W) (all : List (List Text)) (sofar : List Response) → length rest < 1
+    → ((os : List Response) → LineSession s e (map view rest) os → LineSession s start all (sofar ++ os)) → LineSession s start all sofar
+lines_done view s start e rest all sofar none run =
+    let P : List Response → Type 0 = λ x. LineSession s start all x in
+    subst P (append-nil sofar) (run [] (no_more view s e rest none))

@@ -1,0 +1,9 @@
+-- The names that one request loaded, for this crate's own contracts.
+use Rattle.std.specs.Prelude.{List, []}
+use Rattle.environment.specs.Texts.{Text, texts_in}
+use Rattle.modules.specs.declared.sessions.Outcome.{Outcome}
+use Rattle.modules.specs.declared.sessions.Outcome.TheVariants.{Accepted, Refused}
+
+abbrev pub loaded_in : Outcome → List Text
+loaded_in (Accepted done) = texts_in done.loaded
+loaded_in (Refused refusal) = []

@@ -1,0 +1,103 @@
+//! The check of lines.
+ghost use Rattle.std.specs.Prelude.{◌≡◌, ◌<◌, ◌≤◌, ◌+◌, IfOk, IfErr};
+ghost use Rattle.std.specs.List.{flat_map};
+ghost use Rattle.environment.specs.Fields.{firsts};
+ghost use Rattle.filetree.specs.Agreement.{Narrows};
+ghost use Rattle.modulesteps.specs.declared.refusal.Refusal.TheVariants as refusals;
+ghost use Rattle.modules.specs.Responses.{count_failed};
+ghost use Rattle.sessioncheck.specs.Judgments.{AreJudgments};
+ghost use Rattle.sessioncheck.specs.Parts.{loaded_in};
+ghost use Rattle.sessioncheck.specs.Checks.{IsCheck, all_accepted, was_accepted};
+
+use crate::judging::{Judgment, judge};
+use crate::lines::lines_in;
+use crate::loading::names_loaded;
+use crate::running::run_lines;
+use environment::Env;
+use filetree::Tree;
+use modules::{Outcome, Refusal};
+use shells::Shell;
+use std::alloc::{AllocError, Global};
+use tclrules::Limits;
+
+/// What the check of lines found.
+#[derive(Drop)]
+pub struct Findings {
+    /// The environment that the requests leave.
+    pub env: Env,
+    /// What came of each line with words, in order.
+    pub outcomes: Vec<Outcome>,
+    /// The modules that they loaded, in the order of the first load.
+    pub judgments: Vec<Judgment>,
+}
+
+/// Whether the request was accepted.
+fn was_accepted(outcome: &Outcome) -> bool
+    ensures { result ≡ was_accepted outcome.now }
+{
+    matches!(outcome, Outcome::Accepted(_))
+}
+
+impl Findings {
+    /// Whether each request was accepted.
+    pub fn is_accepted(&self) -> bool
+        ensures { result ≡ all_accepted self.now }
+    {
+        self.outcomes.iter().all(|outcome| was_accepted(outcome))
+    }
+}
+
+/// Judges the modules that the requests loaded, in an environment.
+fn judge_loaded<T: Tree>(
+    alloc: Global,
+    outcomes: &[Outcome],
+    env: &Env,
+    tree: &mut T,
+    limits: Limits,
+) -> Result<Vec<Judgment>, AllocError>
+    ensures before { Narrows (T.agrees tree.old) (T.agrees tree.new) }
+    ensures later { T.failures tree.old ≤ T.failures tree.new }
+    ensures judged { IfOk result (λ judgments.
+        AreJudgments (T.agrees tree.new) (T.failures tree.old < T.failures tree.new) limits env.now
+        (firsts (flat_map loaded_in outcomes.now)) judgments.items) }
+{
+    let names = names_loaded(alloc, outcomes)?;
+    judge(alloc, names.as_slice(), env, tree, limits)
+}
+
+/// Runs the requests of lines one after another from an environment, which stays as it is, over a tree of modulefiles,
+/// and judges the modules that they load in that environment.
+///
+/// The words of a line, between spaces and tabs, make its request, for this shell. A line without words is passed over;
+/// one that makes no request is refused (56, 57), and so is a request that its step refuses. Then the environment stays,
+/// and the next line is run. No more of them are refused by 43 than the device failed.
+///
+/// Errors: want of memory (31), apart from what one request or one verdict wants.
+pub fn check<T: Tree>(
+    alloc: Global,
+    shell: Shell,
+    text: &str,
+    env: &Env,
+    tree: &mut T,
+    limits: Limits,
+) -> Result<Findings, Refusal>
+    ensures before { Narrows (T.agrees tree.old) (T.agrees tree.new) }
+    ensures later { T.failures tree.old ≤ T.failures tree.new }
+    ensures checked { IfOk result (λ check. IsCheck (T.agrees tree.new) (T.failures tree.old < T.failures tree.new)
+        limits shell env.now text.now check) }
+    ensures failures { IfOk result (λ check.
+        T.failures tree.old + count_failed check.outcomes.items ≤ T.failures tree.new) }
+    ensures only { IfErr result (λ refusal. refusal ≡ refusals.OutOfMemory) }
+{
+    let lines = lines_in(alloc, text)?;
+    let Ok(mut after) = env.copy() else {
+        return Err(Refusal::OutOfMemory);
+    };
+    let outcomes = run_lines(alloc, shell, lines.as_slice(), &mut after, tree, limits)?;
+    let judgments = judge_loaded(alloc, outcomes.as_slice(), env, tree, limits)?;
+    Ok(Findings {
+        env: after,
+        outcomes,
+        judgments,
+    })
+}

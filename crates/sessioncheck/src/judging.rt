@@ -1,0 +1,48 @@
+//! The verdicts on modules.
+ghost use Rattle.std.specs.Prelude.{◌<◌, ◌≤◌, IfOk};
+ghost use Rattle.environment.specs.Texts.{shown};
+ghost use Rattle.filetree.specs.Agreement.{Narrows};
+ghost use Rattle.sessioncheck.specs.Judgments.{AreJudgments};
+
+use environment::Env;
+use filetree::Tree;
+use modules::{Refusal, Verdict, verdict};
+use std::alloc::{AllocError, Global};
+use tclrules::Limits;
+
+/// A module with the verdict on it, or why there is none.
+#[derive(Debug, Drop)]
+pub struct Judgment {
+    /// The module's full name.
+    pub name: String,
+    /// The verdict in the environment in which it was judged.
+    pub verdict: Result<Verdict, Refusal>,
+}
+
+/// Judges the modules of these names in an environment.
+pub(crate) fn judge<T: Tree>(
+    alloc: Global,
+    names: &[&str],
+    env: &Env,
+    tree: &mut T,
+    limits: Limits,
+) -> Result<Vec<Judgment>, AllocError>
+    ensures before { Narrows (T.agrees tree.old) (T.agrees tree.new) }
+    ensures later { T.failures tree.old ≤ T.failures tree.new }
+    ensures judged { IfOk result (λ judgments.
+        AreJudgments (T.agrees tree.new) (T.failures tree.old < T.failures tree.new) limits env.now (shown names.now)
+        judgments.items) }
+{
+    let mut judgments = Vec::new(alloc);
+    let mut rest = names;
+    while let [name, later @ ..] = rest {
+        let answer = verdict(alloc, name, env, tree, limits);
+        let full_name = String::from_str(alloc, name)?;
+        judgments.push(Judgment {
+            name: full_name,
+            verdict: answer,
+        })?;
+        rest = later;
+    }
+    Ok(judgments)
+}

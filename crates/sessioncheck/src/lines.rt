@@ -1,0 +1,70 @@
+//! The words of lines.
+ghost use Rattle.std.specs.Prelude.{◌≡◌, ◌++◌, map, IfOk, OnOk};
+ghost use Rattle.environment.specs.Texts.{texts_in};
+ghost use Rattle.sessioncheck.specs.Lines as spec;
+ghost use Rattle.sessioncheck.specs.Lines.{line_words, unless_empty, words_between_tabs};
+
+use environment::fields::parts;
+use std::alloc::{AllocError, Global};
+
+/// Adds the word, unless it is empty.
+fn push_word(alloc: Global, word: &str, words: &mut Vec<String>) -> Result<(), AllocError>
+    ensures { OnOk result (texts_in words.new ≡ texts_in words.old ++ unless_empty word.now) }
+{
+    if word.is_empty() {
+        return Ok(());
+    }
+    Ok(words.push(String::from_str(alloc, word)?)?)
+}
+
+/// Adds the words between tabs.
+fn push_words(alloc: Global, text: &str, words: &mut Vec<String>) -> Result<(), AllocError>
+    ensures { OnOk result (texts_in words.new ≡ texts_in words.old ++ words_between_tabs text.now) }
+{
+    let between = parts(alloc, text, '\t')?;
+    let mut rest = between.as_slice();
+    while let [word, later @ ..] = rest {
+        push_word(alloc, word, words)?;
+        rest = later;
+    }
+    Ok(())
+}
+
+/// The words of a line, between its spaces and tabs.
+fn words_in(alloc: Global, line: &str) -> Result<Vec<String>, AllocError>
+    ensures { IfOk result (λ words. texts_in words ≡ spec.words_in line.now) }
+{
+    let mut words = Vec::new(alloc);
+    let between = parts(alloc, line, ' ')?;
+    let mut rest = between.as_slice();
+    while let [text, later @ ..] = rest {
+        push_words(alloc, text, &mut words)?;
+        rest = later;
+    }
+    Ok(words)
+}
+
+/// Adds the words of a line, unless it has none.
+fn push_line(alloc: Global, line: &str, lines: &mut Vec<Vec<String>>) -> Result<(), AllocError>
+    ensures { OnOk result (map texts_in lines.new.items ≡ map texts_in lines.old.items ++ line_words line.now) }
+{
+    let words = words_in(alloc, line)?;
+    if words.is_empty() {
+        return Ok(());
+    }
+    Ok(lines.push(words)?)
+}
+
+/// The words of each line that has some.
+pub(crate) fn lines_in(alloc: Global, text: &str) -> Result<Vec<Vec<String>>, AllocError>
+    ensures { IfOk result (λ lines. map texts_in lines.items ≡ spec.lines_in text.now) }
+{
+    let mut lines = Vec::new(alloc);
+    let between = parts(alloc, text, '\n')?;
+    let mut rest = between.as_slice();
+    while let [line, later @ ..] = rest {
+        push_line(alloc, line, &mut lines)?;
+        rest = later;
+    }
+    Ok(lines)
+}

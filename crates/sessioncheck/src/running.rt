@@ -1,0 +1,69 @@
+//! The session of lines.
+ghost use Rattle.std.specs.Prelude.{◌≡◌, ◌≤◌, ◌+◌, [], ◌∷◌, map, IfOk, IfErr, string_bytes};
+ghost use Rattle.environment.specs.Texts.{texts_in};
+ghost use Rattle.filetree.specs.Agreement.{Narrows, InEachPair};
+ghost use Rattle.modulesteps.specs.declared.refusal.Refusal.TheVariants as refusals;
+ghost use Rattle.modules.specs.Replies.{site_in};
+ghost use Rattle.modules.specs.Responses.{response_of, responses, count_failed};
+ghost use Rattle.requests.specs.Sessions.{env_after, left_by};
+ghost use Rattle.sessioncheck.specs.Sessions.{IsLineResponse, LineSession};
+
+use environment::Env;
+use filetree::Tree;
+use modules::{Outcome, Refusal, request, respond};
+use shells::Shell;
+use std::alloc::Global;
+use tclrules::Limits;
+
+/// What comes of the words of a line. Where they make no request it is refused so.
+fn respond_to<T: Tree>(
+    alloc: Global,
+    shell: Shell,
+    words: &[String],
+    env: &mut Env,
+    tree: &mut T,
+    limits: Limits,
+) -> Outcome
+    ensures before { Narrows (T.agrees tree.old) (T.agrees tree.new) }
+    ensures failures { T.failures tree.old + count_failed (result ∷ []) ≤ T.failures tree.new }
+    ensures answer { InEachPair (T.agrees tree.new) (λ files listings.
+        IsLineResponse (site_in limits shell files listings) env.old (map string_bytes words.now)
+        (response_of env.old result)) }
+    ensures left { InEachPair (T.agrees tree.new) (λ files listings.
+        env.new ≡ env_after env.old (response_of env.old result)) }
+{
+    match request(alloc, shell, words) {
+        Ok(request) => respond(alloc, &request, env, tree, limits),
+        Err(refusal) => Outcome::Refused(refusal),
+    }
+}
+
+/// Runs lines one after another, each by its words, and answers what came of each.
+pub(crate) fn run_lines<T: Tree>(
+    alloc: Global,
+    shell: Shell,
+    lines: &[Vec<String>],
+    env: &mut Env,
+    tree: &mut T,
+    limits: Limits,
+) -> Result<Vec<Outcome>, Refusal>
+    ensures before { Narrows (T.agrees tree.old) (T.agrees tree.new) }
+    ensures later { T.failures tree.old ≤ T.failures tree.new }
+    ensures failures { IfOk result (λ outcomes.
+        T.failures tree.old + count_failed outcomes.items ≤ T.failures tree.new) }
+    ensures ran { IfOk result (λ outcomes. InEachPair (T.agrees tree.new) (λ files listings.
+        LineSession (site_in limits shell files listings) env.old (map texts_in lines.now)
+        (responses env.old outcomes.items))) }
+    ensures left { IfOk result (λ outcomes. InEachPair (T.agrees tree.new) (λ files listings.
+        env.new ≡ left_by env.old (responses env.old outcomes.items))) }
+    ensures only { IfErr result (λ refusal. refusal ≡ refusals.OutOfMemory) }
+{
+    let mut outcomes = Vec::new(alloc);
+    let mut rest = lines;
+    while let [words, later @ ..] = rest {
+        let outcome = respond_to(alloc, shell, words.as_slice(), env, tree, limits);
+        outcomes.push(outcome)?;
+        rest = later;
+    }
+    Ok(outcomes)
+}
