@@ -311,6 +311,8 @@ def add_demo(prefixes):
                 true(b"LOADEDMODULES=greet/1:hello/2.0" in shown[2], "the environment behind the switch")
                 same(done.stdout.count(b"refused, with status 1\n"), 2, "the refusals that are shown")
                 true(b"hello/1.0(default)\n" in done.stdout, "what can be loaded is shown")
+                lines = b"1 accepted\n2 accepted\n3 refused: Unable to locate a modulefile for 'nope'\nhello/1.0: Plain\n"
+                true(lines in done.stdout, "what a check says is shown")
 
             demonstrates.__name__ = f"{shell.title} runs the demonstration"
             case(demonstrates)
