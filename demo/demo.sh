@@ -1,6 +1,6 @@
 #!/bin/sh
-# Shows loads, a switch, a check and unloads over the modulefiles beside this file, in this shell, with the product that is
-# installed below the directory that is named.
+# Shows loads, a switch, a check and unloads over the modulefiles beside this file, in this shell, with the product
+# that is installed below the directory that is named.
 set -eu
 
 PRODUCT=$(cd "$1" && pwd)

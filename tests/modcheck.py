@@ -235,7 +235,8 @@ def refusals_of_requests(folder):
         "/m/v/.version": "nope\n",
         "/m/deep/1": "conflict foo\n",
     }
-    given = "load two\nload late\nload k n\nload mpi\nload gcc mpi\nunload gcc\nload loop\nload t\nload v\nload foo\nload deep\n"
+    given = "load two\nload late\nload k n\nload mpi\nload gcc mpi\nunload gcc\nload loop\nload t\nload v\n"
+    given += "load foo\nload deep\n"
     lines = [
         "1 refused: a\nb (line 2)",
         "2 refused: Stopped by the modulefile",
@@ -333,8 +334,9 @@ def inputs_that_are_too_long(folder):
 @case
 def inputs_that_are_not_utf8(folder):
     check = Check(folder)
-    for given in (b"\xff", b"load foo\nload \xe9\n", b"load foo\n\xc3", b"\xed\xa0\x80\n", b"\xc0\xaf\n", b"\xf4\x90\x80\x80\n"):
-        check.refuses("Bad arguments", given=given)
+    for odd in (b"\xff", b"\xe9\n", b"\xc3", b"\xed\xa0\x80\n", b"\xc0\xaf\n", b"\xf4\x90\x80\x80\n"):
+        check.refuses("Bad arguments", given=odd)
+        check.refuses("Bad arguments", given=b"load foo\nload " + odd)
 
 
 @case

@@ -1,15 +1,15 @@
 """The law of plain files, tried by the built programs over random modulefiles.
 
-`modcheck` judges each file, and the verdict has to be the one that its making tells. A file that asked nothing is loaded
-and unloaded in 20 random environments and shells, under either typed name: each time the variables change as the same
-records mean it (by the model of `runs.py`), or the file is refused. One that is `OneWay` shows a record that can't be
-undone. For one that is `Asked` a list has, for each kind of question, another environment, shell, typed name or mode, in
-which its answer is another, so that the file leaves something else there.
+`modcheck` judges each file, and the verdict has to be the one that its making tells. A file that asked nothing is
+loaded or unloaded in 20 random environments and shells, under either typed name: each time the variables change as the
+same records mean it (by the model of `runs.py`), or the file is refused. One that is `OneWay` shows a record that can't
+be undone. For one that is `Asked` a list has, for each kind of question, another environment, shell, typed name or mode
+in which its answer is another, so that the file leaves something else there.
 
     python3 -B tests/plain.py MODCHECK [FILES [SEED]]
 
-`modulecmd` stands beside the program. Many files are judged in one run and loaded or unloaded by one command; one that is
-refused is tried again file by file.
+`modulecmd` stands beside the program. Many files are judged in one run, and loaded or unloaded by one command; a
+command that is refused is tried again file by file.
 """
 
 import os
