@@ -123,7 +123,7 @@ def one_way_record(rng):
 
 def some_record(rng, may_ask, is_one_way):
     """A record with the words of a command that leaves it."""
-    if is_one_way and rng.random() < 0.4:
+    if is_one_way and rng.random() < 0.5:
         record, words = one_way_record(rng)
         return record, words or ["unsetenv", record[1]]
     kind = rng.random()
@@ -196,7 +196,7 @@ class File:
         self.folder = f"f{number:05}"
         self.name = f"{self.folder}/1"
         self.path = f"{top}/{self.name}"
-        may_ask, is_one_way = rng.random() < 0.45, rng.random() < 0.4
+        may_ask, is_one_way = rng.random() < 0.45, rng.random() < 0.5
         pieces = []
         for place in range(rng.randint(1, 5)):
             kind = rng.random()
@@ -488,7 +488,7 @@ def tried(programs, files, seed):
     judge(programs, files)
     numbers = {verdict: len(of_verdict(files, verdict)) for verdict in ("Plain", "Asked", "OneWay")}
     print(f"{len(files)} files: {', '.join(f'{count} {verdict}' for verdict, count in numbers.items())}")
-    if min(numbers.values()) * 20 < len(files):
+    if min(numbers.values()) * 25 < len(files):
         raise Wrong("too few files of a verdict")
     show_what_stays(programs, of_verdict(files, "OneWay"))
     kinds = differ_elsewhere(programs, of_verdict(files, "Asked"))
