@@ -4,5 +4,3 @@ pub mod Command
 pub mod Output
 pub mod Words
 pub mod Runs
-pub mod Checking
-pub mod CheckWords

@@ -6,12 +6,12 @@ ghost use Rattle.requests.specs.RequestViews.{request_view};
 ghost use Rattle.modulecmd.specs.declared.ends.Exit.{Exit};
 ghost use Rattle.modulecmd.specs.Command as spec;
 ghost use Rattle.modulecmd.specs.Command.{CommandDoes, HasReason};
-ghost use Rattle.modulecmd.specs.Output.{EndsCommand, FinishesWriting, IsAnswer, IsCaused, status_of};
+ghost use Rattle.modulecmd.specs.Output.{EndsCommand, FinishesWriting, IsAnswer, IsCaused, WritesFault, status_of};
 ghost use Rattle.modulecmd.specs.Words.{effect_in, words_of};
 ghost use Rattle.modulecmd.specs.Writing.{AppendsPart};
 
 use crate::ends::Exit;
-use crate::refuse::{CommandFault, tell};
+use crate::refuse::{CommandFault, write_refusal};
 use crate::writers::{WriteFault, write_bytes, write_texts};
 use environment::Env;
 use filetree::Tree;
@@ -22,7 +22,7 @@ use std::alloc::Global;
 use std::io::Write;
 
 /// What every command may use.
-pub(crate) const STANDARD: Limits = Limits {
+const STANDARD: Limits = Limits {
     commands: 100_000,
     depth: 200,
     value_bytes: 1_048_576,
@@ -96,6 +96,16 @@ fn write_answer<W: Write, E: Write>(
     write_texts(err, answer.changed.messages.as_slice())?;
     write_bytes(err, answer.changed.report.as_str().as_bytes())?;
     write_bytes(out, answer.text.as_str().as_bytes())
+}
+
+/// Writes the line that tells of a fault.
+fn tell<E: Write>(fault: &CommandFault, err: &mut E) -> Exit
+    ensures { WritesFault result (E.contents err.old) (E.contents err.new) [] fault.now }
+{
+    match write_refusal(fault, err) {
+        Ok(()) => Exit::Told,
+        Err(WriteFault) => Exit::CutShort,
+    }
 }
 
 /// Writes what an accepted command writes. After a failed write the line that tells of it is tried once.

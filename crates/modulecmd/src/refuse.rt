@@ -1,21 +1,19 @@
 //! Why a command is refused, and the line that tells of it.
-ghost use Rattle.std.specs.Prelude.{◌≡◌, [], Some, OnOk, OnErr};
+ghost use Rattle.std.specs.Prelude.{◌≡◌, Some, OnOk, OnErr};
 ghost use Rattle.std.specs.Io.KnownBytes.{Appends};
 ghost use Rattle.modulecmd.specs.Writing.{AppendsPart};
 ghost use Rattle.message.specs.Messages.{around, text_of};
 ghost use Rattle.modulecmd.specs.Lines.{error_line, line_of, message_of};
 ghost use Rattle.modulesteps.specs.declared.refusal.Refusal.TheVariants as refusals;
 ghost use Rattle.modulecmd.specs.declared.refuse.CommandFault.TheVariants.{Refused, Unprinted};
-ghost use Rattle.modulecmd.specs.Command.{number_of, of_arguments, of_input};
-ghost use Rattle.modulecmd.specs.Output.{WritesFault};
+ghost use Rattle.modulecmd.specs.Command.{number_of, of_arguments};
 
-use crate::ends::Exit;
 use crate::writers::{WriteFault, write_parts};
 use environment::EnvFault;
 use itoa::Buffer;
 use message::Message;
-use modules::{FindFault, Refusal};
-use processinput::{ArgumentsFault, InputFault};
+use modules::Refusal;
+use processinput::ArgumentsFault;
 use shelltext::PrintFault;
 use std::alloc::AllocError;
 use std::error::Error;
@@ -115,18 +113,6 @@ impl From<ArgumentsFault> for CommandFault {
     }
 }
 
-impl From<InputFault> for CommandFault {
-    ghost from_gives = { λ fault e. e ≡ of_input fault };
-
-    fn from(fault: InputFault) -> CommandFault {
-        match fault {
-            InputFault::OutOfMemory => CommandFault::Refused(Refusal::OutOfMemory),
-            InputFault::ReadFailed => CommandFault::Refused(Refusal::Find(FindFault::Device)),
-            InputFault::BadInput => CommandFault::Refused(Refusal::BadArguments),
-        }
-    }
-}
-
 /// Writes a line of an error, of these parts.
 fn write_line<'a, E: Write>(
     before: &'a str,
@@ -154,14 +140,4 @@ pub fn write_refusal<E: Write>(fault: &CommandFault, err: &mut E) -> Result<(), 
     let message = fault.message();
     let [before, left, word, right, after] = message.parts(&mut digits);
     write_line(before, left, word, right, after, err)
-}
-
-/// Writes the line that tells of a fault.
-pub(crate) fn tell<E: Write>(fault: &CommandFault, err: &mut E) -> Exit
-    ensures { WritesFault result (E.contents err.old) (E.contents err.new) [] fault.now }
-{
-    match write_refusal(fault, err) {
-        Ok(()) => Exit::Told,
-        Err(WriteFault) => Exit::CutShort,
-    }
 }
