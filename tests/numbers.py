@@ -3,6 +3,8 @@
     python3 -B tests/numbers.py PROGRAM      PROGRAM is cases_requests, built
 
 Each growth of memory is refused in turn. Until the request is asked for, and after it, the program itself may be refused.
+The program asks each request of `run` and of a session too, which have memory where `run_changes` has none, and the other
+way round: that they answer otherwise then is passed over.
 """
 
 import os
@@ -14,6 +16,7 @@ from harness import SECONDS, Failed, refuser, refuses_each
 
 PROGRAM = os.path.abspath(sys.argv[1])
 NUMBERS = [f"{number} Out of memory" for number in (1, 11, 31, 41, 61)]
+OTHERS = ("run answers otherwise", "session answers otherwise")
 
 GCC = "module /m/gcc/9 setenv GCC 9\n"
 MPI = "module /m/mpi/1 prereq gcc\\npushenv CC mpicc\n"
@@ -55,7 +58,8 @@ def answers(there, words, asked):
     left = next((part for part in found if part.startswith("vars\n")), None)
     if any("fault: " in part for part in found) or left is None:
         return None
-    return answer.split("\n", 1)[1].strip(), left
+    lines = [line for line in answer.split("\n")[1:] if line not in OTHERS]
+    return "\n".join(lines).strip(), left
 
 
 def judged(there, words):
