@@ -3,8 +3,8 @@
     python3 -B tests/numbers.py PROGRAM      PROGRAM is cases_requests, built
 
 Each growth of memory is refused in turn. Until the request is asked for, and after it, the program itself may be refused.
-The program asks each request of `run` and of a session too, which have memory where `run_changes` has none, and the other
-way round: that they answer otherwise then is passed over.
+The program asks each request of `run` and of a session too. A growth is refused within one of the three, so that they
+answer otherwise then is passed over; with ample memory it is not.
 """
 
 import os
@@ -58,7 +58,7 @@ def answers(there, words, asked):
     left = next((part for part in found if part.startswith("vars\n")), None)
     if any("fault: " in part for part in found) or left is None:
         return None
-    lines = [line for line in answer.split("\n")[1:] if line not in OTHERS]
+    lines = [line for line in answer.split("\n")[1:] if not asked or line not in OTHERS]
     return "\n".join(lines).strip(), left
 
 
