@@ -10,9 +10,7 @@ use Rattle.modulesearch.specs.Looked.{IsVersionIn, LooksBy, LooksForNamed, Looks
 use Rattle.modulefind.specs.Steps.{module_in, module_at, DefaultIn, OfDefault, Below}
 use Rattle.modulefind.proofs.VersionLemmas.{split_first}
 use Rattle.modulefind.proofs.StepLemmas.{default_is_candidate}
-
-same_value : {A R : Type 0} (x y : A) (o p : Result A R) → o ≡ Ok x → p ≡ Ok y → o ≡ p → x ≡ y
-same_value x y o p h k e = cc
+use Rattle.modulefind.proofs.NamedLemmas.{same_value}
 
 some_value : {A R : Type 0} (x y : A) (o p : Result (Option A) R) → o ≡ Ok (Some x) → p ≡ Ok (Some y) → o ≡ p → x ≡ y
 some_value x y o p h k e = cc

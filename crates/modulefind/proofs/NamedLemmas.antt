@@ -10,7 +10,8 @@ use Rattle.modulefind.specs.declared.sayings.DefaultFile.{DefaultFile}
 use Rattle.modulefind.specs.declared.sayings.DefaultFile.TheVariants.{Modulerc, Version}
 use Rattle.modulefind.specs.Sayings.{NamedBy}
 
-same_value : (x y : Option Text) (o p : Result (Option Text) Reason) → o ≡ Ok x → p ≡ Ok y → o ≡ p → x ≡ y
+-- what two answers give that are one
+pub same_value : {A R : Type 0} (x y : A) (o p : Result A R) → o ≡ Ok x → p ≡ Ok y → o ≡ p → x ≡ y
 same_value x y o p h k e = cc
 
 -- `.modulerc` passes on to `.version`
