@@ -684,15 +684,15 @@ class Maker:
 class Answer:
     """What an evaluation came to."""
 
-    def __init__(self, kind, number, text, line, variables, messages, records):
+    def __init__(self, kind, number, text, line, variables, messages, records, asked):
         self.kind, self.variables, self.messages, self.records = kind, sorted(variables), messages, records
         if kind == "ok":
             self.result, self.count = text, number
-            self.shown = ("ok", text, number, self.variables, messages, records)
+            self.shown = ("ok", text, number, self.variables, messages, records, asked)
         else:
             self.number, self.text, self.line = number, text, line
-            # what is left of messages and records is the same also after a fault
-            self.shown = ("err", number, text, line if number == 13 else 0, messages, records)
+            # what the host was told is the same also after a fault
+            self.shown = ("err", number, text, line if number == 13 else 0, messages, records, asked)
 
 
 def own_answer(line):
@@ -700,7 +700,7 @@ def own_answer(line):
     head, *fields = line.split("\t")
     ending = ENDING.fullmatch(head)
     if not ending:
-        return Answer("none", 0, line, 0, [], [], [])
+        return Answer("none", 0, line, 0, [], [], [], False)
     told = {"var": [], "said": [], "kept": [], "asked": []}
     for field in fields:
         kind, _, text = field.partition(" ")
@@ -709,22 +709,23 @@ def own_answer(line):
     messages = [read(message) for message in told["said"]]
     records = [[read(word) for word in RECORD_WORD.findall(record)] for record in told["kept"]]
     count, number, place, text = ending.groups()
+    asked = bool(told["asked"])
     if count:
-        return Answer("ok", int(count), read(text), 0, variables, messages, records)
-    return Answer("err", int(number), read(text), int(place), variables, messages, records)
+        return Answer("ok", int(count), read(text), 0, variables, messages, records, asked)
+    return Answer("err", int(number), read(text), int(place), variables, messages, records, asked)
 
 
 def tcl_answer(line):
     """The answer of scripts.tcl."""
     words = line.split()
-    places = {mark: words.index(mark, 3) for mark in ("v", "m", "r")}
+    places = {mark: words.index(mark, 3) for mark in ("v", "m", "r", "q")}
     pairs = [translated(text_of(word)) for word in words[places["v"] + 1 : places["m"]]]
     messages = [translated(text_of(word)) for word in words[places["m"] + 1 : places["r"]]]
-    records = [[translated(text_of(word)) for word in record.split(",")] for record in words[places["r"] + 1 :]]
+    records = [[translated(text_of(word)) for word in record.split(",")] for record in words[places["r"] + 1 : places["q"]]]
     kind, first, second, *rest = words
     number, text = (second, first) if kind == "ok" else (first, second)
     line = int(rest[0]) if kind == "err" else 0
-    return Answer(kind, int(number), translated(text_of(text)), line, zip(pairs[::2], pairs[1::2]), messages, records)
+    return Answer(kind, int(number), translated(text_of(text)), line, zip(pairs[::2], pairs[1::2]), messages, records, words[-1] == "1")
 
 
 def bare(shown):

@@ -4,7 +4,8 @@
 # the file itself says their line.
 #
 # An answer is a line: `ok RESULT COUNT` or `err NUMBER TEXT LINE`, then `v NAME VALUE...` with the global variables, `m TEXT...`
-# with the messages, and `r WORDS...` with the records, each a list of words in digits joined by commas.
+# with the messages, `r WORDS...` with the records, each a list of words in digits joined by commas, and `q` with 1 or 0: whether
+# the script asked, by the command `mode` or by reading the environment.
 proc word {digits} {
     if {$digits eq "-"} { return "" }
     return [encoding convertfrom utf-8 [binary format H* $digits]]
@@ -34,7 +35,8 @@ proc record {args} {
     lappend ::records [join $shown ,]
     return ""
 }
-proc mode {} { return load }
+proc mode {} { asked; return load }
+proc asked {args} { set ::asked 1 }
 proc none {name args} { return -code error "invalid command name \"$name\"" }
 
 proc made {} {
@@ -43,9 +45,11 @@ proc made {} {
         $child alias $name $target
     }
     $child alias __halt halt $child
+    $child alias __asked asked
     $child eval {
         unset -nocomplain ::env
         array set ::env {HOME /home/p EMPTY {} N 12}
+        trace add variable ::env read __asked
         proc __main {script} { set ::__code [catch {uplevel #0 $script} ::__result] }
         set __steps 0
         set __place 1
@@ -59,6 +63,7 @@ proc evaluated {script} {
     set ::halted ""
     set ::messages {}
     set ::records {}
+    set ::asked 0
     set child [made]
     set before [$child eval {info globals}]
     interp limit $child time -seconds [expr {[clock seconds] + 10}]
@@ -76,6 +81,7 @@ proc evaluated {script} {
     foreach message $::messages { append answer " [digits $message]" }
     append answer " r"
     foreach record $::records { append answer " $record" }
+    append answer " q $::asked"
     return $answer
 }
 

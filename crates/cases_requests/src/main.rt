@@ -32,7 +32,8 @@
 //! them, where `run`, `run_changes`, the printed text and the exact difference agree. `vars` shows them. `ask WORD...`
 //! runs a request under the limits of `limits COMMANDS DEPTH BYTES` and shows its changes, loaded names,
 //! messages and report, or the number and the text of its refusal; it says so where `run` or a session of this request
-//! answers another number. `verdict NAME` judges a module under these limits.
+//! answers another number. There `nameless KIND` is a request without names, as no words make one.
+//! `verdict NAME` judges a module under these limits.
 //! `session REQUEST, REQUEST...` runs requests one after another, and shows what came of each and how the variables at
 //! the end differ from those at the start. `rehearse SHELL REQUEST, SHELL REQUEST...` rehearses requests: for each
 //! `accepted` and the text that it prints, or `none`, and then the variables that are left. `poor PATH REQUEST,

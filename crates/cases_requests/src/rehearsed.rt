@@ -3,13 +3,27 @@ use crate::shown::variables;
 use crate::texts::{parted, words};
 use anyhow::Result;
 use filetree::Tree;
-use modules::{Env, Limits, Refusal, Request, Shell, request};
+use modules::{Action, Env, Limits, Refusal, Request, Shell, request};
 use rehearsal::rehearse;
 use std::alloc::{AllocError, Global};
 
+/// The action of `nameless KIND`, which has no names; no words of a command line ask for it.
+fn nameless(alloc: Global, line: &str) -> Option<Action> {
+    match line.trim() {
+        "nameless load" => Some(Action::Load(Vec::new(alloc))),
+        "nameless unload" => Some(Action::Unload(Vec::new(alloc))),
+        "nameless show" => Some(Action::Show(Vec::new(alloc))),
+        "nameless whatis" => Some(Action::Whatis(Vec::new(alloc))),
+        _ => None,
+    }
+}
+
 /// The request that words ask for.
 pub(crate) fn request_of(alloc: Global, shell: Shell, line: &str) -> Result<Request, Refusal> {
-    request(alloc, shell, &words(alloc, line)?)
+    match nameless(alloc, line) {
+        Some(action) => Ok(Request { shell, action }),
+        None => request(alloc, shell, &words(alloc, line)?),
+    }
 }
 
 /// The requests of a line, parted by commas: each behind the name of its shell, or all for sh.

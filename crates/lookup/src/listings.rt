@@ -1,8 +1,9 @@
 //! All modules along MODULEPATH, one after the other.
 ghost use Rattle.std.specs.Prelude.{◌≡◌, ◌<◌, ◌≤◌, ◌++◌, map, IfOk, IfErr, OnOk};
-ghost use Rattle.filetree.specs.Agreement.{Narrows, InEachPair};
+ghost use Rattle.filetree.specs.Agreement.{FailsAt, Narrows, InEachPair};
 ghost use Rattle.filetree.specs.Causes.{Applies};
-ghost use Rattle.modulefind.specs.Answers.{cause_of};
+ghost use Rattle.modulesearch.specs.Looked.{ListingLooksAt};
+ghost use Rattle.modulefind.specs.Answers.{cause_of, is_failure};
 ghost use Rattle.modulelist.specs.Listings.{listing_view};
 ghost use Rattle.modulelist.specs.Rows.{row_view};
 ghost use Rattle.defaultfiles.specs.Leaves.{Leaves};
@@ -67,7 +68,8 @@ fn joined(alloc: Global, directories: &[modulelist::Listing]) -> Result<Vec<List
 /// of the whole name. A module is marked where a default file of its folder names it, each evaluated within the
 /// limits; nothing of a folder is marked where its default file has a fault.
 ///
-/// It fails with `Device` only where the device failed in this call, and with `OutOfMemory`.
+/// It fails with `Device` only where the device failed in this call, at a path that the listing looks at, and with
+/// `OutOfMemory`.
 pub fn available<T: Tree>(
     alloc: Global,
     tree: &mut T,
@@ -80,6 +82,9 @@ pub fn available<T: Tree>(
         Available (Leaves limits) files folders modulepath.now (map line_view listings.items))) }
     ensures fault { IfErr result (λ e.
         Applies (cause_of e) (T.failures tree.old < T.failures tree.new) (λ reason. ⊥)) }
+    ensures failed { FailsAt is_failure (T.failed tree.old) (T.failed tree.new) result (λ at.
+        InEachPair (T.agrees tree.new) (λ files folders.
+        ListingLooksAt (Leaves limits) files folders modulepath.now at)) }
 {
     let default_files = Evaluated { limits };
     let directories = modulelist::available(alloc, tree, &default_files, modulepath)?;

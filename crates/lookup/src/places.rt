@@ -1,8 +1,9 @@
 //! Where the module is that a name means.
 ghost use Rattle.std.specs.Prelude.{◌≡◌, ◌<◌, ◌≤◌, false};
 ghost use Rattle.modulename.specs.ModuleName.{is_module_name};
-ghost use Rattle.filetree.specs.Agreement.{Narrows};
-ghost use Rattle.modulefind.specs.Answers.{Tells};
+ghost use Rattle.filetree.specs.Agreement.{FailsAt, Narrows, InEachPair};
+ghost use Rattle.modulesearch.specs.Looked.{LooksAt};
+ghost use Rattle.modulefind.specs.Answers.{Tells, is_failure};
 ghost use Rattle.defaultfiles.specs.Leaves.{Leaves};
 ghost use Rattle.lookup.specs.Places.{Located};
 ghost use Rattle.lookup.specs.PlaceViews.{place_view};
@@ -28,8 +29,8 @@ pub struct Found {
 ///
 /// It fails with `BadName` exactly where the name is ill-spelled, before anything is read; with `NotFound` where no
 /// directory gives a module; with `BadDefaultFile` where a default file of the folder that was meant has a fault;
-/// with `NotUtf8` where the module found is not UTF-8; with `Device` only where the device failed in this call; and
-/// with `OutOfMemory`.
+/// with `NotUtf8` where the module found is not UTF-8; with `Device` only where the device failed in this call, at a
+/// path that the search for this name looks at; and with `OutOfMemory`.
 pub fn locate<T: Tree>(
     alloc: Global,
     tree: &mut T,
@@ -41,6 +42,9 @@ pub fn locate<T: Tree>(
     ensures later { T.failures tree.old ≤ T.failures tree.new }
     ensures told { Tells (T.agrees tree.new) (T.failures tree.old < T.failures tree.new) place_view result
         (λ files folders. Located (Leaves limits) files folders modulepath.now name.now) }
+    ensures failed { FailsAt is_failure (T.failed tree.old) (T.failed tree.new) result (λ at.
+        InEachPair (T.agrees tree.new) (λ files folders.
+        LooksAt (Leaves limits) files folders modulepath.now name.now at)) }
     ensures unread { is_module_name name.now ≡ false → tree.new ≡ tree.old }
 {
     let default_files = Evaluated { limits };

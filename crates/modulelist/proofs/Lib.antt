@@ -4,4 +4,5 @@ pub mod UnderLemmas
 pub mod RowLemmas
 pub mod FileLemmas
 pub mod WalkLemmas
+pub mod LookLemmas
 pub mod ListingLemmas

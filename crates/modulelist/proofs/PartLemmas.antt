@@ -59,7 +59,7 @@ pub cut : (rest : Text) → (is_single rest ≡ true) ⊎ Cut rest
 cut [] = inl refl
 cut (b ∷ bs) = cut_step (b == slash) b bs refl (cut bs)
 
-path-assoc : (a b c : Text) → path_of (path_of a b) c ≡ path_of a (path_of b c)
+pub path-assoc : (a b c : Text) → path_of (path_of a b) c ≡ path_of a (path_of b c)
 path-assoc a b c = append_assoc a (slash ∷ b) (slash ∷ c)
 
 pub name_below-path : (front : Option Text) (e more : Text) → name_below front (path_of e more) ≡ path_of (name_below front e) more

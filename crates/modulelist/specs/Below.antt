@@ -8,6 +8,7 @@ use Rattle.modulesearch.specs.Single.{is_single}
 use Rattle.modulesearch.specs.DefaultFiles.{Left}
 use Rattle.modulesearch.specs.Found.{IsModuleAt}
 use Rattle.modulesearch.specs.Listed.{LeadsThrough, IsNamed, Row, names_of}
+use Rattle.modulesearch.specs.Looked.{IsReached, LooksForNamed, LooksThrough}
 use Rattle.modulelist.specs.Marks.{is_marked_by}
 
 -- A folder is known by its name below the directory; the directory itself has none.
@@ -66,3 +67,21 @@ pub record AreRows (leaves : Text → Text → Option Left → Type 0) (files : 
     (Under : Text → Type 0) (rows : List Row) : Type 0 where
   pub sound : AllByRecursion (λ row. Under row.0 × IsMarkRight leaves files folders dir row) rows
   pub complete : (name : Text) → Under name → list_any (bytes_eq name) (names_of rows) ≡ true
+
+-- the file of one of these names
+abbrev pub LooksAmong : Text → List Text → Text → Type 0
+LooksAmong dir names at = (name : Text) × (list_any (bytes_eq name) names ≡ true) × (at ≡ path_of dir name)
+
+-- for what the default files of a folder name; those of the directory itself name nothing
+abbrev pub LooksForDefault : (Text → Text → Option Left → Type 0) → Files → Listings → Text → Option Text → Text → Type 0
+LooksForDefault leaves files folders dir None at = ⊥
+LooksForDefault leaves files folders dir (Some front) at = LooksForNamed leaves files folders dir front at
+
+-- the directory itself, or a folder that its entries lead to
+abbrev pub IsFolderOf : Listings → Text → Option Text → Type 0
+IsFolderOf folders dir None = Unit {0}
+IsFolderOf folders dir (Some front) = IsReached folders dir front
+
+-- where the listing of such a folder looks
+abbrev pub LooksFrom : (Text → Text → Option Left → Type 0) → Files → Listings → Text → Option Text → Text → Type 0
+LooksFrom leaves files folders dir front at = IsFolderOf folders dir front → LooksThrough leaves files folders dir at

@@ -1,9 +1,10 @@
 //! The modules below a folder.
 ghost use Rattle.std.specs.Prelude.{◌≡◌, ◌++◌, ◌+◌, ◌≤◌, List, map, Some, length, OnOk, IfOk, string_bytes};
 ghost use Rattle.std.specs.Option.{option_map};
-ghost use Rattle.filetree.specs.Agreement.{Files, Listings, InEachPair, HasCause};
+ghost use Rattle.filetree.specs.Agreement.{FailsAt, Files, Listings, InEachPair, HasCause, is_device};
 ghost use Rattle.modulesearch.specs.Listed as listed;
 ghost use Rattle.modulelist.specs.Below.{folder_path, parts_of, names_in, IsUnder, AreFiles, AreRows, IsDefaultOf};
+ghost use Rattle.modulelist.specs.Below.{LooksForDefault, LooksFrom};
 ghost use Rattle.modulelist.specs.Rows.{row_view};
 
 use crate::names::{folder_path, modules_among, names_in};
@@ -39,6 +40,9 @@ impl<D: DefaultFiles> Walk<'_, D> {
             (option_map (λ f. f.now) front.entry)
             (option_map string_bytes default))) }
         ensures cause { HasCause (T.failures tree.old) (T.failures tree.new) result }
+        ensures failed { FailsAt is_device (T.failed tree.old) (T.failed tree.new) result (λ at.
+            InEachPair (T.agrees tree.new) (λ files folders. LooksForDefault (D.leaves self.now.default_files.now) files folders
+            self.now.dir.now (option_map (λ f. f.now) front.entry) at)) }
     {
         let Some(front) = front else {
             return Ok(None);
@@ -78,6 +82,9 @@ impl<D: DefaultFiles> Walk<'_, D> {
             × AreFiles (D.leaves self.now.default_files.now) files folders self.now.dir.now
             (map string_bytes names.now) more)) }
         ensures cause { HasCause (T.failures tree.old) (T.failures tree.new) result }
+        ensures failed { FailsAt is_device (T.failed tree.old) (T.failed tree.new) result (λ at.
+            InEachPair (T.agrees tree.new) (λ files folders. LooksFrom (D.leaves self.now.default_files.now) files folders
+            self.now.dir.now (option_map (λ f. f.now) front.entry) at)) }
     {
         let modules = modules_among(self.alloc, tree, self.dir, names)?;
         if modules.is_empty() {
@@ -103,6 +110,9 @@ impl<D: DefaultFiles> Walk<'_, D> {
             × AreRows (D.leaves self.now.default_files.now) files folders self.now.dir.now
             (IsUnder files folders self.now.dir.now (option_map (λ f. f.now) front.entry)) more)) }
         ensures cause { HasCause (T.failures tree.old) (T.failures tree.new) result }
+        ensures failed { FailsAt is_device (T.failed tree.old) (T.failed tree.new) result (λ at.
+            InEachPair (T.agrees tree.new) (λ files folders. LooksFrom (D.leaves self.now.default_files.now) files folders
+            self.now.dir.now (option_map (λ f. f.now) front.entry) at)) }
     {
         if levels == 0 {
             return Ok(());

@@ -1,7 +1,8 @@
 //! The modules of each directory of a MODULEPATH.
 ghost use Rattle.std.specs.Prelude.{◌≡◌, map, IfOk, string_bytes};
-ghost use Rattle.filetree.specs.Agreement.{Files, Listings, InEachPair, HasCause};
+ghost use Rattle.filetree.specs.Agreement.{FailsAt, Files, Listings, InEachPair, HasCause, is_device};
 ghost use Rattle.modulesearch.specs.Listed.{IsListing, AreListings, Listed};
+ghost use Rattle.modulesearch.specs.Looked.{LooksThrough, ListingLooksAt};
 ghost use Rattle.modulelist.specs.Rows.{row_view};
 ghost use Rattle.modulelist.specs.Listings.{listing_view};
 
@@ -33,6 +34,9 @@ fn modules_of<T: Tree, D: DefaultFiles>(
     ensures answer { IfOk result (λ rows. InEachPair (T.agrees tree.new) (λ files folders.
         IsListing (D.leaves default_files.now) files folders dir.now (map row_view rows.items))) }
     ensures cause { HasCause (T.failures tree.old) (T.failures tree.new) result }
+    ensures failed { FailsAt is_device (T.failed tree.old) (T.failed tree.new) result (λ at.
+        InEachPair (T.agrees tree.new) (λ files folders.
+        LooksThrough (D.leaves default_files.now) files folders dir.now at)) }
 {
     let walk = Walk {
         alloc,
@@ -51,7 +55,7 @@ fn modules_of<T: Tree, D: DefaultFiles>(
 /// of the whole name. A module is marked where a default file of its folder names it; nothing of a folder is marked
 /// where its default file has a fault.
 ///
-/// It fails as the tree does, and for want of memory.
+/// It fails as the tree does, at a path that the listing looks at, and for want of memory.
 pub fn available<T: Tree, D: DefaultFiles>(
     alloc: Global,
     tree: &mut T,
@@ -62,6 +66,9 @@ pub fn available<T: Tree, D: DefaultFiles>(
     ensures listed { IfOk result (λ listings. InEachPair (T.agrees tree.new) (λ files folders.
         Listed (D.leaves default_files.now) files folders modulepath.now (map listing_view listings.items))) }
     ensures cause { HasCause (T.failures tree.old) (T.failures tree.new) result }
+    ensures failed { FailsAt is_device (T.failed tree.old) (T.failed tree.new) result (λ at.
+        InEachPair (T.agrees tree.new) (λ files folders.
+        ListingLooksAt (D.leaves default_files.now) files folders modulepath.now at)) }
 {
     let dirs = directories(alloc, modulepath)?;
     let mut listings = Vec::new(alloc);

@@ -1,9 +1,9 @@
 //! Names below a directory.
 ghost use Rattle.std.specs.Prelude.{◌≡◌, map, filter, IfOk, string_bytes};
 ghost use Rattle.std.specs.Option.{option_map};
-ghost use Rattle.filetree.specs.Agreement.{Files, Listings, InEachPair, HasCause};
+ghost use Rattle.filetree.specs.Agreement.{FailsAt, Files, Listings, InEachPair, HasCause, is_device};
 ghost use Rattle.modulesearch.specs.Single.{is_single};
-ghost use Rattle.modulelist.specs.Below.{folder_path, name_below, names_in, is_module_below};
+ghost use Rattle.modulelist.specs.Below.{folder_path, name_below, names_in, is_module_below, LooksAmong};
 
 use filetree::{Tree, TreeFault, holds_module};
 use modulefind::{is_single, path_of};
@@ -68,6 +68,8 @@ pub(crate) fn modules_among<'a, T: Tree>(
     ensures answer { IfOk result (λ modules. InEachPair (T.agrees tree.new) (λ files folders.
         map (λ m. m.now) modules.items ≡ filter (is_module_below files dir.now) (map string_bytes names.entry.now))) }
     ensures cause { HasCause (T.failures tree.old) (T.failures tree.new) result }
+    ensures failed { FailsAt is_device (T.failed tree.old) (T.failed tree.new) result
+        (LooksAmong dir.now (map string_bytes names.entry.now)) }
 {
     let mut modules = Vec::new(alloc);
     let mut rest = names;

@@ -1,8 +1,9 @@
--- Where the search for a module looks: the paths of the files and folders that it asks for on its way (module(1),
--- modulefile(5)). No failure at another path can end it.
-use Rattle.std.specs.Prelude.{◌≡◌, ◌⊎◌, true, List, [], ◌∷◌, codes, Option, Some, None, Ok, Err}
+-- Where the search for a module, and the listing of all, look: the paths of the files and folders that they ask for on
+-- their way (module(1), modulefile(5)). No failure at another path can end them.
+use Rattle.std.specs.Prelude.{◌≡◌, ◌⊎◌, true, List, [], ◌∷◌, bytes_eq, codes, Option, Some, None, Ok, Err}
+use Rattle.std.specs.List.{list_any}
 use Rattle.std.specs.Ordering.{is_le}
-use Rattle.modulename.specs.ModuleName.{Text, is_module_name}
+use Rattle.modulename.specs.ModuleName.{Text, parts, is_module_name}
 use Rattle.moduleversion.specs.Versions.{version_order}
 use Rattle.filetree.specs.Agreement.{Files, Listings}
 use Rattle.filetree.specs.Search.{directories, path_of}
@@ -11,6 +12,7 @@ use Rattle.modulesearch.specs.Reasons.{Reason}
 use Rattle.modulesearch.specs.DefaultFiles.{Left, VersionIn, Names, by_command, by_variable}
 use Rattle.modulesearch.specs.Found.{IsModuleAt, HasEntry, IsCandidate, HasCandidates, IsOneOf}
 use Rattle.modulesearch.specs.Found.{NamedDefault, default_file}
+use Rattle.modulesearch.specs.Listed.{LeadsThrough, IsBelow}
 
 -- an entry of the folder of a name that can be a version: one part, with which the whole name is well spelled
 pub record IsVersionIn (listings : Listings) (dir name v : Text) : Type 0 where
@@ -83,3 +85,26 @@ LooksAlong leaves files listings name (dir ∷ dirs) at =
 abbrev pub LooksAt : (Text → Text → Option Left → Type 0) → Files → Listings → Text → Text → Text → Type 0
 LooksAt leaves files listings modulepath name at =
     (is_module_name name ≡ true) × LooksAlong leaves files listings name (directories modulepath) at
+
+-- a name that the entries of folders lead to below a directory, of a file or of a folder
+pub record IsReached (listings : Listings) (dir name : Text) : Type 0 where
+  pub spelled : is_module_name name ≡ true
+  pub leads : LeadsThrough listings dir (parts name)
+
+-- a module stands in the folder itself
+abbrev pub HasModule : Files → Listings → Text → Text → Type 0
+HasModule files listings dir folder =
+    (v : Text) × (is_single v ≡ true) × IsBelow files listings dir (path_of folder v)
+
+-- for all modules of a directory: the directory, each name that its entries lead to, and the default files of a folder in
+-- which a module stands
+abbrev pub LooksThrough : (Text → Text → Option Left → Type 0) → Files → Listings → Text → Text → Type 0
+LooksThrough leaves files listings dir at =
+    (at ≡ dir)
+    ⊎ (((name : Text) × IsReached listings dir name × (at ≡ path_of dir name))
+    ⊎ ((folder : Text) × HasModule files listings dir folder × LooksForNamed leaves files listings dir folder at))
+
+-- The listing of a MODULEPATH looks at this path.
+abbrev pub ListingLooksAt : (Text → Text → Option Left → Type 0) → Files → Listings → Text → Text → Type 0
+ListingLooksAt leaves files listings modulepath at =
+    (dir : Text) × (list_any (bytes_eq dir) (directories modulepath) ≡ true) × LooksThrough leaves files listings dir at

@@ -1,7 +1,5 @@
 -- The greatest of the texts so far, and one more.
-use Rattle.std.proofs.Common.{◌≡◌, Bool, true, false, List, [], ◌∷◌, ◌++◌, Ordering, Less, Equal, Greater, is_le, refl, sym, ap, ◌∙◌, subst, ⊎_elim, ◌<◌, ◌≤◌, ◌-◌, length, map, take, drop, get_or, append_assoc, append-nil, arith}
-use Rattle.std.proofs.lemmas.List.{take_all}
-use Rattle.moduleversion.specs.Runs.{IsGreatestFront}
+use Rattle.std.proofs.Common.{◌≡◌, Bool, true, false, List, [], ◌∷◌, ◌++◌, Ordering, Less, Equal, Greater, is_le, refl, sym, ap, ◌∙◌, subst, ⊎_elim}
 use Rattle.std.specs.Prelude.{bytes_eq, ◌||◌, if◌then◌else◌}
 use Rattle.std.specs.List.{list_any}
 use Rattle.std.specs.Ordering.{is_lt, ordering_reverse}
@@ -68,26 +66,3 @@ greatest_of_one v = record {
   member = or_left (bytes_eq v v) false (itself v);
   last = λ w h. ⊎_elim (λ q. subst (λ x. is_le (version_order x v) ≡ true) (sym (same w v q)) (le_itself v)) (λ q. absurd (cc)) (or_cases (bytes_eq w v) false h);
 }
-
--- the first of some texts, and what follows it
-pub split_first : {X : Type 0} (view : X → Text) (vs rest : List X) (x : X) → 1 ≤ length vs → x ≡ get_or vs 0 x → rest ≡ take (length vs - 1) (drop 1 vs)
-    → map view vs ≡ view x ∷ map view rest
-split_first view [] rest x some is e = absurd (omega arith)
-split_first view (y ∷ ys) rest x some is e =
-    ap (λ z. view z ∷ map view ys) (sym is) ∙ ap (λ zs. view x ∷ map view zs) (sym (e ∙ take_all (length (y ∷ ys) - 1) ys (omega arith)))
-
-pub first_greatest : (versions rest : List Text) (v greatest : Text) → versions ≡ v ∷ rest → greatest ≡ v → IsGreatestFront versions rest greatest
-first_greatest versions rest v greatest whole e = (v ∷ [], whole, subst (IsGreatest (IsIn (v ∷ []))) (sym e) (greatest_of_one v))
-
-pub next_greatest : (versions rest after : List Text) (best v w next : Text) → IsGreatestFront versions rest best → rest ≡ v ∷ after → w ≡ v → next ≡ greater best w
-    → IsGreatestFront versions after next
-next_greatest versions rest after best v w next (front, whole, g) e is made = (
-  front ++ v ∷ [],
-  whole ∙ ap (λ r. front ++ r) e ∙ sym (append_assoc front (v ∷ []) after),
-  subst (IsGreatest (IsIn (front ++ v ∷ []))) (sym (made ∙ ap (greater best) is)) (greatest_of_more front best v g),
-)
-
-pub last_greatest : {X : Type 0} (view : X → Text) (versions : List Text) (rest : List X) (best : Text) → IsGreatestFront versions (map view rest) best → length rest < 1
-    → IsGreatest (IsIn versions) best
-last_greatest view versions [] best (front, whole, g) h = subst (λ vs. IsGreatest (IsIn vs) best) (sym (whole ∙ append-nil front)) g
-last_greatest view versions (x ∷ xs) best f h = absurd (omega arith)

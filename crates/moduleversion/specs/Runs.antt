@@ -1,8 +1,7 @@
--- Runs of digits, and the greatest version so far, as the code has them.
+-- Runs of digits, as the code has them.
 use Rattle.std.specs.Prelude.{◌≡◌, ℕ, Bool, true, false, ◌==◌, List, [], ◌∷◌, ◌++◌}
 use Rattle.std.specs.List.{list_all}
-use Rattle.moduleversion.specs.Versions.{zero_digit, is_digit, with_digit, Piece, run, other, IsIn, IsGreatest}
-use Rattle.modulename.specs.ModuleName.{Text}
+use Rattle.moduleversion.specs.Versions.{zero_digit, is_digit, with_digit, Piece, run, other}
 use Rattle.moduleversion.specs.declared.piece.Piece as rust_piece
 use Rattle.moduleversion.specs.declared.piece.Piece.TheVariants.{Run, Other}
 
@@ -37,7 +36,3 @@ piece_view (Other byte) = other byte
 abbrev pub IsPiece : rust_piece.Piece → Type 0
 IsPiece (Run digits) = are_digits digits.now ≡ true
 IsPiece (Other byte) = is_digit byte ≡ false
-
--- the greatest of the texts in front of the rest
-abbrev pub IsGreatestFront : List Text → List Text → Text → Type 0
-IsGreatestFront versions rest v = (front : List Text) × (versions ≡ front ++ rest) × IsGreatest (IsIn front) v

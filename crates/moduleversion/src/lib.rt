@@ -2,7 +2,6 @@
 #![tactic(auto)]
 
 mod digits;
-mod greatest;
 mod laws;
 mod piece;
 
@@ -10,7 +9,6 @@ ghost use Rattle.std.specs.Prelude.{◌≡◌};
 ghost use Rattle.std.specs.Cmp.Lexicographic.{slice_cmp};
 ghost use Rattle.moduleversion.specs.Versions.{pieces, piece_order, version_order};
 
-pub use greatest::greatest_of;
 pub use laws::{order_of_versions, rows_of_versions};
 use piece::split_piece;
 use std::cmp::Ordering;

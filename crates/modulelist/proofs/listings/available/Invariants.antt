@@ -1,7 +1,9 @@
-use Rattle.std.proofs.Common.{◌≤◌, ◌++◌, List, length, map}
+use Rattle.std.proofs.Common.{◌≡◌, ◌≤◌, ◌++◌, true, List, length, map}
 use Rattle.filetree.specs.Agreement.{InEachPair}
+use Rattle.modulename.specs.ModuleName.{Text}
 use Rattle.modulesearch.specs.Listed as listed
 use Rattle.modulesearch.specs.Listed.{AreListings}
+use Rattle.modulefind.proofs.VersionLemmas.{has}
 use Rattle.modulelist.specs.Listings.{listing_view}
 use Rattle.modulelist.proofs.listings.available.Given as goal
 
@@ -12,6 +14,8 @@ invariant-loop-rest g l = record {
       → AreListings (g.D.DefaultFiles.leaves l.default_files) files folders (map (λ dir. dir.now) l.rest) more
       → AreListings (g.D.DefaultFiles.leaves l.default_files) files folders (map (λ dir. dir.now) l.initial.rest) (map listing_view l.listings.items ++ more));
   later : g.T.Tree.failures l.initial.tree ≤ g.T.Tree.failures l.tree;
+  unfailed : g.T.Tree.failed l.tree ≡ g.T.Tree.failed l.initial.tree;
+  among : (d : Text) → has d (map (λ dir. dir.now) l.rest) ≡ true → has d (map (λ dir. dir.now) l.initial.rest) ≡ true;
 }
 
 abbrev pub decreases-loop-rest : goal.decreases-loop-rest

@@ -1,5 +1,7 @@
-use Rattle.std.proofs.Common.{◌≡◌, ◌≤◌, ◌++◌, length, filter, map, string_bytes}
+use Rattle.std.proofs.Common.{◌≡◌, ◌≤◌, ◌++◌, true, length, filter, map, string_bytes}
 use Rattle.filetree.specs.Agreement.{InEachPair}
+use Rattle.modulename.specs.ModuleName.{Text}
+use Rattle.modulefind.proofs.VersionLemmas.{has}
 use Rattle.modulelist.specs.Below.{is_module_below}
 use Rattle.modulelist.proofs.names.modules_among.Given as goal
 
@@ -9,6 +11,8 @@ invariant-loop-rest g l = record {
   so_far : InEachPair (g.T.Tree.agrees l.tree) (λ files folders.
       filter (is_module_below files l.dir) (map string_bytes l.names) ≡ map (λ m. m.now) l.modules.items ++ filter (is_module_below files l.dir) (map string_bytes l.rest));
   later : g.T.Tree.failures l.initial.tree ≤ g.T.Tree.failures l.tree;
+  unfailed : g.T.Tree.failed l.tree ≡ g.T.Tree.failed l.initial.tree;
+  among : (n : Text) → has n (map string_bytes l.rest) ≡ true → has n (map string_bytes l.names) ≡ true;
 }
 
 abbrev pub decreases-loop-rest : goal.decreases-loop-rest

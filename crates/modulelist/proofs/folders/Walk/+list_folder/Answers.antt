@@ -1,10 +1,14 @@
-use Rattle.std.proofs.Common.{◌≡◌, ◌≤◌, ◌++◌, ◌-◌, [], ◌∷◌, length, map, option_map, string_bytes, take, drop, Some, None, refl, sym, ap, ◌∙◌, append_assoc, append-nil, arith, rules}
-use Rattle.filetree.specs.Agreement.{listing_answer}
+use Rattle.std.proofs.Common.{◌≡◌, ◌≤◌, true, ◌++◌, ◌-◌, [], ◌∷◌, length, map, option_map, string_bytes, take, drop, Some, None, refl, sym, ap, ◌∙◌, append_assoc, append-nil, arith, rules}
+use Rattle.std.proofs.lemmas.Result.{err_from_is_err_and}
+use Rattle.filetree.specs.Agreement.{InEachPair, is_device, listing_answer}
+use Rattle.modulefind.proofs.FailureLemmas.{fails_then}
+use Rattle.modulefind.proofs.VersionLemmas.{has}
 use Rattle.modulelist.specs.Rows.{row_view}
-use Rattle.modulelist.specs.Below.{folder_path, parts_of, IsUnder}
+use Rattle.modulelist.specs.Below.{folder_path, parts_of, IsUnder, LooksFrom}
 use Rattle.modulelist.proofs.UnderLemmas.{none_under, deep_under}
 use Rattle.modulelist.proofs.RowLemmas.{rows_none}
-use Rattle.modulelist.proofs.WalkLemmas.{split_first, deeper, rows_begun, rows_more, rows_finished, none_left, one_more}
+use Rattle.modulelist.proofs.WalkLemmas.{split_first, has_middle, deeper, rows_begun, rows_more, rows_finished, none_left, one_more}
+use Rattle.modulelist.proofs.LookLemmas.{looks_inside}
 use Rattle.modulelist.proofs.folders.Walk.+list_folder.Goals as goal
 
 pub returns-then-levels-eq0-clause-added : goal.returns-then-levels-eq0-clause-added
@@ -37,6 +41,7 @@ loop-rest-init g t c = record {
         ),
   );
   later = omega arith;
+  unfailed = refl;
 }
 
 pub list_folder-requires : goal.list_folder-requires
@@ -71,7 +76,39 @@ loop-rest-preserved g t c =
             ),
       );
       later = omega arith;
+      unfailed = c.in_ok-list_folder.ensures.failed ∙ c.loop-rest.invariant.unfailed;
     }
+
+pub returns-in_err-list_folder-clause-failed : goal.returns-in_err-list_folder-clause-failed
+returns-in_err-list_folder-clause-failed g t c =
+    let leaves = g.D.DefaultFiles.leaves c.args.self.now.default_files.now in
+    let dir = c.args.self.now.dir.now in
+    let front = option_map (λ f. f.now) c.args.front in
+    let entries = map string_bytes c.deref-2.result.now in
+    let names = map string_bytes c.as_slice-rest.result.now in
+    let name = c.as_str.result.now in
+    let w = c.loop-rest.invariant.walked in
+    let rest = c.loop-rest.rest.now in
+    let agrees = g.T.Tree.agrees c.list_folder.new.tree in
+    let fails = is_device c.in_err-list_folder.field-0.0 in
+    let p = err_from_is_err_and c.from_residual-in_err-list_folder.result c.from_residual-in_err-list_folder.ensures.1 in
+    let there : has name names ≡ true =
+    ap (has name) (w.1 ∙ ap (λ r. w.0 ++ r) (split_first string_bytes c.name-item.result rest c.in-len1-up.len_at_least c.name-item.is ∙ ap (λ n. n ∷ map string_bytes (take (length rest - 1) (drop 1 rest))) (sym c.as_str.ensures.value)))
+    ∙ has_middle name w.0 (map string_bytes (take (length rest - 1) (drop 1 rest))) in
+    rw (p.1, p.2) (fails_then fails fails (g.T.Tree.failed c.args.tree.now) (g.T.Tree.failed c.loop-rest.tree) (g.T.Tree.failed c.list_folder.new.tree)
+    (λ at. InEachPair agrees (λ files folders. LooksFrom leaves files folders dir (Some name) at))
+    (λ at. InEachPair agrees (λ files folders. LooksFrom leaves files folders dir front at))
+    (c.loop-rest.invariant.unfailed ∙ c.in_ok-list_files.ensures.failed ∙ c.in_ok-entries.ensures.failed) refl
+    (λ at h files folders a.
+    let b = c.list_files.ensures.before files folders (c.loop-rest.invariant.before files folders (c.list_folder.ensures.before files folders a)) in
+    let listed : folders (folder_path dir front) ≡ Some entries =
+    ap folders (sym (c.deref.ensures ∙ c.in_ok-folder.ensures)) ∙ c.in_ok-entries.ensures.answer files folders b ∙ ap listing_answer c.in-Some.is
+    ∙ ap (λ items. Some (map string_bytes items)) (sym c.deref-2.ensures.value) in
+    looks_inside leaves files folders dir front entries listed names (ap (map string_bytes) c.as_slice-rest.ensures.value ∙ c.in_ok-names.ensures) name there at (h files folders a))
+    c.in_err-list_folder.ensures.failed)
+
+pub returns-clause-failed : goal.returns-clause-failed
+returns-clause-failed g t c = c.loop-rest.invariant.unfailed ∙ c.in_ok-list_files.ensures.failed ∙ c.in_ok-entries.ensures.failed
 
 pub returns-clause-before : goal.returns-clause-before
 returns-clause-before g t c = λ files folders a.

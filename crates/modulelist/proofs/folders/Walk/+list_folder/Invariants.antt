@@ -18,6 +18,7 @@ invariant-loop-rest g l = record {
       × AreRows (g.D.DefaultFiles.leaves l.self.default_files.now) files folders l.self.dir.now
       (IsInside files folders l.self.dir.now (map string_bytes l.initial.rest) done) more);
   later : g.T.Tree.failures l.initial.tree ≤ g.T.Tree.failures l.tree;
+  unfailed : g.T.Tree.failed l.tree ≡ g.T.Tree.failed l.initial.tree;
 }
 
 abbrev pub decreases-loop-rest : goal.decreases-loop-rest
