@@ -1,4 +1,5 @@
-"""The number of the refusal where memory is refused within a request: 1, 11, 31, 41 or 61, and nothing is changed.
+"""The number of the refusal where memory is refused within a request, and nothing is changed: 31 for the request itself,
+41 where files are searched for or read, 11 where they are evaluated.
 
     python3 -B tests/numbers.py PROGRAM      PROGRAM is cases_requests, built
 
@@ -15,7 +16,8 @@ import tempfile
 from harness import SECONDS, Failed, refuser, refuses_each
 
 PROGRAM = os.path.abspath(sys.argv[1])
-NUMBERS = [f"{number} Out of memory" for number in (1, 11, 31, 41, 61)]
+REQUEST, SEARCH, EVALUATION = (f"{number} Out of memory" for number in (31, 41, 11))
+NUMBERS = {REQUEST, SEARCH, EVALUATION}
 OTHERS = ("run answers otherwise", "session answers otherwise")
 
 GCC = "module /m/gcc/9 setenv GCC 9\n"
@@ -62,10 +64,15 @@ def answers(there, words, asked):
     return "\n".join(lines).strip(), left
 
 
+def numbers_of(words):
+    """The numbers that want of memory can have in the request."""
+    return {"list": {REQUEST}, "avail": {REQUEST, SEARCH}}.get(words, NUMBERS)
+
+
 def judged(there, words):
     """Whether what is found is refused for want of memory, and leaves the variables."""
     left = answers(there, words, {})[1]
-    return lambda found: found is None or (found[0] in NUMBERS and found[1] == left)
+    return lambda found: found is None or (found[0] in numbers_of(words) and found[1] == left)
 
 
 def main():
@@ -92,7 +99,7 @@ def main():
             sys.stdout.flush()
     print("refused by " + ", ".join(sorted(seen)))
     print(f"numbers: {passed} passed, {failed} failed")
-    return 1 if failed or not seen else 0
+    return 1 if failed or seen != NUMBERS else 0
 
 
 if __name__ == "__main__":

@@ -46,15 +46,15 @@ fn globals(alloc: Global, path: &str) -> Result<Vec<(String, String)>, AllocErro
 }
 
 /// The refusal behind a fault of the evaluation: for a number of the host the one that it kept.
-fn refusal(fault: EvalFault, kept: Option<CommandRefusal>) -> RunFault
+pub(crate) fn refusal(fault: EvalFault, kept: Option<CommandRefusal>) -> RunFault
     ensures stop { IfSome (stop_of result) (λ stop. eval_stop fault ≡ Some stop) }
     ensures told { (number : ℕ) (reason : CallReason) → fault ≡ Host number → IsKept (Some reason) number kept
         → reason_told result ≡ Some reason }
 {
     match fault {
-        EvalFault::OutOfMemory => RunFault::OutOfMemory,
         EvalFault::Host(number) => refused(number, kept),
-        EvalFault::Text(_)
+        EvalFault::OutOfMemory
+        | EvalFault::Text(_)
         | EvalFault::TclError(_, _)
         | EvalFault::TooManyCommands
         | EvalFault::TooDeep
@@ -91,14 +91,14 @@ fn drafted<V: Vars>(
     let mut runner = Runner::over(alloc, *context, env);
     match evaluate(alloc, text, globals, &mut runner, limits) {
         Ok(_ending) => runner.finish(),
-        Err(fault) => Err(refusal(fault, runner.into_refusal())),
+        Err(fault) => Err(runner.into_fault(fault)),
     }
 }
 
 /// Runs the text of a modulefile (modulefile(5)): its commands have their effects on the environment, in the mode at
 /// hand.
 ///
-/// Errors: want of memory; what ends the evaluation early (2 to 9 and 13 to 20); words that don't fit a command (56);
+/// Errors: want of memory (11 in the evaluation, and else 31); what ends the evaluation early (2 to 9 and 13 to 20); words that don't fit a command (56);
 /// and what a command may not name, or an effect that can't be had (32, 33, 34, 36, 37, 44). The environment is then as
 /// it was.
 pub fn run_file<V: Vars>(

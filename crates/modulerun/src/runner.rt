@@ -1,10 +1,11 @@
 //! The host of a modulefile.
-ghost use Rattle.std.specs.Prelude.{◌≡◌, ◌++◌, ◌∷◌, [], None, Ok, map, string_bytes, IfOk, IfErr, OnOk, OnErr, false};
+ghost use Rattle.std.specs.Prelude.{◌≡◌, ℕ, ◌++◌, ◌∷◌, [], None, Some, Ok, map, string_bytes, IfOk, IfErr, IfSome, OnOk, OnErr, false};
 ghost use Rattle.std.specs.Option.{option_map};
 ghost use Rattle.environment.specs.Texts.{Text, texts_in};
 ghost use Rattle.environment.specs.Reasons.{bad_variable};
 ghost use Rattle.environment.specs.Changes.{applied, new_values_in};
 ghost use Rattle.tclrules.specs.Oracle.{Nothing, Message, Done};
+ghost use Rattle.tclrules.specs.declared.outcome.EvalFault.TheVariants as evals;
 ghost use Rattle.modulerecords.specs.Judgments.{RecordReason, bad_edit};
 ghost use Rattle.modulefile.specs.Calls.{CallReason, bad_record, keeps, call_of};
 ghost use Rattle.modulefile.specs.CallViews.{HasReason, call_view, reason_of, topic_view};
@@ -13,22 +14,22 @@ ghost use Rattle.modulefile.specs.Answers.{answered, any_loaded, asked, not_done
 ghost use Rattle.modulefile.specs.Answers.{topic_text, topic_test, value_shown};
 ghost use Rattle.modulefile.specs.Files.{ran_of};
 ghost use Rattle.modulerun.specs.declared.run_fault.RunFault.TheVariants.{OutOfMemory};
-ghost use Rattle.modulerun.specs.Running.{ran_view};
+ghost use Rattle.modulerun.specs.Running.{ran_view, eval_stop, stop_of};
 ghost use Rattle.modulerun.specs.Journals.{found, so_far_of};
 ghost use Rattle.modulerun.specs.Hosting.{context_of, told_by, message_of, Replies};
-ghost use Rattle.modulerun.specs.Refusals.{against, against_reading, KeepsRefusal};
+ghost use Rattle.modulerun.specs.Refusals.{against, against_reading, reason_told, IsKept, KeepsRefusal};
 
 use crate::command_refusal::CommandRefusal;
 use crate::context::Context;
 use crate::journal::{Journal, Made};
 use crate::made;
 use crate::questions::{any_loaded, is_mode, mode_word, truth};
-use crate::run::{Draft, Ran};
+use crate::run::{Draft, Ran, refusal};
 use crate::run_fault::RunFault;
 use environment::{EnvFault, Vars, is_variable_name};
 use modulefile::{Call, CallFault, Mode, Record, RecordFault, Topic, call_of};
 use std::alloc::{AllocError, Global};
-use tclrules::{Host, HostAnswer};
+use tclrules::{EvalFault, Host, HostAnswer};
 
 /// Does the commands of a file over the environment from before it.
 pub(crate) struct Runner<'a, V: Vars> {
@@ -260,9 +261,11 @@ impl<'a, V: Vars> Runner<'a, V> {
         Ok(Draft { ran, changes })
     }
 
-    /// The refusal that was kept last.
-    pub(crate) fn into_refusal(self) -> Option<CommandRefusal>
-        ensures { result ≡ self.entry.refusal }
+    /// Why the file is refused whose evaluation ended with this fault: for a number the refusal that was kept last.
+    pub(crate) fn into_fault(self, fault: EvalFault) -> RunFault
+        ensures stop { IfSome (stop_of result) (λ stop. eval_stop fault ≡ Some stop) }
+        ensures told { (number : ℕ) (reason : CallReason) → fault ≡ evals.Host number
+            → IsKept (Some reason) number self.entry.refusal → reason_told result ≡ Some reason }
     {
         let Runner {
             alloc: _alloc,
@@ -270,9 +273,9 @@ impl<'a, V: Vars> Runner<'a, V> {
             journal: _journal,
             messages: _messages,
             asked: _asked,
-            refusal,
+            refusal: kept,
         } = self;
-        refusal
+        refusal(fault, kept)
     }
 
     /// Answers a command.

@@ -1,5 +1,5 @@
 -- Changes, and what they make.
-use Rattle.std.proofs.Common.{◌≡◌, List, [], ◌∷◌, ◌++◌, sym, subst, ap, refl, ◌∙◌}
+use Rattle.std.proofs.Common.{◌≡◌, List, sym, subst, ap, ◌∙◌}
 use Rattle.environment.specs.Environment.{Environment}
 use Rattle.environment.specs.Changes.{NewValue, AreChanges, applied}
 

@@ -16,9 +16,9 @@ use Rattle.filetree.specs.Causes.{Cause, Applies, memory, device, because}
 use Rattle.modulesteps.specs.Answers.{cause_of}
 use Rattle.modulesteps.specs.Messages.{memory_number, number_by, number_of}
 use Rattle.modulesteps.specs.declared.refusal.Refusal.{Refusal}
-use Rattle.modulesteps.specs.declared.refusal.Refusal.TheVariants as refusals
 use Rattle.modulesteps.specs.Views.{done_view}
 use Rattle.modulesteps.specs.declared.done.Done.{Done}
+use Rattle.modulesteps.proofs.WantLemmas.{of_three}
 use Rattle.modules.specs.declared.sessions.Outcome.{Outcome}
 use Rattle.modules.specs.declared.sessions.Outcome.TheVariants.{Accepted, Refused}
 use Rattle.modules.specs.Responses.{accepted_in, by_cause, count_cause, count_failed, count_one, led_to, response_of, responses, Returns}
@@ -83,17 +83,7 @@ responds law s e new asked done step =
 
 -- the number of want of memory is that of a cause
 pub memory_is_cause : (refusal : Refusal) → is_cause (memory_number refusal) ≡ true
-memory_is_cause refusals.OutOfMemory = refl
-memory_is_cause (refusals.Run fault) = refl
-memory_is_cause (refusals.Find fault) = refl
-memory_is_cause (refusals.Env fault) = refl
-memory_is_cause refusals.BadArguments = refl
-memory_is_cause (refusals.UnknownSubcommand word) = refl
-memory_is_cause (refusals.ConflictWith name) = refl
-memory_is_cause (refusals.PrereqMissing missing) = refl
-memory_is_cause (refusals.StillNeededBy name) = refl
-memory_is_cause (refusals.FileGone path) = refl
-memory_is_cause (refusals.NotAModulefile path) = refl
+memory_is_cause refusal = of_three refusal (λ n. is_cause n ≡ true) refl refl refl
 
 cause_responds : (wanting : ℕ) → is_cause wanting ≡ true → (c : Cause RequestReason) (agrees : Files → Listings → Type 0) (failed : Type 0) (site : Files → Listings → Site) (e : Environment) (asked : Asked)
     → Applies c failed (λ r. InEachPair agrees (λ files listings. RequestStep (site files listings) e asked (Err r)))

@@ -1,10 +1,11 @@
 //! One request over an environment that stays as it is.
-ghost use Rattle.std.specs.Prelude.{◌<◌, ◌≤◌, IfOk};
+ghost use Rattle.std.specs.Prelude.{◌<◌, ◌≤◌, IfOk, IfErr};
 ghost use Rattle.environment.specs.Changes.{AreChanges, new_values_in};
 ghost use Rattle.filetree.specs.Agreement.{Narrows};
 ghost use Rattle.requests.specs.RequestViews.{asked_view};
 ghost use Rattle.requests.specs.Steps.{RequestStep};
 ghost use Rattle.modulesteps.specs.Answers.{Tells};
+ghost use Rattle.modulesteps.specs.Messages.{WantsAmong, memory_numbers};
 ghost use Rattle.modules.specs.Replies.{left_by, changed_view, reply_view, site_in};
 
 use crate::reply::{Changed, Reply};
@@ -18,8 +19,8 @@ use tclrules::Limits;
 /// Runs a request over an environment, which stays as it is, and a tree of modulefiles, and answers what the request
 /// changes. It costs what the request touches, whatever else is set.
 ///
-/// It is refused as the request's step over the tree is; or for want of memory; or by 43 where the device failed in
-/// this call. Then there is no change.
+/// It is refused as the request's step over the tree is; or by 43 where the device failed in this call; or for want of
+/// memory: 31, 41 where files are searched for or read, 11 where they are evaluated. Then there is no change.
 pub fn run_changes<T: Tree>(
     alloc: Global,
     request: &Request,
@@ -32,6 +33,7 @@ pub fn run_changes<T: Tree>(
     ensures answer { Tells (T.agrees tree.new) (T.failures tree.old < T.failures tree.new) (changed_view env.now) result
         (λ files listings. RequestStep (site_in limits request.now.shell files listings) env.now
         (asked_view request.now.action)) }
+    ensures wanting { IfErr result (WantsAmong (memory_numbers (asked_view request.now.action))) }
     ensures exact { IfOk result (λ changed.
         AreChanges env.now (left_by env.now changed) (new_values_in changed.changes)) }
 {
@@ -62,6 +64,7 @@ pub fn run<T: Tree>(
     ensures answer { Tells (T.agrees tree.new) (T.failures tree.old < T.failures tree.new) reply_view result
         (λ files listings. RequestStep (site_in limits request.now.shell files listings) env.now
         (asked_view request.now.action)) }
+    ensures wanting { IfErr result (WantsAmong (memory_numbers (asked_view request.now.action))) }
 {
     let changed = run_changes(alloc, request, env, tree, limits)?;
     let mut after = env.copy()?;

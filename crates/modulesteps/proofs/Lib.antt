@@ -6,3 +6,4 @@ pub mod NameLemmas
 pub mod EachLemmas
 pub mod ReportLemmas
 pub mod VerdictLemmas
+pub mod WantLemmas

@@ -1,12 +1,16 @@
 -- The numbers of refusals, and what each says: the text of its layer's fault, or its own.
-use Rattle.std.specs.Prelude.{ℕ, codes, string_bytes}
+use Rattle.std.specs.Prelude.{ℕ, ◌≡◌, ◌==◌, true, List, [], ◌∷◌, codes, string_bytes}
+use Rattle.std.specs.List.{list_any}
 use Rattle.environment.specs.Reasons as edits
 use Rattle.environment.specs.Texts.{texts_in}
 use Rattle.filetree.specs.Answers.{find_message}
 use Rattle.filetree.specs.Causes.{Cause, memory, device, because}
 use Rattle.message.specs.Messages.{Text, quoting}
 use Rattle.modulerun.specs.Messages as runs
+use Rattle.modulerun.specs.declared.run_fault.RunFault.{RunFault}
+use Rattle.modulerun.specs.declared.run_fault.RunFault.TheVariants as faults
 use Rattle.requests.specs.Reasons.{RequestReason, reason_number}
+use Rattle.requests.specs.Requests.{Asked, load, unload, switch, purge, list, avail, show, whatis}
 use Rattle.modulesteps.specs.Answers.{cause_of}
 use Rattle.modulesteps.specs.Spaced.{spaced}
 use Rattle.modulesteps.specs.declared.refusal.Refusal.{Refusal}
@@ -18,10 +22,17 @@ number_by wanting memory = wanting
 number_by wanting device = 43
 number_by wanting (because reason) = reason_number reason
 
--- the number of want of memory: 41 in the search, and else 31
+-- the number of want of memory where a modulefile is run: 11 in its evaluation, and else 31
+abbrev pub run_memory_number : RunFault → ℕ
+run_memory_number faults.OutOfMemory = 31
+run_memory_number (faults.Eval fault) = 11
+run_memory_number faults.BadArguments = 31
+run_memory_number (faults.BadRecord fault) = 31
+
+-- the number of want of memory: 11 in the evaluation of a file, 41 in the search, and else 31
 abbrev pub memory_number : Refusal → ℕ
 memory_number refusals.OutOfMemory = 31
-memory_number (refusals.Run fault) = 31
+memory_number (refusals.Run fault) = run_memory_number fault
 memory_number (refusals.Find fault) = 41
 memory_number (refusals.Env fault) = 31
 memory_number refusals.BadArguments = 31
@@ -31,6 +42,22 @@ memory_number (refusals.PrereqMissing missing) = 31
 memory_number (refusals.StillNeededBy name) = 31
 memory_number (refusals.FileGone path) = 31
 memory_number (refusals.NotAModulefile path) = 31
+
+-- The numbers that want of memory can have in a request: 31 in each; 41 where files are searched for or read; 11 where
+-- they are evaluated.
+abbrev pub memory_numbers : Asked → List ℕ
+memory_numbers (load names) = 11 ∷ 31 ∷ 41 ∷ []
+memory_numbers (unload names) = 11 ∷ 31 ∷ 41 ∷ []
+memory_numbers (switch old new) = 11 ∷ 31 ∷ 41 ∷ []
+memory_numbers purge = 11 ∷ 31 ∷ 41 ∷ []
+memory_numbers list = 31 ∷ []
+memory_numbers (avail texts) = 31 ∷ 41 ∷ []
+memory_numbers (show names) = 11 ∷ 31 ∷ 41 ∷ []
+memory_numbers (whatis names) = 11 ∷ 31 ∷ 41 ∷ []
+
+-- want of memory, where the refusal is that, has one of these numbers
+abbrev pub WantsAmong : List ℕ → Refusal → Type 0
+WantsAmong numbers refusal = list_any (λ n. n == memory_number refusal) numbers ≡ true
 
 -- the number of a refusal is that of its cause
 abbrev pub number_of : Refusal → ℕ

@@ -1,5 +1,5 @@
 //! Whole requests.
-ghost use Rattle.std.specs.Prelude.{◌≡◌, ◌<◌, ◌≤◌, [], Some, IfOk, map, reverse, string_bytes};
+ghost use Rattle.std.specs.Prelude.{◌≡◌, ◌<◌, ◌≤◌, [], ◌∷◌, Some, IfOk, IfErr, map, reverse, string_bytes};
 ghost use Rattle.std.specs.Option.{option_map};
 ghost use Rattle.environment.specs.Environment.{Environment};
 ghost use Rattle.environment.specs.Texts.{texts_in};
@@ -14,6 +14,7 @@ ghost use Rattle.requests.specs.Steps as steps;
 ghost use Rattle.requests.specs.Steps.{begun, Each, EndsRequest, Named, Changes, ShowsNames, ListsLoaded, ListsAll, RequestStep};
 ghost use Rattle.modulesteps.specs.Views.{site_of, done_view};
 ghost use Rattle.modulesteps.specs.Answers.{GivesOrRefuses, Tells};
+ghost use Rattle.modulesteps.specs.Messages.{WantsAmong, memory_numbers};
 ghost use Rattle.modulesteps.specs.Parts.{DoesForName, topic_mode, topic_text};
 
 use crate::conditions::first_lost;
@@ -313,7 +314,8 @@ fn reporting(alloc: Global, text: &str) -> Result<Done, AllocError>
 
 /// Reports the loaded modules.
 fn list<V: Vars>(alloc: Global, env: &V) -> Result<Done, Refusal>
-    ensures { GivesOrRefuses (λ done. done_view done (V.vars env.now)) result (ListsLoaded (V.vars env.now)) }
+    ensures given { GivesOrRefuses (λ done. done_view done (V.vars env.now)) result (ListsLoaded (V.vars env.now)) }
+    ensures wanting { IfErr result (WantsAmong (31 ∷ [])) }
 {
     let entries = entries_of(alloc, env)?;
     let names = names_of(alloc, entries.as_slice())?;
@@ -334,6 +336,7 @@ fn avail<T: Tree, V: Vars>(
     ensures told { Tells (T.agrees tree.new) (T.failures tree.old < T.failures tree.new)
         (λ done. done_view done (V.vars env.now)) result
         (λ files listings. ListsAll (site_of terms files listings) (V.vars env.now) (map string_bytes texts.now)) }
+    ensures wanting { IfErr result (WantsAmong (31 ∷ 41 ∷ [])) }
 {
     let default_files = Evaluated {
         limits: terms.limits,
@@ -365,6 +368,7 @@ pub fn step<T: Tree, V: Vars>(
           limits = limits;
           shell = request.now.shell;
         }) (V.vars env.old) (asked_view request.now.action)) }
+    ensures wanting { IfErr result (WantsAmong (memory_numbers (asked_view request.now.action))) }
 {
     let terms = Terms {
         limits,

@@ -1,5 +1,5 @@
 //! The loaded modules, and the entry that a module joins them with.
-ghost use Rattle.std.specs.Prelude.{◌≡◌, ◌++◌, [], ◌∷◌, map, IfOk, OnOk, Ok, string_bytes};
+ghost use Rattle.std.specs.Prelude.{◌≡◌, ◌++◌, [], ◌∷◌, map, IfOk, IfErr, OnOk, Ok, string_bytes};
 ghost use Rattle.environment.specs.Texts.{shown, texts_in};
 ghost use Rattle.environment.specs.Fields.{firsts};
 ghost use Rattle.loadedlist.specs.Loaded.{names_of};
@@ -12,6 +12,7 @@ ghost use Rattle.requests.specs.Refusals.{unless};
 ghost use Rattle.requests.specs.Steps.{entries_of, modulepath};
 ghost use Rattle.modulesteps.specs.MoveViews.{module_view};
 ghost use Rattle.modulesteps.specs.Answers.{GivesOrRefuses};
+ghost use Rattle.modulesteps.specs.Messages.{WantsAmong};
 ghost use Rattle.modulesteps.specs.Parts.{entries_view, objection, added};
 
 use crate::conditions::{missing_group, own_conflict, recorded_conflict};
@@ -26,7 +27,8 @@ use std::alloc::{AllocError, Global};
 
 /// The loaded modules.
 pub(crate) fn entries_of<V: Vars>(alloc: Global, env: &V) -> Result<Vec<Loaded>, Refusal>
-    ensures { GivesOrRefuses entries_view result (Is (entries_of (V.vars env.now))) }
+    ensures given { GivesOrRefuses entries_view result (Is (entries_of (V.vars env.now))) }
+    ensures wanting { IfErr result (WantsAmong (31 ∷ [])) }
 {
     Ok(loaded(alloc, env)?)
 }

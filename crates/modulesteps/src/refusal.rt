@@ -5,7 +5,7 @@ ghost use Rattle.modulesteps.specs.declared.refusal.Refusal.TheVariants as refus
 ghost use Rattle.modulerun.specs.Running.{stop_of};
 ghost use Rattle.requests.specs.Reasons.{stopped};
 ghost use Rattle.modulesteps.specs.Answers.{by_reason, refused_read, refused_words};
-ghost use Rattle.modulesteps.specs.Messages.{number_by, number_of, message_of};
+ghost use Rattle.modulesteps.specs.Messages.{number_by, number_of, message_of, run_memory_number};
 
 use crate::missing::MissingNames;
 use environment::EnvFault;
@@ -17,14 +17,13 @@ use std::alloc::{AllocError, AllocFailed};
 use std::error::Error;
 use std::fmt;
 use std::fmt::Display;
-use tclrules::EvalFault;
 
 /// Why a request is refused. Its `Display` is what follows `ERROR: `.
 #[derive(Debug, Drop)]
 pub enum Refusal {
     /// 31: a growth of memory was refused.
     OutOfMemory,
-    /// 2 to 37 and 56, by its cause: a modulefile is refused.
+    /// 2 to 37, 44 and 56, by its cause: a modulefile is refused.
     Run(RunFault),
     /// 41 to 46: no modulefile is found, or it can't be read.
     Find(FindFault),
@@ -48,17 +47,14 @@ pub enum Refusal {
 
 /// The number of a modulefile's fault in a request.
 fn run_number(fault: &RunFault) -> u16
-    ensures { result ≡ number_by 31 (by_reason stopped (stop_of fault.now)) }
+    ensures { result ≡ number_by (run_memory_number fault.now) (by_reason stopped (stop_of fault.now)) }
 {
-    if let RunFault::Eval(EvalFault::OutOfMemory) = fault {
-        return 31;
-    }
     fault.number()
 }
 
 impl Refusal {
-    /// The number of the refusal: that of its reason, or 43 for a failed device, or for want of memory 41 in the search
-    /// and else 31.
+    /// The number of the refusal: that of its reason, or 43 for a failed device, or for want of memory 11 in the
+    /// evaluation of a file, 41 in the search, and else 31.
     pub fn number(&self) -> u16
         ensures { result ≡ number_of self.now }
     {

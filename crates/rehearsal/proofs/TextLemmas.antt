@@ -18,9 +18,11 @@ use Rattle.requests.specs.Requests.{Request}
 use Rattle.requests.specs.RequestViews.{request_view}
 use Rattle.requests.specs.declared.asked.Request as code
 use Rattle.requests.specs.Steps.{Site, Done, RequestStep}
-use Rattle.requests.specs.Sessions.{accepted, refused, given_up, Session, left_by}
+use Rattle.requests.specs.Sessions.{accepted, refused, given_up, is_cause, Session, left_by}
 use Rattle.filetree.specs.Causes.{Cause, Applies, memory, device, because}
 use Rattle.modulesteps.specs.Answers.{cause_of}
+use Rattle.modulesteps.specs.Messages.{memory_number}
+use Rattle.modulesteps.proofs.WantLemmas.{of_three}
 use Rattle.modulesteps.specs.declared.refusal.Refusal.{Refusal}
 use Rattle.modules.specs.Replies.{site_in}
 use Rattle.rehearsal.specs.Rehearsals.{ArePrints, Rehearsal, one_failed, count_failed}
@@ -36,6 +38,9 @@ not_unsayable n e X h = let z : (62 == 62) ≡ false = subst (λ m. (m == 62) �
 none_more : (before after : ℕ) → before ≤ after → before + 0 ≤ after
 none_more before after h = omega arith
 
+wanting_counts : (before after n : ℕ) → (n == 43) ≡ false → before ≤ after → before + one_failed (given_up n) ≤ after
+wanting_counts before after n is_other later = rw is_other (none_more before after later)
+
 one_more : (before after : ℕ) → before < after → before + 1 ≤ after
 one_more before after h = omega arith
 
@@ -46,26 +51,32 @@ module _ (agrees : Files → Listings → Type 0) (limits : Limits) (r : Request
   abbrev Steps : Result Done RequestReason → Type 0
   Steps o = InEachPair agrees (λ files listings. RequestStep (site_in limits r.0 files listings) e r.1 o)
 
-  -- memory was wanting
-  pub wanting_came : Came agrees limits r e e None before after
-  wanting_came = record {
-    response = given_up 31;
-    told = λ files listings agreed. refl;
-    printed = λ files listings agreed shell. (refl, not_unsayable 31 refl _);
+  -- memory was wanting, by this number
+  came_wanting : (n : ℕ) → is_cause n ≡ true → (n == 43) ≡ false → (n == 62) ≡ false → Came agrees limits r e e None before after
+  came_wanting n is not_device not_text = record {
+    response = given_up n;
+    told = λ files listings agreed. is;
+    printed = λ files listings agreed shell. (refl, not_unsayable n not_text _);
     left = refl;
-    failures = none_more before after later;
+    failures = wanting_counts before after n not_device later;
   }
 
-  cause_came : (c : Cause RequestReason) → Applies c (before < after) (λ reason. Steps (Err reason)) → Came agrees limits r e e None before after
-  cause_came memory h = wanting_came
-  cause_came device h = record {
+  -- for what the request makes of the environment
+  pub wanting_came : Came agrees limits r e e None before after
+  wanting_came = came_wanting 31 refl refl refl
+
+  -- the number of want of memory is that of the refusal
+  cause_came : (refusal : Refusal) (c : Cause RequestReason) → Applies c (before < after) (λ reason. Steps (Err reason)) → Came agrees limits r e e None before after
+  cause_came refusal memory h =
+      came_wanting (memory_number refusal) (of_three refusal (λ n. is_cause n ≡ true) refl refl refl) (of_three refusal (λ n. (n == 43) ≡ false) refl refl refl) (of_three refusal (λ n. (n == 62) ≡ false) refl refl refl)
+  cause_came refusal device h = record {
     response = given_up 43;
     told = λ files listings agreed. refl;
     printed = λ files listings agreed shell. (refl, not_unsayable 43 refl _);
     left = refl;
     failures = one_more before after h;
   }
-  cause_came (because reason) h = record {
+  cause_came refusal (because reason) h = record {
     response = refused reason;
     told = h;
     printed = λ files listings agreed shell. refl;
@@ -74,7 +85,7 @@ module _ (agrees : Files → Listings → Type 0) (limits : Limits) (r : Request
   }
 
   pub refused_came : (refusal : Refusal) → Applies (cause_of refusal) (before < after) (λ reason. Steps (Err reason)) → Came agrees limits r e e None before after
-  refused_came refusal h = cause_came (cause_of refusal) h
+  refused_came refusal h = cause_came refusal (cause_of refusal) h
 
   module _ (d : Done) (cs : List NewValue) (step : Steps (Ok d)) (changes : AreChanges e d.env cs) where
     pub unsaid_came : (fault : PrintFault) → IsPrintFault r.0 cs fault → Came agrees limits r e e None before after

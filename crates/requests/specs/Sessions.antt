@@ -17,9 +17,9 @@ pub data Response : Type 0 where
   refused : RequestReason → Response
   given_up : (number : ℕ) → Response
 
--- memory (of a request, the search, printing), a device, a text
+-- memory (of an evaluation, a request, the search, printing), a device, a text
 abbrev pub is_cause : ℕ → Bool
-is_cause number = list_any (λ n. n == number) (31 ∷ 41 ∷ 61 ∷ 43 ∷ 62 ∷ [])
+is_cause number = list_any (λ n. n == number) (11 ∷ 31 ∷ 41 ∷ 61 ∷ 43 ∷ 62 ∷ [])
 
 -- an accepted or refused request came to its step; one that was given up had a cause
 abbrev pub IsResponse : Site → Environment → Asked → Response → Type 0

@@ -21,8 +21,8 @@ pub returns-in-Err : goal.returns-in-Err
 returns-in-Err g c =
     let start = g.V.Vars.vars c.args.env.now in
     drafts_err c.args.limits (context_view c.args.context.now start) c.args.text.now
-    (told_with c.evaluate.new.host.journal c.evaluate.new.host.messages c.evaluate.new.host.asked) c.in-Err.fault c.refusal.result
+    (told_with c.evaluate.new.host.journal c.evaluate.new.host.messages c.evaluate.new.host.asked) c.in-Err.fault c.into_fault.result
     (started c.args.limits c.args.text.now c.args.context.now c.over-runner.result.context start c.over-runner.result.journal c.over-runner.result.messages c.over-runner.result.asked (texts_of c.in_ok-globals.globals.items) (Err c.in-Err.fault)
     (told_with c.evaluate.new.host.journal c.evaluate.new.host.messages c.evaluate.new.host.asked)
     c.over-runner.ensures.journal c.over-runner.ensures.context c.over-runner.ensures.messages c.over-runner.ensures.asked c.in_ok-globals.ensures c.in-Err.ensures.evaluates)
-    c.refusal.ensures.stop
+    c.into_fault.ensures.stop

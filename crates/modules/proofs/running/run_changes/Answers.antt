@@ -1,9 +1,11 @@
 use Rattle.std.proofs.Common.{Ok, subst, ◌∙◌}
+use Rattle.std.proofs.lemmas.Result.{err_from_is_err_and}
 use Rattle.environment.specs.Environment.{Environment}
 use Rattle.environment.specs.Changes.{new_values_in}
 use Rattle.requests.specs.RequestViews.{asked_view}
 use Rattle.requests.specs.Steps.{RequestStep}
 use Rattle.modulesteps.specs.Views.{done_view}
+use Rattle.modulesteps.proofs.WantLemmas.{own_number}
 use Rattle.modules.specs.Replies.{site_in}
 use Rattle.modules.proofs.RunLemmas.{left_of, exact_of}
 use Rattle.modules.proofs.running.run_changes.Goals as goal
@@ -21,3 +23,8 @@ returns-clause-answer g c =
 pub returns-clause-exact : goal.returns-clause-exact
 returns-clause-exact g c =
     exact_of c.changes.ensures c.args.env.now c.step.new.env.old c.step.new.env.new (new_values_in c.in_ok-changes.changes) (c.step.ensures.under ∙ c.over-working.ensures.old) c.in_ok-changes.ensures.ok
+
+pub returns-in_err-changes-clause-wanting : goal.returns-in_err-changes-clause-wanting
+returns-in_err-changes-clause-wanting g c =
+    let p = err_from_is_err_and c.from_residual-in_err-changes.result c.from_residual-in_err-changes.ensures.1 in
+    rw (p.1, p.2) (own_number (asked_view c.args.request.now.action))

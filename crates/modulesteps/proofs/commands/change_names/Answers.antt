@@ -19,7 +19,7 @@ returns-in_err-before-clause-told g c =
     rw (p.1, p.2) (gives_refused (g.T.Tree.agrees c.args.tree.now) (g.T.Tree.failures c.args.tree.now < g.T.Tree.failures c.args.tree.now) entries_view (λ (x : Done). begun e) c.in_err-before.field-0.0
     (Is (entries_of e)) (λ files listings. Named names (Changes e (λ before. Each (DoesForName c.args.doing (site_of c.args.terms files listings)) names)))
     (λ files listings r a h. named_some c.args.names.now c.is_empty.result c.is_empty.ensures c.if-is_empty.false (Changes e (λ before. Each (DoesForName c.args.doing (site_of c.args.terms files listings)) names)) (Err r) (Err r, h, refl))
-    c.in_err-before.ensures)
+    c.in_err-before.ensures.given)
 
 pub returns-clause-told : goal.returns-clause-told
 returns-clause-told g c =
@@ -31,5 +31,5 @@ returns-clause-told g c =
     tells_same (g.T.Tree.agrees c.change_each.new.tree) rose rose (λ (x : Done). done_view x (g.V.Vars.vars c.change_each.new.env)) c.change_each.result
     (λ files listings. Then (Each (DoesForName c.args.doing (site_of c.args.terms files listings)) names (begun e)) (EndsRequest xs))
     (λ files listings. Named names (Changes e (λ before. Each (DoesForName c.args.doing (site_of c.args.terms files listings)) names))) (λ q. q)
-    (λ files listings o a h. named_some c.args.names.now c.is_empty.result c.is_empty.ensures c.if-is_empty.false (Changes e (λ before. Each (DoesForName c.args.doing (site_of c.args.terms files listings)) names)) o (Ok xs, c.in_ok-before.ensures, h))
+    (λ files listings o a h. named_some c.args.names.now c.is_empty.result c.is_empty.ensures c.if-is_empty.false (Changes e (λ before. Each (DoesForName c.args.doing (site_of c.args.terms files listings)) names)) o (Ok xs, c.in_ok-before.ensures.given, h))
     told

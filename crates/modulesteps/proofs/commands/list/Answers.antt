@@ -8,11 +8,11 @@ use Rattle.requests.specs.Reports.{loaded_text}
 use Rattle.requests.specs.Steps.{begun, reported}
 use Rattle.modulesteps.proofs.commands.list.Goals as goal
 
-pub returns : goal.returns
-returns g c =
+pub returns-clause-given : goal.returns-clause-given
+returns-clause-given g c =
     let e = g.V.Vars.vars c.args.env.now in (
       Ok (map entry_of c.in_ok-entries.entries.items),
-      c.in_ok-entries.ensures,
+      c.in_ok-entries.ensures.given,
       ap Ok (c.in_ok-reporting.ensures e ∙ ap (λ (t : Text). reported (begun e) [] t) (c.as_str.ensures.value ∙ (c.in_ok-text.ensures
           ∙ (ap (λ (ns : List (String Global)). loaded_text (map (λ (s : String Global). string_bytes s) ns)) c.as_slice-2.ensures.value
           ∙ (ap loaded_text c.in_ok-names.ensures ∙ ap (λ (es : List Loaded). loaded_text (names_of (map entry_of es))) c.as_slice.ensures.value))))),

@@ -20,7 +20,7 @@ returns-in_err-before-clause-told g c =
     let p = err_from_is_err_and c.from_residual.result c.from_residual.ensures.1 in
     let e = g.V.Vars.vars c.args.env.now in
     rw (p.1, p.2) (gives_refused (g.T.Tree.agrees c.args.tree.now) (g.T.Tree.failures c.args.tree.now < g.T.Tree.failures c.args.tree.now) entries_view (λ (x : Done). begun e) c.in_err-before.field-0.0
-    (Is (entries_of e)) (λ files listings. RequestStep (site_of c.args.terms files listings) e asked.purge) (λ files listings r a h. (Err r, h, refl)) c.in_err-before.ensures)
+    (Is (entries_of e)) (λ files listings. RequestStep (site_of c.args.terms files listings) e asked.purge) (λ files listings r a h. (Err r, h, refl)) c.in_err-before.ensures.given)
 
 pub returns-clause-told : goal.returns-clause-told
 returns-clause-told g c =
@@ -33,5 +33,5 @@ returns-clause-told g c =
     tells_same (g.T.Tree.agrees c.change_each.new.tree) rose rose (λ (x : Done). done_view x (g.V.Vars.vars c.change_each.new.env)) c.change_each.result
     (λ files listings. Then (Each (DoesForName Unload (site_of c.args.terms files listings)) (map (λ (s : String Global). string_bytes s) c.in_ok-names.names.items) (begun e)) (EndsRequest xs))
     (λ files listings. RequestStep (site_of c.args.terms files listings) e asked.purge) (λ q. q)
-    (λ files listings o a h. (Ok xs, c.in_ok-before.ensures, subst (λ (ns : List Text). Then (Each (UnloadsName (site_of c.args.terms files listings) false) ns (begun e)) (EndsRequest xs) o) back h))
+    (λ files listings o a h. (Ok xs, c.in_ok-before.ensures.given, subst (λ (ns : List Text). Then (Each (UnloadsName (site_of c.args.terms files listings) false) ns (begun e)) (EndsRequest xs) o) back h))
     told

@@ -1,4 +1,4 @@
-use Rattle.std.proofs.Common.{◌≡◌, ◌<◌, Bor, String, string_bytes, sym, subst}
+use Rattle.std.proofs.Common.{◌≡◌, ◌<◌, Bor, IfErr, String, string_bytes, sym, subst}
 use Rattle.std.specs.declared.alloc.Global.{Global}
 use Rattle.std.specs.Option.{option_map}
 use Rattle.environment.specs.Texts.{Text}
@@ -8,8 +8,10 @@ use Rattle.requests.specs.RequestViews.{asked_view}
 use Rattle.requests.specs.Steps.{ListsLoaded, RequestStep}
 use Rattle.modulesteps.specs.declared.done.Terms.{Terms}
 use Rattle.modulesteps.specs.declared.done.Done.{Done}
+use Rattle.modulesteps.specs.Messages.{WantsAmong, memory_numbers}
 use Rattle.modulesteps.specs.Views.{site_of, done_view}
 use Rattle.modulesteps.proofs.StepLemmas.{gives_tells, tells_of}
+use Rattle.modulesteps.proofs.WantLemmas.{wants_any}
 use Rattle.modulesteps.proofs.commands.step.Goals as goal
 
 pub returns-in-Load-clause-told : goal.returns-in-Load-clause-told
@@ -56,7 +58,7 @@ returns-in-List-clause-told g c =
     let failures = g.T.Tree.failures c.args.tree.now in
     gives_tells (g.T.Tree.agrees c.args.tree.now) (failures < failures) (λ (x : Done). done_view x e) c.list.result
     (λ files listings. ListsLoaded e) (λ files listings. RequestStep (site_of terms files listings) e (asked_view c.args.request.now.action))
-    (λ files listings o a h. subst (λ (x : Action). RequestStep (site_of terms files listings) e (asked_view x) o) (sym c.in-List.is) h) (λ files listings. c.list.ensures)
+    (λ files listings o a h. subst (λ (x : Action). RequestStep (site_of terms files listings) e (asked_view x) o) (sym c.in-List.is) h) (λ files listings. c.list.ensures.given)
 
 pub returns-in-Avail-clause-told : goal.returns-in-Avail-clause-told
 returns-in-Avail-clause-told g c =
@@ -84,3 +86,35 @@ returns-in-Whatis-clause-told g c =
     let told = rw c.as_slice-in-Whatis.ensures.value at c.report_names-in-Whatis.ensures.told in
     tells_of (g.T.Tree.agrees c.report_names-in-Whatis.new.tree) rose (λ (x : Done). done_view x (g.V.Vars.vars c.report_names-in-Whatis.new.env)) c.report_names-in-Whatis.result
     (λ (action : Action) files listings. RequestStep (site_of terms files listings) e (asked_view action)) c.args.request.now.action (actions.Whatis c.in-Whatis.names) c.in-Whatis.is told
+
+pub returns-in-Load-clause-wanting : goal.returns-in-Load-clause-wanting
+returns-in-Load-clause-wanting g c =
+    subst (λ (action : Action). IfErr c.change_names.result (WantsAmong (memory_numbers (asked_view action)))) (sym c.in-Load.is) (wants_any c.change_names.result)
+
+pub returns-in-Unload-clause-wanting : goal.returns-in-Unload-clause-wanting
+returns-in-Unload-clause-wanting g c =
+    subst (λ (action : Action). IfErr c.change_names-in-Unload.result (WantsAmong (memory_numbers (asked_view action)))) (sym c.in-Unload.is) (wants_any c.change_names-in-Unload.result)
+
+pub returns-in-Switch-clause-wanting : goal.returns-in-Switch-clause-wanting
+returns-in-Switch-clause-wanting g c =
+    subst (λ (action : Action). IfErr c.switch.result (WantsAmong (memory_numbers (asked_view action)))) (sym c.in-Switch.is) (wants_any c.switch.result)
+
+pub returns-in-Purge-clause-wanting : goal.returns-in-Purge-clause-wanting
+returns-in-Purge-clause-wanting g c =
+    subst (λ (action : Action). IfErr c.purge.result (WantsAmong (memory_numbers (asked_view action)))) (sym c.in-Purge.is) (wants_any c.purge.result)
+
+pub returns-in-List-clause-wanting : goal.returns-in-List-clause-wanting
+returns-in-List-clause-wanting g c =
+    subst (λ (action : Action). IfErr c.list.result (WantsAmong (memory_numbers (asked_view action)))) (sym c.in-List.is) c.list.ensures.wanting
+
+pub returns-in-Avail-clause-wanting : goal.returns-in-Avail-clause-wanting
+returns-in-Avail-clause-wanting g c =
+    subst (λ (action : Action). IfErr c.avail.result (WantsAmong (memory_numbers (asked_view action)))) (sym c.in-Avail.is) c.avail.ensures.wanting
+
+pub returns-in-Show-clause-wanting : goal.returns-in-Show-clause-wanting
+returns-in-Show-clause-wanting g c =
+    subst (λ (action : Action). IfErr c.report_names.result (WantsAmong (memory_numbers (asked_view action)))) (sym c.in-Show.is) (wants_any c.report_names.result)
+
+pub returns-in-Whatis-clause-wanting : goal.returns-in-Whatis-clause-wanting
+returns-in-Whatis-clause-wanting g c =
+    subst (λ (action : Action). IfErr c.report_names-in-Whatis.result (WantsAmong (memory_numbers (asked_view action)))) (sym c.in-Whatis.is) (wants_any c.report_names-in-Whatis.result)

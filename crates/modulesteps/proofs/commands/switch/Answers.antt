@@ -17,7 +17,7 @@ returns-in_err-before-clause-told g c =
     let p = err_from_is_err_and c.from_residual.result c.from_residual.ensures.1 in
     let e = g.V.Vars.vars c.args.env.now in
     rw (p.1, p.2) (gives_refused (g.T.Tree.agrees c.args.tree.now) (g.T.Tree.failures c.args.tree.now < g.T.Tree.failures c.args.tree.now) entries_view (λ (x : Done). begun e) c.in_err-before.field-0.0
-    (Is (entries_of e)) (λ files listings. RequestStep (site_of c.args.terms files listings) e (asked.switch (option_map (λ x. x.now) c.args.old) c.args.new.now)) (λ files listings r a h. (Err r, h, refl)) c.in_err-before.ensures)
+    (Is (entries_of e)) (λ files listings. RequestStep (site_of c.args.terms files listings) e (asked.switch (option_map (λ x. x.now) c.args.old) c.args.new.now)) (λ files listings r a h. (Err r, h, refl)) c.in_err-before.ensures.given)
 
 pub returns-in_err-switch_names-clause-told : goal.returns-in_err-switch_names-clause-told
 returns-in_err-switch_names-clause-told g c =
@@ -31,7 +31,7 @@ returns-in_err-switch_names-clause-told g c =
     (λ files listings. RequestStep (site_of c.args.terms files listings) e (asked.switch (option_map (λ x. x.now) c.args.old) c.args.new.now)) (λ q. q)
     (λ files listings r a h. (
       Ok xs,
-      c.in_ok-before.ensures,
+      c.in_ok-before.ensures.given,
       (
         Err r,
         subst (λ (n : Text). Then (UnloadsName (site_of c.args.terms files listings) true n (begun e)) (LoadsName (site_of c.args.terms files listings) true c.args.new.now) (Err r)) c.old_name.ensures
@@ -53,7 +53,7 @@ returns-in_err-end-clause-told g c =
     (EndsRequest xs d) (λ files listings. RequestStep (site_of c.args.terms files listings) e (asked.switch (option_map (λ x. x.now) c.args.old) c.args.new.now))
     (λ files listings r a h. (
       Ok xs,
-      c.in_ok-before.ensures,
+      c.in_ok-before.ensures.given,
       (
         Ok d,
         subst (λ (n : Text). Then (UnloadsName (site_of c.args.terms files listings) true n (begun e)) (LoadsName (site_of c.args.terms files listings) true c.args.new.now) (Ok d)) c.old_name.ensures
@@ -70,7 +70,7 @@ returns-clause-told g c = λ files listings a.
     let xs = map entry_of c.in_ok-before.before.items in
     let ended = rw c.as_slice.ensures.value at c.in_ok-end.ensures in (
       Ok xs,
-      c.in_ok-before.ensures,
+      c.in_ok-before.ensures.given,
       (
         Ok d,
         subst (λ (n : Text). Then (UnloadsName (site_of c.args.terms files listings) true n (begun e)) (LoadsName (site_of c.args.terms files listings) true c.args.new.now) (Ok d)) c.old_name.ensures

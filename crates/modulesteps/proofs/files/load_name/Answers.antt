@@ -24,7 +24,7 @@ returns-in_err-found-clause-told g c =
     let no : has a.typed.now (names_of (map entry_of items)) ≡ false = ap (λ (es : List Loaded). has a.typed.now (names_of (map entry_of es))) (sym c.as_slice.ensures.value) ∙ (sym c.is_loaded.ensures ∙ c.if-is_loaded.false) in
     rw (p.1, p.2) (tells_refused (g.T.Tree.agrees c.find_module.new.tree) rose rose found_view (λ (u : Unit {0}). d) c.in_err-found.field-0.0
     (λ files listings. Finds (site_of a.terms files listings) e a.typed.now) (λ files listings. LoadsName (site_of a.terms files listings) a.in_switch a.typed.now d) (λ q. q)
-    (λ files listings r k h. loads_unfound (site_of a.terms files listings) a.in_switch a.typed.now d (map entry_of items) c.in_ok-entries.ensures no r h)
+    (λ files listings r k h. loads_unfound (site_of a.terms files listings) a.in_switch a.typed.now d (map entry_of items) c.in_ok-entries.ensures.given no r h)
     c.in_err-found.ensures.told)
 
 pub returns-clause-told : goal.returns-clause-told
@@ -39,7 +39,7 @@ returns-clause-told g c =
     let given = rw c.as_slice-2.ensures.value at c.load_found.ensures.given in
     gives_tells (g.T.Tree.agrees c.find_module.new.tree) rose (λ (u : Unit {0}). done_view c.load_found.new.done (g.V.Vars.vars c.load_found.new.env)) c.load_found.result
     (λ files listings. LoadsFound (site_of a.terms files listings) a.in_switch a.typed.now d (map entry_of items) m) (λ files listings. LoadsName (site_of a.terms files listings) a.in_switch a.typed.now d)
-    (λ files listings o k h. loads_found (site_of a.terms files listings) a.in_switch a.typed.now d (map entry_of items) c.in_ok-entries.ensures no m (c.in_ok-found.ensures.told files listings k) o h)
+    (λ files listings o k h. loads_found (site_of a.terms files listings) a.in_switch a.typed.now d (map entry_of items) c.in_ok-entries.ensures.given no m (c.in_ok-found.ensures.told files listings k) o h)
     given
 
 pub returns-in_err-entries-clause-told : goal.returns-in_err-entries-clause-told
@@ -51,7 +51,7 @@ returns-in_err-entries-clause-told g c =
     let failures = g.T.Tree.failures c.args.tree.now in
     rw (p.1, p.2) (gives_refused (g.T.Tree.agrees c.args.tree.now) (failures < failures) entries_view (λ (u : Unit {0}). d) c.in_err-entries.field-0.0
     (Is (entries_of e)) (λ files listings. LoadsName (site_of a.terms files listings) a.in_switch a.typed.now d)
-    (λ files listings r k h. loads_unread (site_of a.terms files listings) a.in_switch a.typed.now d r h) c.in_err-entries.ensures)
+    (λ files listings r k h. loads_unread (site_of a.terms files listings) a.in_switch a.typed.now d r h) c.in_err-entries.ensures.given)
 
 pub returns-then-is_loaded-clause-told : goal.returns-then-is_loaded-clause-told
 returns-then-is_loaded-clause-told g c = λ files listings k.
@@ -59,4 +59,4 @@ returns-then-is_loaded-clause-told g c = λ files listings k.
     let d = done_view c.args.done.now (g.V.Vars.vars c.args.env.now) in
     let items = c.in_ok-entries.entries.items in
     let yes : has a.typed.now (names_of (map entry_of items)) ≡ true = ap (λ (es : List Loaded). has a.typed.now (names_of (map entry_of es))) (sym c.as_slice.ensures.value) ∙ (sym c.is_loaded.ensures ∙ c.if-is_loaded.true) in
-    loads_loaded (site_of a.terms files listings) a.in_switch a.typed.now d (map entry_of items) c.in_ok-entries.ensures yes
+    loads_loaded (site_of a.terms files listings) a.in_switch a.typed.now d (map entry_of items) c.in_ok-entries.ensures.given yes

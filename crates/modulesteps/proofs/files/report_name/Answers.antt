@@ -18,7 +18,7 @@ returns-in_err-found-clause-told g c =
     rw (p.1, p.2) (tells_refused (g.T.Tree.agrees c.find_module.new.tree) rose rose found_view (λ (u : Unit {0}). d) c.in_err-found.field-0.0
     (λ files listings. Finds (site_of c.args.terms files listings) e c.args.typed.now)
     (λ files listings. ShowsName (site_of c.args.terms files listings) (topic_mode c.args.topic) (topic_text c.args.topic) c.args.typed.now d) (λ q. q)
-    (λ files listings r k h. (Ok (map entry_of c.in_ok-entries.entries.items), c.in_ok-entries.ensures, (Err r, h, refl)))
+    (λ files listings r k h. (Ok (map entry_of c.in_ok-entries.entries.items), c.in_ok-entries.ensures.given, (Err r, h, refl)))
     c.in_err-found.ensures.told)
 
 pub returns-clause-told : goal.returns-clause-told
@@ -32,7 +32,7 @@ returns-clause-told g c =
     (λ (u : Unit {0}). done_view c.report_found.new.done (g.V.Vars.vars c.report_found.new.env)) c.report_found.result
     (λ files listings. ReportsFound (record { terms = c.args.terms; in_switch = false; typed = c.args.typed }) c.args.topic m (map entry_of items) d)
     (λ files listings. ShowsName (site_of c.args.terms files listings) (topic_mode c.args.topic) (topic_text c.args.topic) c.args.typed.now d)
-    (λ files listings o k h. (Ok (map entry_of items), c.in_ok-entries.ensures, (Ok m, c.in_ok-found.ensures.told files listings k, h))) (λ files listings. given)
+    (λ files listings o k h. (Ok (map entry_of items), c.in_ok-entries.ensures.given, (Ok m, c.in_ok-found.ensures.told files listings k, h))) (λ files listings. given)
 
 pub returns-in_err-entries-clause-told : goal.returns-in_err-entries-clause-told
 returns-in_err-entries-clause-told g c =
@@ -42,4 +42,4 @@ returns-in_err-entries-clause-told g c =
     let failures = g.T.Tree.failures c.args.tree.now in
     rw (p.1, p.2) (gives_refused (g.T.Tree.agrees c.args.tree.now) (failures < failures) entries_view (λ (u : Unit {0}). d) c.in_err-entries.field-0.0
     (Is (entries_of e)) (λ files listings. ShowsName (site_of c.args.terms files listings) (topic_mode c.args.topic) (topic_text c.args.topic) c.args.typed.now d)
-    (λ files listings r k h. (Err r, h, refl)) c.in_err-entries.ensures)
+    (λ files listings r k h. (Err r, h, refl)) c.in_err-entries.ensures.given)

@@ -22,7 +22,7 @@ returns-in_err-entries-clause-told g c =
     let failures = g.T.Tree.failures c.args.tree.now in
     rw (p.1, p.2) (gives_refused (g.T.Tree.agrees c.args.tree.now) (failures < failures) entries_view (λ (u : Unit {0}). d) c.in_err-entries.field-0.0
     (Is (entries_of e)) (λ files listings. UnloadsName (site_of a.terms files listings) a.in_switch a.typed.now d)
-    (λ files listings r k h. unloads_unread (site_of a.terms files listings) a.in_switch a.typed.now d r h) c.in_err-entries.ensures)
+    (λ files listings r k h. unloads_unread (site_of a.terms files listings) a.in_switch a.typed.now d r h) c.in_err-entries.ensures.given)
 
 pub returns-then-not-is_module_name-clause-told : goal.returns-then-not-is_module_name-clause-told
 returns-then-not-is_module_name-clause-told g c = λ files listings k.
@@ -31,7 +31,7 @@ returns-then-not-is_module_name-clause-told g c = λ files listings k.
     let d = done_view c.args.done.now (g.V.Vars.vars c.args.env.now) in
     let no : is_module_name a.typed.now ≡ false = sym c.is_module_name.ensures ∙ c.if-not-is_module_name.true in
     subst (λ (t : Text). UnloadsName s a.in_switch a.typed.now d (Err (missed (bad_name t)))) (sym c.in_ok-name.ensures.ok)
-    (unloads_misnamed s a.in_switch a.typed.now d (map entry_of c.in_ok-entries.entries.items) c.in_ok-entries.ensures no)
+    (unloads_misnamed s a.in_switch a.typed.now d (map entry_of c.in_ok-entries.entries.items) c.in_ok-entries.ensures.given no)
 
 pub returns-in-None-clause-told : goal.returns-in-None-clause-told
 returns-in-None-clause-told g c = λ files listings k.
@@ -40,7 +40,7 @@ returns-in-None-clause-told g c = λ files listings k.
     let d = done_view c.args.done.now (g.V.Vars.vars c.args.env.now) in
     let yes : is_module_name a.typed.now ≡ true = sym c.is_module_name.ensures ∙ c.if-not-is_module_name.false in
     let meant = rw c.as_slice.ensures.value at c.in-None.ensures in
-    unloads_meant s a.in_switch a.typed.now d (map entry_of c.in_ok-entries.entries.items) c.in_ok-entries.ensures yes None meant (Ok d) refl
+    unloads_meant s a.in_switch a.typed.now d (map entry_of c.in_ok-entries.entries.items) c.in_ok-entries.ensures.given yes None meant (Ok d) refl
 
 pub returns-clause-told : goal.returns-clause-told
 returns-clause-told g c =
@@ -55,4 +55,4 @@ returns-clause-told g c =
     let told = rw c.as_slice-in-Some.ensures.value at c.unload_entry.ensures.told in
     tells_same (g.T.Tree.agrees c.unload_entry.new.tree) rose rose (λ (u : Unit {0}). done_view c.unload_entry.new.done (g.V.Vars.vars c.unload_entry.new.env)) c.unload_entry.result
     (λ files listings. UnloadsEntry (site_of a.terms files listings) a.in_switch a.typed.now d xs x) (λ files listings. UnloadsName (site_of a.terms files listings) a.in_switch a.typed.now d) (λ q. q)
-    (λ files listings o k h. unloads_meant (site_of a.terms files listings) a.in_switch a.typed.now d xs c.in_ok-entries.ensures yes (Some x) meant o h) told
+    (λ files listings o k h. unloads_meant (site_of a.terms files listings) a.in_switch a.typed.now d xs c.in_ok-entries.ensures.given yes (Some x) meant o h) told

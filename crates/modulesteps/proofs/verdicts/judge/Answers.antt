@@ -20,7 +20,7 @@ returns-in_err-found-clause-told g c =
     rw (p.1, p.2) (tells_refused (g.T.Tree.agrees c.find_module.new.tree) rose rose found_view verdict_view c.in_err-found.field-0.0
     (λ files listings. Finds (in_sh c.args.limits files listings) e c.args.typed.now)
     (λ files listings. Judged (in_sh c.args.limits files listings) e c.args.typed.now) (λ q. q)
-    (λ files listings r k h. (Ok (map entry_of c.in_ok-entries.entries.items), c.in_ok-entries.ensures, (Err r, h, refl)))
+    (λ files listings r k h. (Ok (map entry_of c.in_ok-entries.entries.items), c.in_ok-entries.ensures.given, (Err r, h, refl)))
     c.in_err-found.ensures.told)
 
 pub returns-in_err-ran-clause-told : goal.returns-in_err-ran-clause-told
@@ -34,7 +34,7 @@ returns-in_err-ran-clause-told g c =
     (λ ran. ran_view ran (g.V.Vars.vars c.evaluate.new.env)) verdict_view c.in_err-ran.field-0.0
     (RefusedAs stopped (RunsFile c.args.limits (judged_in (in_sh c.args.limits (λ path. None) (λ path. None)) c.args.typed.now m xs e) m.text))
     (λ files listings. Judged (in_sh c.args.limits files listings) e c.args.typed.now)
-    (λ files listings r a h. (Ok xs, c.in_ok-entries.ensures, (Ok m, c.in_ok-found.ensures.told files listings a, (Err r, h, refl)))) given)
+    (λ files listings r a h. (Ok xs, c.in_ok-entries.ensures.given, (Ok m, c.in_ok-found.ensures.told files listings a, (Err r, h, refl)))) given)
 
 pub returns-clause-told : goal.returns-clause-told
 returns-clause-told g c = λ files listings a.
@@ -43,7 +43,7 @@ returns-clause-told g c = λ files listings a.
     let last = g.V.Vars.vars c.evaluate.new.env in
     let given = rw (c.as_str.ensures.value, c.as_str-2.ensures.value, c.as_str-3.ensures.value, c.as_slice.ensures.value) at c.in_ok-ran.ensures.given in (
       Ok xs,
-      c.in_ok-entries.ensures,
+      c.in_ok-entries.ensures.given,
       (
         Ok m,
         c.in_ok-found.ensures.told files listings a,
