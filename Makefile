@@ -1,12 +1,12 @@
-# Builds, shows and tests the program modulecmd.
+# Builds, shows and tests the programs modulecmd and modcheck.
 #
-#   make build   proves the crates that the program stands on, side by side, and leaves it at build/bin/modulecmd;
+#   make build   proves the crates that the programs stand on, side by side, and leaves both in build/bin;
 #                JOBS=N says how many processors may be used
 #   make check   proves every crate as `make build` does, without the gate; with CRATE=name that crate and those below
 #   make install PREFIX=/opt/modulecmd DESTDIR=
-#                lays out the program, the init files, completion and the pages below a prefix, and `make uninstall`
+#                lays out the programs, the init files, completion and the pages below a prefix, and `make uninstall`
 #                takes them away
-#   make demo    installs it below build/demo, and shows loads, a switch and unloads in a POSIX shell
+#   make demo    installs them below build/demo, and shows loads, a switch, a check and unloads in a POSIX shell
 #   make test    the merge gate `rt ci`, the tests over real folders and real shells, and what each part took; with
 #                ONLY="NAME..." those suites alone, over the programs in build/bin
 #   make bench   a table of ratios beside a native program, Environment Modules and Lmod, and instructions where
@@ -17,6 +17,7 @@ PREFIX ?= /opt/modulecmd
 DESTDIR ?=
 CRATE ?=
 ONLY ?=
+PROGRAMS = build/bin/modulecmd build/bin/modcheck
 
 .PHONY: build check deps install uninstall demo test bench clean
 
@@ -29,11 +30,11 @@ check:
 deps:
 	sh tools/deps.sh
 
-build/bin/modulecmd:
+$(PROGRAMS):
 	python3 -B tools/build.py
 
-install: build/bin/modulecmd
-	sh tools/product.sh install '$(DESTDIR)' '$(PREFIX)' build/bin/modulecmd
+install: $(PROGRAMS)
+	sh tools/product.sh install '$(DESTDIR)' '$(PREFIX)' $(PROGRAMS)
 
 uninstall:
 	sh tools/product.sh uninstall '$(DESTDIR)' '$(PREFIX)'
@@ -41,7 +42,7 @@ uninstall:
 demo:
 	sh tools/deps.sh demo
 	python3 -B tools/build.py
-	sh tools/product.sh install '' '$(CURDIR)/build/demo' build/bin/modulecmd
+	sh tools/product.sh install '' '$(CURDIR)/build/demo' $(PROGRAMS)
 	sh demo/demo.sh build/demo
 
 test:

@@ -1,6 +1,6 @@
 #!/bin/sh
-# Shows loads, a switch and unloads over the modulefiles beside this file, in this shell, with the product that is
-# installed below the directory that is named.
+# Shows loads, a switch, a check and unloads over the modulefiles beside this file, in this shell, with the product
+# that is installed below the directory that is named.
 set -eu
 
 PRODUCT=$(cd "$1" && pwd)
@@ -43,6 +43,15 @@ run module unload hello
 run module switch hello/2.0
 run module list
 show 'after module switch hello/2.0'
+
+# What requests would do, and which modules can be undone. The status is 1, since a line is refused.
+requests='unload greet hello
+load hello/1.0
+load nope'
+echo '$ modcheck sh, with the lines'
+printf '%s\n\n' "$requests"
+printf '%s\n' "$requests" | "$PRODUCT/bin/modcheck" sh 2>&1 || true
+echo
 
 run module unload hello greet
 show 'after module unload hello greet'

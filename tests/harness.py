@@ -121,8 +121,8 @@ class Folder:
         self, *words, env=None, given=None, stdin=subprocess.DEVNULL, stdout=subprocess.PIPE, stderr=subprocess.PIPE,
         close=(), most=None, user=None,
     ):  # fmt: skip
-        """Runs the program, which reads what is given, if something is. `close` holds the numbers of the streams that are
-        closed before, and a file takes `most` bytes and then fails."""
+        """Runs the program, which reads what is given, if something is. `close` holds the numbers of the streams that
+        are closed before, and a file takes `most` bytes and then fails."""
 
         def prepare():
             for number in close:

@@ -554,7 +554,7 @@ def the_two_default_files(folder):
 
 
 def fails_at_each_byte(session, line, stream, text, said):
-    """The stream takes every number of bytes short of the text, and fails; then it takes all. `said` is what is then on the
+    """The stream takes every number of bytes short of the text, and fails; then it takes all, and `said` is on the
     other one. Of a failed stream the beginning is there, and the program says so where it can."""
     path = os.path.join(session.folder.path, b"taken")
     for most in range(len(text) + 1):

@@ -24,6 +24,7 @@ COUNTS = re.compile(r"(\d+) passed, (\d+) failed")
 # What the gate leaves in the folder out/ of a crate, by the name that the tests outside it know it by.
 PROGRAMS = {
     "modulecmd": ("modulecmd_main", "modulecmd_main"),
+    "modcheck": ("modcheck", "modcheck"),
     "cases_tcl": ("cases_tcl", "cases_tcl"),
     "cases_environment": ("cases_environment", "cases_environment"),
     "cases_requests": ("cases_requests", "cases_requests"),
@@ -37,6 +38,8 @@ SUITES = (
     ("sentence.py", "modulecmd", "300", "0", "sh"),
     ("sentence.py", "modulecmd", "40", "0", "tcsh"),
     ("sentence.py", "modulecmd", "40", "0", "fish"),
+    ("modcheck.py", "modcheck"),
+    ("plain.py", "modcheck"),
     ("memory.py", "modulecmd"),
     ("numbers.py", "cases_requests"),
     ("device.py", "modulecmd"),

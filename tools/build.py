@@ -4,7 +4,8 @@
 
 Proves the crates that are named and those below them, each once the crates that it stands on are there: as many at a
 time as processors and memory allow, the longest chain of crates first. A program among them is built and left in
-build/bin; with `--check` nothing is left there. Without a name: `modulecmd_main`, or every crate with `--check`.
+build/bin; with `--check` nothing is left there. Without a name: the two programs of the product, or every crate with
+`--check`.
 
 What was proved lies in crates/*/out/build and is taken again where neither the crate nor anything below it changed.
 JOBS=N says how many processors may be used. The verdict on a change is `rt ci`, which proves everything from nothing.
@@ -26,7 +27,8 @@ sys.path.insert(0, os.path.join(KIT, "bin"))
 
 import rtlib  # noqa: E402  (the kit's own module: it knows the words that a crate is proved with)
 
-# The programs whose name is not that of their crate.
+# The crates of the product's programs, and the programs whose name is not that of their crate.
+PRODUCT = ["modulecmd_main", "modcheck"]
 NAMES = {"modulecmd_main": "modulecmd"}
 MOST_JOBS = 4  # of one crate: more of them gain nothing
 SHOWN_LINES = 30
@@ -237,7 +239,7 @@ def leave(work):
 
 def main(words):
     is_check = words[:1] == ["--check"]
-    names = words[1:] if is_check else words or ["modulecmd_main"]
+    names = words[1:] if is_check else words or PRODUCT
     works = works_for(names)
     # (the first call sets a signal's handler, which only the main thread may)
     rtlib.guarded()

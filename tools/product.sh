@@ -1,7 +1,7 @@
 #!/bin/sh
 # Lays out the product below a prefix, or takes it away:
 #
-#   tools/product.sh install DESTDIR PREFIX PROGRAM
+#   tools/product.sh install DESTDIR PREFIX PROGRAM...
 #   tools/product.sh uninstall DESTDIR PREFIX
 #
 # PREFIX is where it will stand, and is written into the files that name one another; DESTDIR (empty, or a directory) is
@@ -31,8 +31,9 @@ esac
 files='init/sh init/bash init/ksh init/zsh init/csh init/tcsh init/fish init/profile.sh
     init/profile.csh libexec/module.csh libexec/ml.csh
     completion/bash completion/_module completion/fish completion/tcsh
-    share/man/man1/module.1 share/man/man5/modulefile.5 etc/modulespath.example'
+    share/man/man1/module.1 share/man/man1/modcheck.1 share/man/man5/modulefile.5 etc/modulespath.example'
 runs='libexec/usage libexec/modulespath libexec/names libexec/report'
+programs='bin/modulecmd bin/modcheck'
 folders='bin init libexec completion etc share/man/man1 share/man/man5 share/man share'
 
 # What a file holds.
@@ -69,9 +70,13 @@ case $action in
             filled "$file" > "$top/$file"
             chmod 755 "$top/$file"
         done
-        cp "$4" "$top/bin/modulecmd.new"
-        chmod 755 "$top/bin/modulecmd.new"
-        mv -f "$top/bin/modulecmd.new" "$top/bin/modulecmd"
+        shift 3
+        for program in "$@"; do
+            place=$top/bin/${program##*/}
+            cp "$program" "$place.new"
+            chmod 755 "$place.new"
+            mv -f "$place.new" "$place"
+        done
         # The site's own file stays.
         test -e "$top/etc/modulespath" || cp "$top/etc/modulespath.example" "$top/etc/modulespath"
         echo "installed below $top"
@@ -80,7 +85,7 @@ case $action in
         if cmp -s "$top/etc/modulespath" "$top/etc/modulespath.example"; then
             rm -f "$top/etc/modulespath"
         fi
-        for file in bin/modulecmd $runs $files; do
+        for file in $programs $runs $files; do
             rm -f "$top/$file"
         done
         for folder in $folders; do

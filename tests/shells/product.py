@@ -16,6 +16,7 @@ INIT = ("bash", "csh", "fish", "ksh", "profile.csh", "profile.sh", "sh", "tcsh",
 
 # Every file below the prefix.
 FILES = [
+    "bin/modcheck",
     "bin/modulecmd",
     "completion/_module",
     "completion/bash",
@@ -30,6 +31,7 @@ FILES = [
     "libexec/names",
     "libexec/report",
     "libexec/usage",
+    "share/man/man1/modcheck.1",
     "share/man/man1/module.1",
     "share/man/man5/modulefile.5",
 ]
@@ -79,7 +81,7 @@ def install_lays_out_every_file_and_uninstall_takes_it_away(folder):
         text = content(os.path.join(place, name))
         true(text, f"{name} isn't empty")
         marks = [mark for mark in (b"@prefix@", b"@shell@", b"@version@", b"# zsh: ") if mark in text]
-        same(marks if name != "bin/modulecmd" else [], [], f"what isn't filled in, in {name}")
+        same(marks if not name.startswith("bin/") else [], [], f"what isn't filled in, in {name}")
     made("uninstall", f"PREFIX={place}")
     same(os.path.exists(place), False, "the folder is gone")
 
@@ -148,11 +150,11 @@ def completion_offers_what_the_program_does(folder):
 
 @case
 def the_pages_are_well_formed(folder):
-    pages = [os.path.join(TOP, "man", name) for name in ("module.1", "modulefile.5")]
+    pages = [os.path.join(TOP, "man", name) for name in ("module.1", "modcheck.1", "modulefile.5")]
     true(shutil.which("mandoc"), "mandoc is installed")
     lint = subprocess.run(["mandoc", "-T", "lint", *pages], capture_output=True, check=False)
     # Whether the other page is installed on this machine is nothing to the page.
-    said = [line for line in lint.stdout.split(b"\n") if line and b"referenced manual not found: Xr module" not in line]
+    said = [line for line in lint.stdout.split(b"\n") if line and b"referenced manual not found: Xr mod" not in line]
     same(said, [], "what mandoc says")
     if shutil.which("man"):
         for page in pages:
@@ -309,6 +311,8 @@ def add_demo(prefixes):
                 true(b"LOADEDMODULES=greet/1:hello/2.0" in shown[2], "the environment behind the switch")
                 same(done.stdout.count(b"refused, with status 1\n"), 2, "the refusals that are shown")
                 true(b"hello/1.0(default)\n" in done.stdout, "what can be loaded is shown")
+                lines = b"1 accepted\n2 accepted\n3 refused: Unable to locate a modulefile for 'nope'\nhello/1.0: Plain\n"
+                true(lines in done.stdout, "what a check says is shown")
 
             demonstrates.__name__ = f"{shell.title} runs the demonstration"
             case(demonstrates)
@@ -335,6 +339,7 @@ def add_names(prefixes):
         same(names("avail", "fo"), ["foo/1.0", "foo/2.0"], "what can be loaded and begins so")
         same(names("avail", "'fo"), ["bar/1", "foo/1.0", "foo/2.0"], "what can be loaded, where a quote is typed")
         same(names("loaded"), ["foo/1.0", "baz/3"], "what is loaded")
+        same(names("shells"), ["bash", "csh", "fish", "ksh", "sh", "tcsh", "zsh"], "the shells")
         for line, wanted in (
             ("module load fo", ["foo/1.0", "foo/2.0"]),
             ("module show b", ["bar/1"]),

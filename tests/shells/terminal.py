@@ -260,6 +260,30 @@ def add(shell, prefixes):
         at.until(lambda: content(asked).endswith(wanted), "the words of a completed avail")
         at.close()
 
+    @named("completes the name of a shell behind modcheck, and nothing behind that")
+    def completes_a_shell(folder):
+        _, at, place = start(folder, STARTS.get(shell.title, []))
+        program, given = os.path.join(place, "bin", "modcheck"), os.path.join(place, "given")
+        os.mkdir(os.path.dirname(program))
+        with open(program, "w") as file:
+            file.write(f"#!/bin/sh\nprintf '%s,' \"$@\" >> '{given}'\n")
+        os.chmod(program, 0o755)
+        there = os.path.dirname(program)
+        adds = {"sh": "PATH=$PATH:{}", "csh": "setenv PATH $PATH\\:{}", "fish": "set -gx PATH $PATH {}"}[shell.family]
+        at.send(adds.format(there) + "\n")
+        at.settle(0.1)
+        wanted = b""
+        for keys, words in (("modcheck tc", b"tcsh,"), ("modcheck fi", b"fish,"), ("modcheck bash rea", b"bash,rea,")):
+            at.send(keys)
+            at.settle(0.1)
+            at.send("\t")
+            at.settle(0.3)
+            at.send("\n")
+            wanted += words
+            at.until(lambda wanted=wanted: content(given) == wanted, f"the words of {keys!r}")
+            at.settle(0.1)
+        at.close()
+
     if shell.title == "zsh":
 
         @named("completes where the system of completions starts later")

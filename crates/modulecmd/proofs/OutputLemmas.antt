@@ -7,7 +7,6 @@ use Rattle.environment.specs.Texts.{Text}
 use Rattle.environment.specs.Environment.{Environment}
 use Rattle.modulecmd.specs.declared.ends.Exit.{Exit}
 use Rattle.modulecmd.specs.declared.ends.Exit.TheVariants.{Success, Told, CutShort}
-use Rattle.modulecmd.specs.declared.refuse.CommandFault.{CommandFault}
 use Rattle.modulecmd.specs.declared.refuse.CommandFault.TheVariants.{WriteFailed}
 use Rattle.modulecmd.specs.declared.command.Answer.{Answer}
 use Rattle.modulecmd.specs.Output.{BreaksOff, EndsCommand, FinishesWriting, IsAnswer, Outcomes, WritesFault, said}

@@ -19,6 +19,9 @@ use Rattle.modulesteps.specs.Answers.{cause_of}
 use Rattle.modulesteps.specs.Messages as texts
 use Rattle.modulesteps.specs.declared.refusal.Refusal.TheVariants as refusals
 use Rattle.modules.specs.Replies.{site_in}
+use Rattle.filetree.specs.declared.search.FindFault.TheVariants as finds
+use Rattle.processinput.specs.declared.input.InputFault.{InputFault}
+use Rattle.processinput.specs.declared.input.InputFault.TheVariants as inputs
 use Rattle.processinput.specs.declared.process.ArgumentsFault.{ArgumentsFault}
 use Rattle.processinput.specs.declared.process.ArgumentsFault.TheVariants as given
 use Rattle.modulecmd.specs.declared.refuse.CommandFault.{CommandFault}
@@ -102,6 +105,12 @@ IsNumbered fault =
 abbrev pub of_arguments : ArgumentsFault → CommandFault
 of_arguments given.OutOfMemory = Refused refusals.OutOfMemory
 of_arguments given.NotUtf8 = Refused refusals.BadArguments
+
+-- an input that has no text, as a refusal
+abbrev pub of_input : InputFault → CommandFault
+of_input inputs.OutOfMemory = Refused refusals.OutOfMemory
+of_input inputs.ReadFailed = Refused (refusals.Find finds.Device)
+of_input inputs.BadInput = Refused refusals.BadArguments
 
 -- A command comes to one effect at most, or to one reason.
 abbrev pub OneCommand : Type 0

@@ -4,3 +4,5 @@ pub mod Command
 pub mod Output
 pub mod Words
 pub mod Runs
+pub mod Checking
+pub mod CheckWords

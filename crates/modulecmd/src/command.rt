@@ -1,18 +1,16 @@
 //! One command: the words in, the text and the messages out.
-ghost use Rattle.std.specs.Prelude.{◌≡◌, ◌<◌, ◌≤◌, ◌⊎◌, [], map, Ok, Err, IfOk, IfErr, OnOk, OnErr, string_bytes};
-ghost use Rattle.std.specs.Io.KnownBytes.{Keeps, Appends};
+ghost use Rattle.std.specs.Prelude.{◌≡◌, ◌<◌, ◌≤◌, map, Ok, Err, IfOk, IfErr, string_bytes};
 ghost use Rattle.filetree.specs.Agreement.{Narrows};
 ghost use Rattle.requests.specs.RequestViews.{request_view};
 ghost use Rattle.modulecmd.specs.declared.ends.Exit.{Exit};
 ghost use Rattle.modulecmd.specs.Command as spec;
 ghost use Rattle.modulecmd.specs.Command.{CommandDoes, HasReason};
-ghost use Rattle.modulecmd.specs.Output.{EndsCommand, FinishesWriting, IsAnswer, IsCaused, WritesFault, status_of};
-ghost use Rattle.modulecmd.specs.Words.{effect_in, words_of};
-ghost use Rattle.modulecmd.specs.Writing.{AppendsPart};
+ghost use Rattle.modulecmd.specs.Output.{EndsCommand, IsAnswer, IsCaused, status_of};
+ghost use Rattle.modulecmd.specs.Words.{effect_in};
 
 use crate::ends::Exit;
-use crate::refuse::{CommandFault, write_refusal};
-use crate::writers::{WriteFault, write_bytes, write_texts};
+use crate::finishing::{finish, tell};
+use crate::refuse::CommandFault;
 use environment::Env;
 use filetree::Tree;
 use modules::{Changed, Limits, Refusal, Request, request, run_changes};
@@ -22,7 +20,7 @@ use std::alloc::Global;
 use std::io::Write;
 
 /// What every command may use.
-const STANDARD: Limits = Limits {
+pub(crate) const STANDARD: Limits = Limits {
     commands: 100_000,
     depth: 200,
     value_bytes: 1_048_576,
@@ -79,46 +77,6 @@ fn answer_of<T: Tree>(
     })
 }
 
-/// Writes the messages and the report, and then the text, until a write fails. Then not all is written.
-fn write_answer<W: Write, E: Write>(
-    answer: &Answer,
-    out: &mut W,
-    err: &mut E,
-) -> Result<(), WriteFault>
-    ensures whole { OnOk result (Appends (W.contents out.old) (W.contents out.new) (string_bytes answer.now.text)
-        × Appends (E.contents err.old) (E.contents err.new) (words_of answer.now)) }
-    ensures cut { OnErr result (
-        (Keeps (W.contents out.old) (W.contents out.new)
-        × AppendsPart (E.contents err.old) (E.contents err.new) (words_of answer.now))
-        ⊎ (AppendsPart (W.contents out.old) (W.contents out.new) (string_bytes answer.now.text)
-        × Appends (E.contents err.old) (E.contents err.new) (words_of answer.now))) }
-{
-    write_texts(err, answer.changed.messages.as_slice())?;
-    write_bytes(err, answer.changed.report.as_str().as_bytes())?;
-    write_bytes(out, answer.text.as_str().as_bytes())
-}
-
-/// Writes the line that tells of a fault.
-fn tell<E: Write>(fault: &CommandFault, err: &mut E) -> Exit
-    ensures { WritesFault result (E.contents err.old) (E.contents err.new) [] fault.now }
-{
-    match write_refusal(fault, err) {
-        Ok(()) => Exit::Told,
-        Err(WriteFault) => Exit::CutShort,
-    }
-}
-
-/// Writes what an accepted command writes. After a failed write the line that tells of it is tried once.
-fn finish<W: Write, E: Write>(answer: &Answer, out: &mut W, err: &mut E) -> Exit
-    ensures { FinishesWriting result (words_of answer.now) (string_bytes answer.now.text)
-        (W.contents out.old) (W.contents out.new) (E.contents err.old) (E.contents err.new) }
-{
-    if write_answer(answer, out, err).is_ok() {
-        return Exit::Success;
-    }
-    tell(&CommandFault::WriteFailed, err)
-}
-
 /// Runs the command with these arguments over an environment and a tree of modulefiles, and answers how it ended.
 ///
 /// The arguments are the name of a shell and the words of a request. An accepted command writes the messages of
@@ -149,7 +107,13 @@ pub fn run_command<T: Tree, W: Write, E: Write>(
         (W.contents out.old) (W.contents out.new) (E.contents err.old) (E.contents err.new) }
 {
     match answer_of(alloc, args, &env, tree) {
-        Ok(answer) => finish(&answer, out, err),
+        Ok(answer) => finish(
+            answer.changed.messages.as_slice(),
+            answer.changed.report.as_str(),
+            answer.text.as_str(),
+            out,
+            err,
+        ),
         Err(fault) => tell(&fault, err),
     }
 }

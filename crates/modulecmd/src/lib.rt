@@ -1,12 +1,15 @@
 //! The command of environment modules: the words of a command line in, a text for a shell out.
 #![tactic(auto)]
 
+mod checking;
 mod command;
 mod ends;
+mod finishing;
 mod laws;
 mod refuse;
 mod writers;
 
+pub use checking::{CheckExit, modcheck, run_check};
 pub use command::{modulecmd, run_command};
 pub use ends::Exit;
 pub use environment::{Change, Env, EnvFault, changes};
@@ -19,7 +22,9 @@ pub use modules::{
     Verdict, request, run, run_changes, session, verdict,
 };
 pub use pathstate::{End, add_path, drop_path};
-pub use processinput::{ArgumentsFault, arguments, environment_block, environment_of};
+pub use processinput::{
+    ArgumentsFault, InputFault, arguments, environment_block, environment_of, read_input,
+};
 pub use refuse::{CommandFault, write_refusal};
 pub use rehearsal::rehearse;
 pub use shells::Shell;

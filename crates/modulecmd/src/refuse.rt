@@ -6,14 +6,14 @@ ghost use Rattle.message.specs.Messages.{around, text_of};
 ghost use Rattle.modulecmd.specs.Lines.{error_line, line_of, message_of};
 ghost use Rattle.modulesteps.specs.declared.refusal.Refusal.TheVariants as refusals;
 ghost use Rattle.modulecmd.specs.declared.refuse.CommandFault.TheVariants.{Refused, Unprinted};
-ghost use Rattle.modulecmd.specs.Command.{number_of, of_arguments};
+ghost use Rattle.modulecmd.specs.Command.{number_of, of_arguments, of_input};
 
 use crate::writers::{WriteFault, write_parts};
 use environment::EnvFault;
 use itoa::Buffer;
 use message::Message;
-use modules::Refusal;
-use processinput::ArgumentsFault;
+use modules::{FindFault, Refusal};
+use processinput::{ArgumentsFault, InputFault};
 use shelltext::PrintFault;
 use std::alloc::AllocError;
 use std::error::Error;
@@ -109,6 +109,18 @@ impl From<ArgumentsFault> for CommandFault {
         match fault {
             ArgumentsFault::OutOfMemory => CommandFault::Refused(Refusal::OutOfMemory),
             ArgumentsFault::NotUtf8 => CommandFault::Refused(Refusal::BadArguments),
+        }
+    }
+}
+
+impl From<InputFault> for CommandFault {
+    ghost from_gives = { λ fault e. e ≡ of_input fault };
+
+    fn from(fault: InputFault) -> CommandFault {
+        match fault {
+            InputFault::OutOfMemory => CommandFault::Refused(Refusal::OutOfMemory),
+            InputFault::ReadFailed => CommandFault::Refused(Refusal::Find(FindFault::Device)),
+            InputFault::BadInput => CommandFault::Refused(Refusal::BadArguments),
         }
     }
 }

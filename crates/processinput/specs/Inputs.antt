@@ -14,10 +14,11 @@ most_bytes = 1048576
 abbrev pub GivesAll : Option Text → Option Text → Text → Type 0
 GivesAll old new text = Consumes old new text × IsAtEnd new
 
--- what speaks against the bytes that were read: there are more than an input may have, or they are all, and no UTF-8
+-- what speaks against the bytes that were read: the read behind them failed, and they are not too many; there are more
+-- than an input may have; or they are all, and no UTF-8
 abbrev pub IsBad : InputFault → Option Text → Text → Type 0
 IsBad OutOfMemory new bytes = Unit {0}
-IsBad ReadFailed new bytes = Unit {0}
+IsBad ReadFailed new bytes = length bytes ≤ most_bytes
 IsBad BadInput new bytes = (most_bytes < length bytes) ⊎ (IsAtEnd new × (is_utf8 bytes ≡ false))
 
 -- Some bytes were read before the fault, at most one more than an input may have.

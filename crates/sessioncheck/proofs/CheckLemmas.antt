@@ -1,5 +1,5 @@
 -- A check, of the session of its lines and the verdicts on what that loaded.
-use Rattle.std.proofs.Common.{◌≡◌, List, sym, subst, ap, ◌∙◌}
+use Rattle.std.proofs.Common.{◌≡◌, ℕ, ◌+◌, ◌<◌, ◌≤◌, List, arith, sym, subst, ap, ◌∙◌}
 use Rattle.std.specs.List.{flat_map}
 use Rattle.environment.specs.Texts.{Text}
 use Rattle.environment.specs.Environment.{Environment}
@@ -9,23 +9,26 @@ use Rattle.shells.specs.declared.shell.Shell.{Shell}
 use Rattle.tclrules.specs.declared.limits.Limits.{Limits}
 use Rattle.requests.specs.Sessions.{left_by}
 use Rattle.modules.specs.Replies.{site_in}
-use Rattle.modules.specs.Responses.{responses}
+use Rattle.modules.specs.Responses.{count_failed, responses}
 use Rattle.sessioncheck.specs.Checks.{IsCheck}
-use Rattle.sessioncheck.specs.Judgments.{AreJudgments}
+use Rattle.sessioncheck.specs.Judgments.{AreJudgments, count_failed_judgments}
 use Rattle.sessioncheck.specs.Lines.{lines_in}
 use Rattle.sessioncheck.specs.Parts.{loaded_in}
 use Rattle.sessioncheck.specs.Sessions.{LineSession}
 use Rattle.sessioncheck.specs.declared.checking.Findings.{Findings}
-use Rattle.sessioncheck.proofs.JudgmentLemmas.{judgments_narrowed, names_of_responses}
+use Rattle.sessioncheck.proofs.JudgmentLemmas.{counts, judgments_narrowed, names_of_responses}
 
-pub checked : (agrees agrees' : Files → Listings → Type 0) (failed failed' : Type 0) (limits : Limits) (shell : Shell) (e from : Environment) (text : Text)
+failed_before : (before mid now a : ℕ) → before + a ≤ mid → mid < now → before < now
+failed_before before mid now a h k = omega arith
+
+pub checked : (agrees agrees' : Files → Listings → Type 0) (before mid now : ℕ) (limits : Limits) (shell : Shell) (e from : Environment) (text : Text)
     (lines : List (List Text)) (names : List Text) (f : Findings)
-    → Narrows agrees agrees' → (failed → failed') → from ≡ e → lines ≡ lines_in text
+    → Narrows agrees agrees' → before + count_failed f.outcomes.items ≤ mid → mid + count_failed_judgments f.judgments.items ≤ now → from ≡ e → lines ≡ lines_in text
     → InEachPair agrees (λ files listings. LineSession (site_in limits shell files listings) from lines (responses from f.outcomes.items))
     → InEachPair agrees (λ files listings. f.env ≡ left_by from (responses from f.outcomes.items))
-    → names ≡ firsts (flat_map loaded_in f.outcomes.items) → AreJudgments agrees' failed limits e names f.judgments.items
-    → IsCheck agrees' failed' limits shell e text f
-checked agrees agrees' failed failed' limits shell e from text lines names f narrows fails same made ran left named judged = record {
+    → names ≡ firsts (flat_map loaded_in f.outcomes.items) → AreJudgments agrees' (mid < now) limits e names f.judgments.items
+    → IsCheck agrees' before now limits shell e text f
+checked agrees agrees' before mid now limits shell e from text lines names f narrows ran_count judged_count same made ran left named judged = record {
   session = λ files listings a.
       let site = site_in limits shell files listings in
       let P : List (List Text) → Type 0 = λ xs. LineSession site from xs (responses from f.outcomes.items) in
@@ -35,7 +38,9 @@ checked agrees agrees' failed failed' limits shell e from text lines names f nar
       let Q : Environment → Type 0 = λ x. f.env ≡ left_by x (responses x f.outcomes.items) in
       subst Q same (left files listings (narrows files listings a));
   judged =
-      let P : List Text → Type 0 = λ xs. AreJudgments agrees' failed' limits e xs f.judgments.items in
+      let P : List Text → Type 0 = λ xs. AreJudgments agrees' (before < now) limits e xs f.judgments.items in
       subst P (named ∙ ap firsts (sym (names_of_responses e f.outcomes.items)))
-      (judgments_narrowed agrees' agrees' failed failed' limits e names f.judgments.items (λ files listings a. a) fails judged);
+      (judgments_narrowed agrees' agrees' (mid < now) (before < now) limits e names f.judgments.items (λ files listings a. a)
+      (λ h. failed_before before mid now (count_failed f.outcomes.items) ran_count h) judged);
+  failures = counts before mid now (count_failed f.outcomes.items) (count_failed_judgments f.judgments.items) ran_count judged_count;
 }

@@ -1,5 +1,5 @@
 -- Verdicts one after another, and the names that are judged.
-use Rattle.std.proofs.Common.{◌≡◌, ℕ, ◌<◌, ◌≤◌, ◌-◌, List, [], ◌∷◌, ◌++◌, length, take, drop, get_or, Bor, string_bytes, Result, Ok, Err, refl, sym, subst, ap, ◌∙◌, arith, append_assoc}
+use Rattle.std.proofs.Common.{◌≡◌, ℕ, ◌+◌, ◌<◌, ◌≤◌, ◌-◌, List, [], ◌∷◌, ◌++◌, length, take, drop, get_or, Bor, string_bytes, Result, Ok, Err, refl, sym, subst, ap, ◌∙◌, arith, append_assoc}
 use Rattle.std.proofs.lemmas.List.{take_all}
 use Rattle.std.specs.List.{flat_map}
 use Rattle.environment.specs.Texts.{Text, shown, texts_in}
@@ -14,12 +14,13 @@ use Rattle.requests.specs.Verdicts as verdicts
 use Rattle.modulesteps.specs.Answers.{Tells, cause_of}
 use Rattle.modulesteps.specs.Verdicts.{in_sh, verdict_view}
 use Rattle.modulesteps.specs.MoveViews.{moves_of}
+use Rattle.modulesteps.specs.declared.judged.Verdict.{Verdict}
 use Rattle.modulesteps.specs.declared.refusal.Refusal.{Refusal}
-use Rattle.modules.specs.Responses.{by_cause, response_of, responses}
+use Rattle.modules.specs.Responses.{by_cause, count_cause, response_of, responses}
 use Rattle.modules.specs.declared.sessions.Outcome.{Outcome}
 use Rattle.modules.specs.declared.sessions.Outcome.TheVariants.{Accepted, Refused}
 use Rattle.modulesteps.specs.Messages.{number_of}
-use Rattle.sessioncheck.specs.Judgments.{IsJudgment, AreJudgments}
+use Rattle.sessioncheck.specs.Judgments.{IsJudgment, AreJudgments, count_failed_judgments, count_unjudged}
 use Rattle.sessioncheck.specs.Parts.{loaded_in}
 use Rattle.sessioncheck.specs.declared.judging.Judgment.{Judgment}
 
@@ -58,6 +59,43 @@ judgments_push agrees failed limits e [] [] name j h k = (k, tt)
 judgments_push agrees failed limits e [] (i ∷ js) name j h k = absurd h
 judgments_push agrees failed limits e (n ∷ names) [] name j h k = absurd h
 judgments_push agrees failed limits e (n ∷ names) (i ∷ js) name j h k = (h.0, judgments_push agrees failed limits e names js name j h.1 k)
+
+-- ---- how many have no verdict since the device failed
+
+none_more : (n : ℕ) → n + 0 ≡ 0 + n
+none_more n = omega arith
+
+plus_assoc : (a b c : ℕ) → a + (b + c) ≡ (a + b) + c
+plus_assoc a b c = omega arith
+
+judgments_count : (js : List Judgment) (j : Judgment) → count_failed_judgments (js ++ j ∷ []) ≡ count_failed_judgments js + count_unjudged j.verdict
+judgments_count [] j = none_more (count_unjudged j.verdict)
+judgments_count (i ∷ js) j = ap (λ n. count_unjudged i.verdict + n) (judgments_count js j) ∙ plus_assoc (count_unjudged i.verdict) (count_failed_judgments js) (count_unjudged j.verdict)
+
+pub counts : (before mid now a b : ℕ) → before + a ≤ mid → mid + b ≤ now → before + (a + b) ≤ now
+counts before mid now a b h k = omega arith
+
+pub failures_more : (before mid now : ℕ) (js : List Judgment) (j : Judgment) → before + count_failed_judgments js ≤ mid → mid + count_unjudged j.verdict ≤ now
+    → before + count_failed_judgments (js ++ j ∷ []) ≤ now
+failures_more before mid now js j h k =
+    let P : ℕ → Type 0 = λ n. before + n ≤ now in
+    subst P (sym (judgments_count js j)) (counts before mid now (count_failed_judgments js) (count_unjudged j.verdict) h k)
+
+none_failed : (before now : ℕ) → before ≤ now → before + 0 ≤ now
+none_failed before now h = omega arith
+
+one_failed : (before now : ℕ) → before < now → before + 1 ≤ now
+one_failed before now h = omega arith
+
+cause_counts : (c : Cause RequestReason) (before now : ℕ) (Is : RequestReason → Type 0) → before ≤ now → Applies c (before < now) Is → before + count_cause c ≤ now
+cause_counts memory before now Is later h = none_failed before now later
+cause_counts device before now Is later h = one_failed before now h
+cause_counts (because r) before now Is later h = none_failed before now later
+
+pub verdict_counts : (agrees : Files → Listings → Type 0) (before now : ℕ) (r : Result Verdict Refusal) (Comes : Files → Listings → Result verdicts.Verdict RequestReason → Type 0)
+    → before ≤ now → Tells agrees (before < now) verdict_view r Comes → before + count_unjudged r ≤ now
+verdict_counts agrees before now (Ok v) Comes later h = none_failed before now later
+verdict_counts agrees before now (Err refusal) Comes later h = cause_counts (cause_of refusal) before now (λ r. InEachPair agrees (λ files listings. Comes files listings (Err r))) later h
 
 -- ---- the names that are left
 

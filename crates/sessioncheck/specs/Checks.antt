@@ -1,5 +1,5 @@
 -- What the check of an input's lines answers (own).
-use Rattle.std.specs.Prelude.{◌≡◌, Bool, true, false, List}
+use Rattle.std.specs.Prelude.{◌≡◌, ℕ, ◌+◌, ◌<◌, ◌≤◌, Bool, true, false, List}
 use Rattle.std.specs.List.{list_all}
 use Rattle.environment.specs.Texts.{Text}
 use Rattle.environment.specs.Environment.{Environment}
@@ -8,26 +8,32 @@ use Rattle.shells.specs.declared.shell.Shell.{Shell}
 use Rattle.tclrules.specs.declared.limits.Limits.{Limits}
 use Rattle.requests.specs.Sessions.{Response, left_by}
 use Rattle.modules.specs.Replies.{site_in}
-use Rattle.modules.specs.Responses.{responses}
+use Rattle.modules.specs.Responses.{count_failed, responses}
 use Rattle.modules.specs.declared.sessions.Outcome.{Outcome}
 use Rattle.modules.specs.declared.sessions.Outcome.TheVariants.{Accepted, Refused}
 use Rattle.sessioncheck.specs.Lines.{lines_in}
 use Rattle.sessioncheck.specs.Sessions.{LineSession}
-use Rattle.sessioncheck.specs.Judgments.{names_loaded, AreJudgments}
+use Rattle.sessioncheck.specs.Judgments.{names_loaded, AreJudgments, count_failed_judgments}
 use Rattle.sessioncheck.specs.declared.checking.Findings.{Findings}
 
 -- what came of each line, one after another
 abbrev pub responses_in : Environment → Findings → List Response
 responses_in e check = responses e check.outcomes.items
 
--- The lines of the text are a session from this environment, which leaves the check's; and the modules that it loaded
--- are judged in the first environment.
-pub record IsCheck (agrees : Files → Listings → Type 0) (failed : Type 0) (limits : Limits) (shell : Shell)
+-- how many lines were refused, and modules not judged, since the device failed
+abbrev pub failed_in : Findings → ℕ
+failed_in check = count_failed check.outcomes.items + count_failed_judgments check.judgments.items
+
+-- The lines of the text are a session from this environment, which leaves the check's; the modules that it loaded are
+-- judged in the first environment; and the device, which had failed so often before and has so often now, has failed
+-- since then at least as often as the check says.
+pub record IsCheck (agrees : Files → Listings → Type 0) (before now : ℕ) (limits : Limits) (shell : Shell)
     (e : Environment) (text : Text) (check : Findings) : Type 0 where
   pub session : InEachPair agrees (λ files listings.
       LineSession (site_in limits shell files listings) e (lines_in text) (responses_in e check))
   pub left : InEachPair agrees (λ files listings. check.env ≡ left_by e (responses_in e check))
-  pub judged : AreJudgments agrees failed limits e (names_loaded (responses_in e check)) check.judgments.items
+  pub judged : AreJudgments agrees (before < now) limits e (names_loaded (responses_in e check)) check.judgments.items
+  pub failures : before + failed_in check ≤ now
 
 abbrev pub was_accepted : Outcome → Bool
 was_accepted (Accepted done) = true

@@ -1,5 +1,5 @@
 -- The verdicts on the modules that a session loaded, in its first environment (own).
-use Rattle.std.specs.Prelude.{◌≡◌, List, [], ◌∷◌, string_bytes}
+use Rattle.std.specs.Prelude.{◌≡◌, ℕ, ◌+◌, List, [], ◌∷◌, Result, Ok, Err, string_bytes}
 use Rattle.environment.specs.Texts.{Text}
 use Rattle.environment.specs.Environment.{Environment}
 use Rattle.environment.specs.Fields.{firsts}
@@ -8,8 +8,11 @@ use Rattle.modulerecords.specs.Moves.{loaded_names}
 use Rattle.tclrules.specs.declared.limits.Limits.{Limits}
 use Rattle.requests.specs.Sessions.{Response, session_moves}
 use Rattle.requests.specs.Verdicts.{Judged}
-use Rattle.modulesteps.specs.Answers.{Tells}
+use Rattle.modulesteps.specs.Answers.{Tells, cause_of}
 use Rattle.modulesteps.specs.Verdicts.{verdict_view, in_sh}
+use Rattle.modulesteps.specs.declared.judged.Verdict.{Verdict}
+use Rattle.modulesteps.specs.declared.refusal.Refusal.{Refusal}
+use Rattle.modules.specs.Responses.{count_cause}
 use Rattle.sessioncheck.specs.declared.judging.Judgment.{Judgment}
 
 -- the full names of the modules that were loaded, each once, in the order of the first load
@@ -23,9 +26,19 @@ IsJudgment agrees failed limits e name judgment =
     × Tells agrees failed verdict_view judgment.verdict (λ files listings. Judged (in_sh limits files listings) e name)
 
 -- one for each name, in order
-abbrev pub AreJudgments : (Files → Listings → Type 0) → Type 0 → Limits → Environment → List Text → List Judgment → Type 0
+abbrev pub AreJudgments : (Files → Listings → Type 0) → Type 0 → Limits → Environment → List Text → List Judgment
+    → Type 0
 AreJudgments agrees failed limits e [] [] = Unit {0}
 AreJudgments agrees failed limits e [] (j ∷ js) = ⊥
 AreJudgments agrees failed limits e (name ∷ names) [] = ⊥
 AreJudgments agrees failed limits e (name ∷ names) (j ∷ js) =
     IsJudgment agrees failed limits e name j × AreJudgments agrees failed limits e names js
+
+-- how many have no verdict since the device failed
+abbrev pub count_unjudged : Result Verdict Refusal → ℕ
+count_unjudged (Ok verdict) = 0
+count_unjudged (Err refusal) = count_cause (cause_of refusal)
+
+abbrev pub count_failed_judgments : List Judgment → ℕ
+count_failed_judgments [] = 0
+count_failed_judgments (j ∷ js) = count_unjudged j.verdict + count_failed_judgments js

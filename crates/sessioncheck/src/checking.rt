@@ -4,8 +4,7 @@ ghost use Rattle.std.specs.List.{flat_map};
 ghost use Rattle.environment.specs.Fields.{firsts};
 ghost use Rattle.filetree.specs.Agreement.{Narrows};
 ghost use Rattle.modulesteps.specs.declared.refusal.Refusal.TheVariants as refusals;
-ghost use Rattle.modules.specs.Responses.{count_failed};
-ghost use Rattle.sessioncheck.specs.Judgments.{AreJudgments};
+ghost use Rattle.sessioncheck.specs.Judgments.{AreJudgments, count_failed_judgments};
 ghost use Rattle.sessioncheck.specs.Parts.{loaded_in};
 ghost use Rattle.sessioncheck.specs.Checks.{IsCheck, all_accepted, was_accepted};
 
@@ -60,6 +59,8 @@ fn judge_loaded<T: Tree>(
     ensures judged { IfOk result (λ judgments.
         AreJudgments (T.agrees tree.new) (T.failures tree.old < T.failures tree.new) limits env.now
         (firsts (flat_map loaded_in outcomes.now)) judgments.items) }
+    ensures failures { IfOk result (λ judgments.
+        T.failures tree.old + count_failed_judgments judgments.items ≤ T.failures tree.new) }
 {
     let names = names_loaded(alloc, outcomes)?;
     judge(alloc, names.as_slice(), env, tree, limits)
@@ -69,8 +70,8 @@ fn judge_loaded<T: Tree>(
 /// and judges the modules that they load in that environment.
 ///
 /// The words of a line, between spaces and tabs, make its request, for this shell. A line without words is passed over;
-/// one that makes no request is refused (56, 57), and so is a request that its step refuses. Then the environment stays,
-/// and the next line is run. No more of them are refused by 43 than the device failed.
+/// one that makes no request is refused (56, 57), and so is a request that its step refuses. Then the environment
+/// stays, and the next line is run. No more lines and verdicts are refused by 43 than the device failed.
 ///
 /// Errors: want of memory (31), apart from what one request or one verdict wants.
 pub fn check<T: Tree>(
@@ -83,10 +84,8 @@ pub fn check<T: Tree>(
 ) -> Result<Findings, Refusal>
     ensures before { Narrows (T.agrees tree.old) (T.agrees tree.new) }
     ensures later { T.failures tree.old ≤ T.failures tree.new }
-    ensures checked { IfOk result (λ check. IsCheck (T.agrees tree.new) (T.failures tree.old < T.failures tree.new)
-        limits shell env.now text.now check) }
-    ensures failures { IfOk result (λ check.
-        T.failures tree.old + count_failed check.outcomes.items ≤ T.failures tree.new) }
+    ensures checked { IfOk result (IsCheck (T.agrees tree.new) (T.failures tree.old) (T.failures tree.new)
+        limits shell env.now text.now) }
     ensures only { IfErr result (λ refusal. refusal ≡ refusals.OutOfMemory) }
 {
     let lines = lines_in(alloc, text)?;

@@ -1,8 +1,8 @@
 //! The verdicts on modules.
-ghost use Rattle.std.specs.Prelude.{◌<◌, ◌≤◌, IfOk};
+ghost use Rattle.std.specs.Prelude.{◌<◌, ◌≤◌, ◌+◌, IfOk};
 ghost use Rattle.environment.specs.Texts.{shown};
 ghost use Rattle.filetree.specs.Agreement.{Narrows};
-ghost use Rattle.sessioncheck.specs.Judgments.{AreJudgments};
+ghost use Rattle.sessioncheck.specs.Judgments.{AreJudgments, count_failed_judgments};
 
 use environment::Env;
 use filetree::Tree;
@@ -32,6 +32,8 @@ pub(crate) fn judge<T: Tree>(
     ensures judged { IfOk result (λ judgments.
         AreJudgments (T.agrees tree.new) (T.failures tree.old < T.failures tree.new) limits env.now (shown names.now)
         judgments.items) }
+    ensures failures { IfOk result (λ judgments.
+        T.failures tree.old + count_failed_judgments judgments.items ≤ T.failures tree.new) }
 {
     let mut judgments = Vec::new(alloc);
     let mut rest = names;

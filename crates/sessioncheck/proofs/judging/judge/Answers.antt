@@ -1,8 +1,8 @@
-use Rattle.std.proofs.Common.{◌≡◌, ◌<◌, List, [], ◌∷◌, ◌++◌, string_bytes, arith, sym, subst}
+use Rattle.std.proofs.Common.{◌≡◌, ◌+◌, ◌<◌, ◌≤◌, List, [], ◌∷◌, ◌++◌, string_bytes, arith, sym, subst}
 use Rattle.environment.specs.Texts.{shown}
-use Rattle.sessioncheck.specs.Judgments.{AreJudgments}
+use Rattle.sessioncheck.specs.Judgments.{AreJudgments, count_failed_judgments}
 use Rattle.sessioncheck.specs.declared.judging.Judgment.{Judgment}
-use Rattle.sessioncheck.proofs.JudgmentLemmas.{below_more, judged_name, judgments_narrowed, judgments_push, more_below, moves_on}
+use Rattle.sessioncheck.proofs.JudgmentLemmas.{below_more, failures_more, judged_name, judgments_narrowed, judgments_push, more_below, moves_on, verdict_counts}
 use Rattle.sessioncheck.proofs.judging.judge.Goals as goal
 
 pub loop-rest-preserved : goal.loop-rest-preserved
@@ -17,9 +17,12 @@ loop-rest-preserved g c =
     let done = c.loop-rest.invariant.judged.0 in
     let name = string_bytes c.in_ok-full_name.full_name in
     let Are : List Judgment → Type 0 = λ js. AreJudgments agrees (first < is) c.args.limits c.args.env.now (done ++ name ∷ []) js in
+    let Counted : List Judgment → Type 0 = λ js. first + count_failed_judgments js ≤ is in
     record {
       before = λ files listings agreed. c.loop-rest.invariant.before files listings (c.verdict-answer.ensures.before files listings agreed);
       later = omega (arith, c.loop-rest.invariant.later, c.verdict-answer.ensures.later);
+      failures = subst Counted (sym items) (failures_more first was is sofar judgment c.loop-rest.invariant.failures
+          (verdict_counts agrees was is c.verdict-answer.result _ c.verdict-answer.ensures.later c.verdict-answer.ensures.judged));
       judged = (
         done ++ name ∷ [],
         moves_on done name _ c.loop-rest.rest.now (shown c.args.names.now) c.in-len1-up.len_at_least c.in_ok-full_name.ensures.ok c.loop-rest.invariant.judged.1,

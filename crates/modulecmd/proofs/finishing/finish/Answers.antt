@@ -1,7 +1,7 @@
 use Rattle.std.proofs.Common.{sym, ◌∙◌, inl, inr}
 use Rattle.modulecmd.proofs.OutputLemmas.{finishes}
 use Rattle.modulecmd.proofs.WriterLemmas.{failed, tells_more}
-use Rattle.modulecmd.proofs.command.finish.Goals as goal
+use Rattle.modulecmd.proofs.finishing.finish.Goals as goal
 
 pub returns : goal.returns
 returns g c =

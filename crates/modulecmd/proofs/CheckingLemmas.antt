@@ -1,0 +1,54 @@
+-- How a check ends, and what is behind its faults.
+use Rattle.std.proofs.Common.{◌≡◌, ℕ, List, [], Bool, true, false, Option, string_bytes, refl, sym, subst, inl, inr}
+use Rattle.environment.specs.Texts.{Text}
+use Rattle.environment.specs.Environment.{Environment}
+use Rattle.filetree.specs.Agreement.{Files, Listings}
+use Rattle.sessioncheck.specs.Reports.{report_of}
+use Rattle.modulecmd.specs.declared.checking.CheckAnswer.{CheckAnswer}
+use Rattle.modulecmd.specs.declared.ends.Exit.{Exit}
+use Rattle.modulecmd.specs.declared.ends.Exit.TheVariants.{Success, Told, CutShort}
+use Rattle.modulecmd.specs.declared.refuse.CommandFault.{CommandFault}
+use Rattle.modulecmd.specs.Checking.{EndsCheck, IsCheckFault, TellsWhether, writing_of}
+use Rattle.modulecmd.specs.CheckWords.{IsCheckAnswer, exit_of}
+use Rattle.modulecmd.specs.Output.{FinishesWriting, WritesFault}
+use Rattle.modulecmd.proofs.WriterLemmas.{keeps_same}
+
+writes_so : (exit : Exit) (accepted : Bool) → writing_of (exit_of exit accepted) ≡ exit
+writes_so Success true = refl
+writes_so Success false = refl
+writes_so Told accepted = refl
+writes_so CutShort accepted = refl
+
+tells_so : (exit : Exit) (accepted : Bool) → TellsWhether (exit_of exit accepted) accepted
+tells_so Success true = refl
+tells_so Success false = refl
+tells_so Told accepted = tt
+tells_so CutShort accepted = tt
+
+-- an answer that was written, or as much of it as a failed write left
+pub checked : (exit : Exit) (agrees : Files → Listings → Type 0) (before now : ℕ) (e : Environment) (arguments : List Text) (input input' out out' err err' : Option Text) (a : CheckAnswer)
+    → IsCheckAnswer agrees before now e arguments input input' a → FinishesWriting exit (string_bytes a.report) (string_bytes a.text) out out' err err'
+    → EndsCheck (exit_of exit a.is_accepted) agrees before now e arguments input input' out out' err err'
+checked exit agrees before now e arguments input input' out out' err err' a is h =
+    let end = exit_of exit a.is_accepted in
+    let Writes : Exit → Text → Type 0 = λ x report. FinishesWriting x report (string_bytes a.text) out out' err err' in
+    let Whether : Bool → Type 0 = λ b. TellsWhether end b in
+    inl (
+      is.shell,
+      is.found,
+      is.checks,
+      (
+        string_bytes a.text,
+        is.says,
+        subst Whether is.accepted (tells_so exit a.is_accepted),
+        subst (λ x. Writes x (report_of is.found)) (sym (writes_so exit a.is_accepted)) (subst (λ report. Writes exit report) is.told h),
+      ),
+    )
+
+-- a fault that was told
+pub refused : (exit : Exit) (agrees : Files → Listings → Type 0) (before now : ℕ) (e : Environment) (arguments : List Text) (input input' out err err' : Option Text) (fault : CommandFault)
+    → IsCheckFault agrees before now e arguments input input' fault → WritesFault exit err err' [] fault
+    → EndsCheck (exit_of exit false) agrees before now e arguments input input' out out err err'
+refused exit agrees before now e arguments input input' out err err' fault is h =
+    let Tells : Exit → Type 0 = λ x. WritesFault x err err' [] fault in
+    inr (fault, is, (keeps_same out, subst Tells (sym (writes_so exit false)) h))

@@ -1,0 +1,48 @@
+use Rattle.std.proofs.Common.{map, string_bytes, String, inl}
+use Rattle.std.proofs.lemmas.Result.{err_from_is_err_and}
+use Rattle.std.specs.declared.alloc.Global.{Global}
+use Rattle.environment.specs.Changes.{new_values_in}
+use Rattle.modulecmd.specs.Checking.{IsUnnamed, IsUnsaidCheck}
+use Rattle.modulecmd.proofs.CommandLemmas.{unprinted}
+use Rattle.modulecmd.proofs.checking.answer_of.Goals as goal
+
+pub returns-in_err-text-clause-refused : goal.returns-in_err-text-clause-refused
+returns-in_err-text-clause-refused g c =
+    let p = err_from_is_err_and c.from_residual-in_err-text.result c.from_residual-in_err-text.ensures.1 in
+    let arguments = map (λ (s : String Global). string_bytes s) c.args.args.now in
+    let input = g.R.Read.remaining c.args.input.now in
+    let input' = g.R.Read.remaining c.read_input.new.input in
+    let changes = new_values_in c.in_ok-difference.difference in
+    rw (p.1, p.2) (inl (unprinted c.in_ok-shell.shell changes c.in_err-text.field-0.0 (IsUnnamed arguments input input')
+    (IsUnsaidCheck (g.T.Tree.agrees c.check.new.tree) (g.T.Tree.failures c.args.tree.now) (g.T.Tree.failures c.check.new.tree) c.args.env.now arguments input input') ⊥
+    (λ name unsayable. (
+      c.in_ok-shell.shell,
+      c.in_ok-found.found,
+      record {
+        named = c.in_ok-shell.ensures.named;
+        text = string_bytes c.in_ok-lines.lines;
+        given = c.in_ok-lines.ensures.given;
+        check = rw c.as_str.ensures.value at c.in_ok-found.ensures.checked;
+      },
+      (changes, c.in_ok-difference.ensures.ok, unsayable),
+    ))
+    (rw c.as_slice.ensures.value at c.in_err-text.ensures.fault)))
+
+pub returns-clause-answered : goal.returns-clause-answered
+returns-clause-answered g c = record {
+  shell = c.in_ok-shell.shell;
+  found = c.in_ok-found.found;
+  checks = record {
+    named = c.in_ok-shell.ensures.named;
+    text = string_bytes c.in_ok-lines.lines;
+    given = c.in_ok-lines.ensures.given;
+    check = rw c.as_str.ensures.value at c.in_ok-found.ensures.checked;
+  };
+  says = record {
+    changes = new_values_in c.in_ok-difference.difference;
+    exact = c.in_ok-difference.ensures.ok;
+    says = rw c.as_slice.ensures.value at c.in_ok-text.ensures.text;
+  };
+  told = c.in_ok-report.ensures;
+  accepted = c.is_accepted.ensures;
+}

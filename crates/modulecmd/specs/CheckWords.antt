@@ -1,0 +1,36 @@
+-- What a check's answer stands for, for this crate's own contracts.
+use Rattle.std.specs.Prelude.{◌≡◌, ℕ, Bool, true, false, List, Option, string_bytes}
+use Rattle.environment.specs.Texts.{Text}
+use Rattle.environment.specs.Environment.{Environment}
+use Rattle.filetree.specs.Agreement.{Files, Listings}
+use Rattle.shells.specs.declared.shell.Shell.{Shell}
+use Rattle.shelltext.specs.Reading.{SaysDifference}
+use Rattle.sessioncheck.specs.Checks.{all_accepted}
+use Rattle.sessioncheck.specs.Reports.{report_of}
+use Rattle.sessioncheck.specs.declared.checking.Findings.{Findings}
+use Rattle.modulecmd.specs.Checking.{ChecksInput}
+use Rattle.modulecmd.specs.declared.ends.Exit.{Exit}
+use Rattle.modulecmd.specs.declared.ends.Exit.TheVariants.{Success, Told, CutShort}
+use Rattle.modulecmd.specs.declared.checking.CheckExit.{CheckExit}
+use Rattle.modulecmd.specs.declared.checking.CheckExit.TheVariants as exits
+use Rattle.modulecmd.specs.declared.checking.CheckAnswer.{CheckAnswer}
+
+-- the answer is what is to be written of a check of all that the input gives
+pub record IsCheckAnswer (agrees : Files → Listings → Type 0) (before now : ℕ) (e : Environment) (arguments : List Text)
+    (input input' : Option Text) (answer : CheckAnswer) : Type 0 where
+  pub shell : Shell
+  pub found : Findings
+  pub checks : ChecksInput agrees before now e arguments input input' shell found
+  pub says : SaysDifference shell (string_bytes answer.text) e found.env
+  pub told : string_bytes answer.report ≡ report_of found
+  pub accepted : answer.is_accepted ≡ all_accepted found
+
+-- how a check ends whose writing ended so
+abbrev pub written : Bool → CheckExit
+written true = exits.AllAccepted
+written false = exits.SomeRefused
+
+abbrev pub exit_of : Exit → Bool → CheckExit
+exit_of Success accepted = written accepted
+exit_of Told accepted = exits.Told
+exit_of CutShort accepted = exits.CutShort

@@ -1,0 +1,104 @@
+-- What the check of an input's lines leaves in its two writers (own).
+use Rattle.std.specs.Prelude.{◌≡◌, ◌⊎◌, ℕ, Bool, true, false, List, [], ◌∷◌, Option, Some, None, Result, Ok, Err}
+use Rattle.std.specs.Io.KnownBytes.{Keeps}
+use Rattle.environment.specs.Texts.{Text}
+use Rattle.environment.specs.Environment.{Environment}
+use Rattle.filetree.specs.Agreement.{Files, Listings}
+use Rattle.processinput.specs.declared.input.InputFault.{InputFault}
+use Rattle.processinput.specs.Inputs.{GivesAll, Spoils}
+use Rattle.requests.specs.Reasons.{bad_arguments}
+use Rattle.shells.specs.declared.shell.Shell.{Shell}
+use Rattle.shells.specs.Shells.{shell_named}
+use Rattle.shelltext.specs.Reading.{SaysDifference}
+use Rattle.sessioncheck.specs.Checks.{IsCheck, all_accepted}
+use Rattle.sessioncheck.specs.Reports.{report_of}
+use Rattle.sessioncheck.specs.declared.checking.Findings.{Findings}
+use Rattle.modulecmd.specs.declared.checking.CheckExit.{CheckExit}
+use Rattle.modulecmd.specs.declared.checking.CheckExit.TheVariants as exits
+use Rattle.modulecmd.specs.declared.ends.Exit.{Exit}
+use Rattle.modulecmd.specs.declared.ends.Exit.TheVariants.{Success, Told, CutShort}
+use Rattle.modulecmd.specs.declared.refuse.CommandFault.{CommandFault}
+use Rattle.modulecmd.specs.Command.{CommandReason, HasReason, LacksText, because, of_input, standard, unknown_shell}
+use Rattle.modulecmd.specs.Output.{FinishesWriting, Refuses}
+
+-- the shell that the arguments name: it stands alone
+abbrev pub shell_or : Text → Option Shell → Result Shell CommandReason
+shell_or word None = Err (unknown_shell word)
+shell_or word (Some shell) = Ok shell
+
+abbrev pub shell_of : List Text → Result Shell CommandReason
+shell_of [] = Err (because bad_arguments)
+shell_of (word ∷ []) = shell_or word (shell_named word)
+shell_of (word ∷ other ∷ more) = Err (because bad_arguments)
+
+-- The whole input is checked for the shell of the arguments. The numbers say how often the device had failed before,
+-- and has now.
+pub record ChecksInput (agrees : Files → Listings → Type 0) (before now : ℕ) (e : Environment) (arguments : List Text)
+    (input input' : Option Text) (shell : Shell) (found : Findings) : Type 0 where
+  pub named : shell_of arguments ≡ Ok shell
+  pub text : Text
+  pub given : GivesAll input input' text
+  pub check : IsCheck agrees before now standard shell e text found
+
+-- how the writing ended
+abbrev pub writing_of : CheckExit → Exit
+writing_of exits.AllAccepted = Success
+writing_of exits.SomeRefused = Success
+writing_of exits.Told = Told
+writing_of exits.CutShort = CutShort
+
+-- where all was written, the end tells whether each line was accepted
+abbrev pub TellsWhether : CheckExit → Bool → Type 0
+TellsWhether exits.AllAccepted accepted = accepted ≡ true
+TellsWhether exits.SomeRefused accepted = accepted ≡ false
+TellsWhether exits.Told accepted = Unit {0}
+TellsWhether exits.CutShort accepted = Unit {0}
+
+-- What a check leaves: its report on standard error, and on standard output a text that says for the shell exactly what
+-- its lines change from first to last; or as much as a failed write left of them.
+abbrev pub LeavesCheck : CheckExit → Environment → Shell → Findings → Option Text → Option Text → Option Text
+    → Option Text → Type 0
+LeavesCheck exit e shell found out out' err err' =
+    (text : Text) × SaysDifference shell text e found.env × TellsWhether exit (all_accepted found)
+    × FinishesWriting (writing_of exit) (report_of found) text out out' err err'
+
+-- The arguments name no shell, and nothing is read.
+abbrev pub IsUnnamed : List Text → Option Text → Option Text → CommandReason → Type 0
+IsUnnamed arguments input input' reason = (shell_of arguments ≡ Err reason) × Keeps input input'
+
+-- The arguments name a shell, and the input is spoilt.
+abbrev pub IsUnread : List Text → Option Text → Option Text → CommandFault → Type 0
+IsUnread arguments input input' fault =
+    (shell : Shell) × (spoilt : InputFault) × (shell_of arguments ≡ Ok shell) × Spoils spoilt input input'
+    × (fault ≡ of_input spoilt)
+
+-- The check comes to changes that have no text in the shell.
+abbrev pub IsUnsaidCheck : (Files → Listings → Type 0) → ℕ → ℕ → Environment → List Text → Option Text → Option Text
+    → Text → Type 0
+IsUnsaidCheck agrees before now e arguments input input' name =
+    (shell : Shell) × (found : Findings) × ChecksInput agrees before now e arguments input input' shell found
+    × LacksText shell e found.env name
+
+-- What is behind a fault: memory is wanting, the arguments name no shell, the input is spoilt, or a variable can't be
+-- said.
+abbrev pub IsCheckFault : (Files → Listings → Type 0) → ℕ → ℕ → Environment → List Text → Option Text → Option Text
+    → CommandFault → Type 0
+IsCheckFault agrees before now e arguments input input' fault =
+    HasReason fault (IsUnnamed arguments input input') (IsUnsaidCheck agrees before now e arguments input input') ⊥
+    ⊎ IsUnread arguments input input' fault
+
+-- What a check leaves by how it ends: what it found, or a fault and nothing else.
+abbrev pub EndsCheck : CheckExit → (Files → Listings → Type 0) → ℕ → ℕ → Environment → List Text → Option Text
+    → Option Text → Option Text → Option Text → Option Text → Option Text → Type 0
+EndsCheck exit agrees before now e arguments input input' out out' err err' =
+    ((shell : Shell) × (found : Findings) × ChecksInput agrees before now e arguments input input' shell found
+    × LeavesCheck exit e shell found out out' err err')
+    ⊎ ((fault : CommandFault) × IsCheckFault agrees before now e arguments input input' fault
+    × Refuses (writing_of exit) fault out out' err err')
+
+-- the status of the process
+abbrev pub check_status : CheckExit → ℕ
+check_status exits.AllAccepted = 0
+check_status exits.SomeRefused = 1
+check_status exits.Told = 1
+check_status exits.CutShort = 1

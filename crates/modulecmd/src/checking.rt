@@ -1,0 +1,163 @@
+//! The check of an input's lines: what their requests would change, and which modules that they load are plain.
+ghost use Rattle.std.specs.Prelude.{◌≡◌, ◌≤◌, map, Ok, Err, IfOk, IfErr, string_bytes};
+ghost use Rattle.filetree.specs.Agreement.{Narrows};
+ghost use Rattle.modulecmd.specs.Checking as spec;
+ghost use Rattle.modulecmd.specs.Checking.{EndsCheck, IsCheckFault, check_status};
+ghost use Rattle.modulecmd.specs.CheckWords.{IsCheckAnswer, exit_of};
+ghost use Rattle.modulecmd.specs.Command.{HasReason};
+ghost use Rattle.modulecmd.specs.declared.checking.CheckExit.{CheckExit};
+
+use crate::command::STANDARD;
+use crate::ends::Exit;
+use crate::finishing::{finish, tell};
+use crate::refuse::CommandFault;
+use environment::{Env, changes};
+use filetree::Tree;
+use modules::Refusal;
+use processinput::read_input;
+use sessioncheck::check;
+use shells::Shell;
+use shelltext::print_changes;
+use std::alloc::Global;
+use std::io::{Read, Write};
+
+/// How a check ends.
+#[derive(Clone, Copy, Debug, PartialEq, Eq)]
+pub enum CheckExit {
+    /// Each line was accepted, and all is written.
+    AllAccepted,
+    /// A line was refused, and all is written.
+    SomeRefused,
+    /// Nothing was checked, or a write failed, and the line that tells why is written.
+    Told,
+    /// The same, but a beginning of that line is written, not all: writing it failed.
+    CutShort,
+}
+
+impl CheckExit {
+    /// The status of the process: 0 where each line was accepted and all is written, and else 1.
+    pub fn status(self) -> u8
+        ensures { result ≡ check_status self }
+    {
+        match self {
+            CheckExit::AllAccepted => 0,
+            CheckExit::SomeRefused | CheckExit::Told | CheckExit::CutShort => 1,
+        }
+    }
+}
+
+/// What a check is to write, and whether each line was accepted.
+#[derive(Drop)]
+struct CheckAnswer {
+    is_accepted: bool,
+    report: String,
+    text: String,
+}
+
+/// The shell that the arguments name, which stands alone.
+fn shell_of(args: &[String]) -> Result<Shell, CommandFault>
+    ensures named { IfOk result (λ shell. spec.shell_of (map string_bytes args.now) ≡ Ok shell) }
+    ensures refused { IfErr result (λ fault.
+        HasReason fault (λ o. spec.shell_of (map string_bytes args.now) ≡ Err o) (λ name. ⊥) ⊥) }
+{
+    let [word] = args else {
+        return Err(CommandFault::Refused(Refusal::BadArguments));
+    };
+    match Shell::named(word.as_str()) {
+        None => Err(CommandFault::UnknownShell(word.clone()?)),
+        Some(shell) => Ok(shell),
+    }
+}
+
+/// What a check is to write, before anything is written.
+fn answer_of<T: Tree, R: Read>(
+    alloc: Global,
+    args: &[String],
+    input: &mut R,
+    env: &Env,
+    tree: &mut T,
+) -> Result<CheckAnswer, CommandFault>
+    ensures before { Narrows (T.agrees tree.old) (T.agrees tree.new) }
+    ensures later { T.failures tree.old ≤ T.failures tree.new }
+    ensures answered { IfOk result (IsCheckAnswer (T.agrees tree.new) (T.failures tree.old) (T.failures tree.new)
+        env.now (map string_bytes args.now) (R.remaining input.old) (R.remaining input.new)) }
+    ensures refused { IfErr result (IsCheckFault (T.agrees tree.new) (T.failures tree.old) (T.failures tree.new)
+        env.now (map string_bytes args.now) (R.remaining input.old) (R.remaining input.new)) }
+{
+    let shell = shell_of(args)?;
+    let lines = read_input(alloc, input)?;
+    let found = check(alloc, shell, lines.as_str(), env, tree, STANDARD)?;
+    let difference = changes(alloc, env, &found.env)?;
+    let text = print_changes(alloc, shell, difference.as_slice())?;
+    let report = found.report(alloc)?;
+    Ok(CheckAnswer {
+        is_accepted: found.is_accepted(),
+        report,
+        text,
+    })
+}
+
+/// How a check ends whose writing ended so.
+fn exit_of(exit: Exit, is_accepted: bool) -> CheckExit
+    ensures { result ≡ exit_of exit is_accepted }
+{
+    match exit {
+        Exit::Success if is_accepted => CheckExit::AllAccepted,
+        Exit::Success => CheckExit::SomeRefused,
+        Exit::Told => CheckExit::Told,
+        Exit::CutShort => CheckExit::CutShort,
+    }
+}
+
+/// Checks the lines of an input over an environment and a tree of modulefiles, and answers how it ended.
+///
+/// The one argument is the name of a shell (56, 63). The whole input is read (43, 56), and the requests that its lines
+/// make are run one after another, as a session; a refused line leaves the environment. For each it writes `N accepted`
+/// or `N refused: ` and why to standard error, and then for each module that they loaded its full name and its verdict
+/// in the first environment. Then the text goes to standard output that says, as the shell reads it, what changed from
+/// the first environment to the last (62).
+///
+/// Where there is a fault before all that is made, nothing is written but the line that tells of it, to standard error.
+pub fn run_check<T: Tree, R: Read, W: Write, E: Write>(
+    alloc: Global,
+    args: &[String],
+    input: &mut R,
+    env: Env,
+    tree: &mut T,
+    out: &mut W,
+    err: &mut E,
+) -> CheckExit
+    ensures before { Narrows (T.agrees tree.old) (T.agrees tree.new) }
+    ensures later { T.failures tree.old ≤ T.failures tree.new }
+    ensures ended { EndsCheck result (T.agrees tree.new) (T.failures tree.old) (T.failures tree.new) env
+        (map string_bytes args.now) (R.remaining input.old) (R.remaining input.new)
+        (W.contents out.old) (W.contents out.new) (E.contents err.old) (E.contents err.new) }
+{
+    match answer_of(alloc, args, input, &env, tree) {
+        Ok(answer) => {
+            let exit = finish(&[], answer.report.as_str(), answer.text.as_str(), out, err);
+            exit_of(exit, answer.is_accepted)
+        }
+        Err(fault) => exit_of(tell(&fault, err), false),
+    }
+}
+
+/// Checks lines as `run_check` does, and answers the status of the process.
+pub fn modcheck<T: Tree, R: Read, W: Write, E: Write>(
+    alloc: Global,
+    args: &[String],
+    input: &mut R,
+    env: Env,
+    tree: &mut T,
+    out: &mut W,
+    err: &mut E,
+) -> u8
+    ensures before { Narrows (T.agrees tree.old) (T.agrees tree.new) }
+    ensures later { T.failures tree.old ≤ T.failures tree.new }
+    ensures ended { (exit : CheckExit) × (result ≡ check_status exit)
+        × EndsCheck exit (T.agrees tree.new) (T.failures tree.old) (T.failures tree.new) env
+        (map string_bytes args.now) (R.remaining input.old) (R.remaining input.new)
+        (W.contents out.old) (W.contents out.new) (E.contents err.old) (E.contents err.new) }
+{
+    run_check(alloc, args, input, env, tree, out, err).status()
+}

@@ -1,0 +1,61 @@
+//! What is written in the end: an answer, or the line that tells of a fault.
+ghost use Rattle.std.specs.Prelude.{◌⊎◌, ◌++◌, [], OnOk, OnErr, string_bytes};
+ghost use Rattle.std.specs.List.{flat_map};
+ghost use Rattle.std.specs.Io.KnownBytes.{Keeps, Appends};
+ghost use Rattle.modulecmd.specs.Output.{FinishesWriting, WritesFault};
+ghost use Rattle.modulecmd.specs.Writing.{AppendsPart};
+
+use crate::ends::Exit;
+use crate::refuse::{CommandFault, write_refusal};
+use crate::writers::{WriteFault, write_bytes, write_texts};
+use std::io::Write;
+
+/// Writes the line that tells of a fault.
+pub(crate) fn tell<E: Write>(fault: &CommandFault, err: &mut E) -> Exit
+    ensures { WritesFault result (E.contents err.old) (E.contents err.new) [] fault.now }
+{
+    match write_refusal(fault, err) {
+        Ok(()) => Exit::Told,
+        Err(WriteFault) => Exit::CutShort,
+    }
+}
+
+/// Writes the messages and the report, and then the text, until a write fails. Then not all is written.
+fn write_answer<W: Write, E: Write>(
+    messages: &[String],
+    report: &str,
+    text: &str,
+    out: &mut W,
+    err: &mut E,
+) -> Result<(), WriteFault>
+    ensures whole { let words = flat_map (λ m. string_bytes m) messages.now ++ report.now in
+        OnOk result (Appends (W.contents out.old) (W.contents out.new) text.now
+        × Appends (E.contents err.old) (E.contents err.new) words) }
+    ensures cut { let words = flat_map (λ m. string_bytes m) messages.now ++ report.now in OnErr result (
+        (Keeps (W.contents out.old) (W.contents out.new)
+        × AppendsPart (E.contents err.old) (E.contents err.new) words)
+        ⊎ (AppendsPart (W.contents out.old) (W.contents out.new) text.now
+        × Appends (E.contents err.old) (E.contents err.new) words)) }
+{
+    write_texts(err, messages)?;
+    write_bytes(err, report.as_bytes())?;
+    write_bytes(out, text.as_bytes())
+}
+
+/// Writes an answer: messages and a report to standard error, and then a text to standard output. After a failed write
+/// the line that tells of it is tried once.
+pub(crate) fn finish<W: Write, E: Write>(
+    messages: &[String],
+    report: &str,
+    text: &str,
+    out: &mut W,
+    err: &mut E,
+) -> Exit
+    ensures { FinishesWriting result (flat_map (λ m. string_bytes m) messages.now ++ report.now) text.now
+        (W.contents out.old) (W.contents out.new) (E.contents err.old) (E.contents err.new) }
+{
+    if write_answer(messages, report, text, out, err).is_ok() {
+        return Exit::Success;
+    }
+    tell(&CommandFault::WriteFailed, err)
+}
