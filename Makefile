@@ -30,7 +30,7 @@ check:
 deps:
 	sh tools/deps.sh
 
-$(PROGRAMS):
+$(PROGRAMS) &:
 	python3 -B tools/build.py
 
 install: $(PROGRAMS)

@@ -41,9 +41,19 @@
 //! whose writers take so many bytes, and shows how it ended and what they hold. `failing WORD...` runs a command while
 //! each of its reads and listings in turn fails, and shows what is new of its answers. `refused KIND WORD` shows the
 //! line that is written of a refusal.
+//!
+//! `checks` are checks of lines. `new`, `folder`, `file` and `bytes` make the tree as for searches; `from
+//! NAME=VALUE...` are the variables, `arguments WORD...` the arguments from there on. `check TEXT` checks this input,
+//! and shows what it wrote to standard output, each line of standard error behind `! `, and its status. `spoilt COUNT
+//! TEXT` does so where the input fails behind so many bytes, `odd TEXT` where a byte that is not UTF-8 stands behind
+//! it, `long COUNT TEXT` where blanks fill it up to so many bytes; they say how many bytes were read. `write OUT ERR
+//! KIND TEXT` checks over writers that take so many bytes, and shows how it ended and what they hold. `failing TEXT`
+//! checks while each read and listing of the tree in turn fails, and shows what is new of the answers; `poor PATH TEXT`
+//! where memory is refused for the file at the path.
 #![tactic(auto)]
 
 mod calls;
+mod checks;
 mod commands;
 mod counted;
 mod failing;
@@ -67,6 +77,7 @@ fn answer(rt: &HostRuntime, paragraph: &[String]) -> io::Result<()> {
         "searches" => searches::answer(rt, lines),
         "files" => runs::answer(rt, lines),
         "commands" => commands::answer(rt, lines),
+        "checks" => checks::answer(rt, lines),
         _ => println!(rt; "no such questions: {subject}"),
     }?;
     println!(rt;)
