@@ -2,7 +2,8 @@
 #
 #   make build   proves the crates that the programs stand on, side by side, and leaves both in build/bin;
 #                JOBS=N says how many processors may be used
-#   make check   proves every crate as `make build` does, without the gate; with CRATE=name that crate and those below
+#   make check   proves every crate as `make build` does, without the gate; with CRATE=name that crate and those below;
+#                with ONLY=function besides, that function of the crate and what it calls
 #   make install PREFIX=/opt/modulecmd DESTDIR=
 #                lays out the programs, the init files, completion and the pages below a prefix, and `make uninstall`
 #                takes them away
@@ -25,7 +26,7 @@ build:
 	python3 -B tools/build.py
 
 check:
-	python3 -B tools/build.py --check $(CRATE)
+	python3 -B tools/build.py --check $(CRATE) $(if $(ONLY),--only $(ONLY))
 
 deps:
 	sh tools/deps.sh

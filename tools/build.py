@@ -1,11 +1,12 @@
 """Proves crates of this repository side by side, and builds its programs.
 
     build.py [--check] [CRATE...]
+    build.py --check CRATE --only FUNCTION
 
 Proves the crates that are named and those below them, each once the crates that it stands on are there: as many at a
 time as processors and memory allow, the longest chain of crates first. A program among them is built and left in
 build/bin; with `--check` nothing is left there. Without a name: the two programs of the product, or every crate with
-`--check`.
+`--check`. With `--only` the crates below are proved, and of the crate itself one function with what it calls.
 
 What was proved lies in crates/*/out/build and is taken again where neither the crate nor anything below it changed.
 JOBS=N says how many processors may be used. The verdict on a change is `rt ci`, which proves everything from nothing.
@@ -148,6 +149,15 @@ class Work:
             self.note("seconds", f"{self.seconds:.0f}")
         return True
 
+    def check(self, function):
+        """Proves one function and what it calls, over what earlier checks kept, and gives whether that went well."""
+        remove(self.file("log"))
+        os.makedirs(self.room, exist_ok=True)
+        words = self.crate.words(["--jobs", "1", "--only", function])
+        status = self.run([rtlib.RATTLE, "check", *words, "--incremental", self.file("kept")])
+        print(self.last_lines(), flush=True)
+        return status == 0
+
     def note(self, name, text):
         with open(self.file(name), "w", encoding="utf-8") as it:
             it.write(text)
@@ -240,16 +250,21 @@ def leave(work):
 def main(words):
     is_check = words[:1] == ["--check"]
     names = words[1:] if is_check else words or PRODUCT
+    function = None
+    if is_check and len(names) == 3 and names[1] == "--only":
+        names, function = names[:1], names[2]
     works = works_for(names)
     # (the first call sets a signal's handler, which only the main thread may)
     rtlib.guarded()
     held = rtlib.lock([it.crate for it in works])
-    schedule = Schedule(works)
-    is_well = schedule.run()
+    schedule = Schedule(works[:-1] if function else works)
+    is_well = schedule.run() and (not function or works[-1].check(function))
     for it in held:
         os.close(it)
     if not is_well:
         return 1
+    if function:
+        return 0
     for work in works:
         if work.crate.is_program and work.name in names and not is_check:
             leave(work)
