@@ -1,5 +1,9 @@
 -- How a check ends, and what is behind its faults.
-use Rattle.std.proofs.Common.{◌≡◌, ℕ, List, [], Bool, true, false, Option, string_bytes, refl, sym, subst, inl, inr}
+use Rattle.std.proofs.Common.{◌≡◌, ℕ, List, [], Bool, true, false, Option, String, string_bytes, refl, sym, subst}
+use Rattle.std.proofs.Common.{inl, inr}
+use Rattle.std.proofs.lemmas.Str.{IsUtf8-string_bytes, is_utf8-from_IsUtf8}
+use Rattle.std.specs.declared.alloc.Global.{Global}
+use Rattle.std.specs.Str.{is_utf8}
 use Rattle.environment.specs.Texts.{Text}
 use Rattle.environment.specs.Environment.{Environment}
 use Rattle.filetree.specs.Agreement.{Files, Listings}
@@ -12,6 +16,10 @@ use Rattle.modulecmd.specs.Checking.{EndsCheck, IsCheckFault, TellsWhether, writ
 use Rattle.modulecmd.specs.CheckWords.{IsCheckAnswer, exit_of}
 use Rattle.modulecmd.specs.Output.{FinishesWriting, WritesFault}
 use Rattle.modulecmd.proofs.WriterLemmas.{keeps_same}
+
+-- what a string holds is UTF-8
+pub readable : (s : String Global) → is_utf8 (string_bytes s) ≡ true
+readable s = is_utf8-from_IsUtf8 (string_bytes s) (IsUtf8-string_bytes s)
 
 writes_so : (exit : Exit) (accepted : Bool) → writing_of (exit_of exit accepted) ≡ exit
 writes_so Success true = refl

@@ -1,11 +1,13 @@
 -- What the check of an input's lines leaves in its two writers (own).
-use Rattle.std.specs.Prelude.{◌≡◌, ◌⊎◌, ℕ, Bool, true, false, List, [], ◌∷◌, Option, Some, None, Result, Ok, Err}
+use Rattle.std.specs.Prelude.{◌≡◌, ◌⊎◌, ◌≤◌, ℕ, Bool, true, false, List, [], ◌∷◌, length, Option, Some, None, Result}
+use Rattle.std.specs.Prelude.{Ok, Err}
 use Rattle.std.specs.Io.KnownBytes.{Keeps}
+use Rattle.std.specs.Str.{is_utf8}
 use Rattle.environment.specs.Texts.{Text}
 use Rattle.environment.specs.Environment.{Environment}
 use Rattle.filetree.specs.Agreement.{Files, Listings}
 use Rattle.processinput.specs.declared.input.InputFault.{InputFault}
-use Rattle.processinput.specs.Inputs.{GivesAll, Spoils}
+use Rattle.processinput.specs.Inputs.{GivesAll, Spoils, most_bytes}
 use Rattle.requests.specs.Reasons.{bad_arguments}
 use Rattle.shells.specs.declared.shell.Shell.{Shell}
 use Rattle.shells.specs.Shells.{shell_named}
@@ -31,13 +33,15 @@ shell_of [] = Err (because bad_arguments)
 shell_of (word ∷ []) = shell_or word (shell_named word)
 shell_of (word ∷ other ∷ more) = Err (because bad_arguments)
 
--- The whole input is checked for the shell of the arguments. The numbers say how often the device had failed before,
--- and has now.
+-- The whole input, which is UTF-8 and no longer than one may be, is checked for the shell of the arguments. The numbers
+-- say how often the device had failed before, and has now.
 pub record ChecksInput (agrees : Files → Listings → Type 0) (before now : ℕ) (e : Environment) (arguments : List Text)
     (input input' : Option Text) (shell : Shell) (found : Findings) : Type 0 where
   pub named : shell_of arguments ≡ Ok shell
   pub text : Text
   pub given : GivesAll input input' text
+  pub within : length text ≤ most_bytes
+  pub readable : is_utf8 text ≡ true
   pub check : IsCheck agrees before now standard shell e text found
 
 -- how the writing ended

@@ -4,6 +4,7 @@ use Rattle.std.specs.declared.alloc.Global.{Global}
 use Rattle.environment.specs.Changes.{new_values_in}
 use Rattle.modulecmd.specs.Checking.{IsUnnamed, IsUnsaidCheck}
 use Rattle.modulecmd.proofs.CommandLemmas.{unprinted}
+use Rattle.modulecmd.proofs.CheckingLemmas.{readable}
 use Rattle.modulecmd.proofs.checking.answer_of.Goals as goal
 
 pub returns-in_err-text-clause-refused : goal.returns-in_err-text-clause-refused
@@ -22,6 +23,8 @@ returns-in_err-text-clause-refused g c =
         named = c.in_ok-shell.ensures.named;
         text = string_bytes c.in_ok-lines.lines;
         given = c.in_ok-lines.ensures.given;
+        within = c.in_ok-lines.ensures.within;
+        readable = readable c.in_ok-lines.lines;
         check = rw c.as_str.ensures.value at c.in_ok-found.ensures.checked;
       },
       (changes, c.in_ok-difference.ensures.ok, unsayable),
@@ -36,6 +39,8 @@ returns-clause-answered g c = record {
     named = c.in_ok-shell.ensures.named;
     text = string_bytes c.in_ok-lines.lines;
     given = c.in_ok-lines.ensures.given;
+    within = c.in_ok-lines.ensures.within;
+    readable = readable c.in_ok-lines.lines;
     check = rw c.as_str.ensures.value at c.in_ok-found.ensures.checked;
   };
   says = record {
