@@ -418,14 +418,16 @@ LOADED = (
 )
 
 
-def lost_on_the_way(check, said, done):
+def lost_on_the_way(check, said, is_once, done):
     """The answer is a loss of the call, or of single requests and the verdict, and says so; the text is that of the
-    requests that were accepted."""
+    requests that were accepted. What fails once is lost by one of them."""
     out, err, status = done
     if err == b"ERROR: " + said + b"\n":
         return (out, status) == (b"", 1)
     found = OUTCOME.fullmatch(err)
     if not found or any(text not in (None, said) for text in found.group(2, 4, 6)):
+        return False
+    if is_once and found.group(2, 4, 6).count(said) != 1:
         return False
     is_first, is_second = found[1] == b"accepted", found[3] == b"accepted"
     wanted = real(check.folder, LOADED) if is_first and not is_second else b""
@@ -435,13 +437,20 @@ def lost_on_the_way(check, said, done):
 def answers_or_loses(check, shim, said, more):
     plain = (b"", b"1 accepted\n2 accepted\nfoo/1.0: Plain\n", 0)
 
+    is_once = False
+
     def run(asked):
+        nonlocal is_once
+        is_once = b"FAIL_AT" in asked
         env = {**check.env, **asked, **(more if asked else {})}
         done = check.folder.run("sh", env=env, given=b"load foo\nunload foo\n")
         return done.stdout, done.stderr, done.returncode
 
+    def is_lost(done):
+        return done != plain and lost_on_the_way(check, said, is_once, done)
+
     same(run({}), plain, "what is said without a loss")
-    refuses_each(shim, run, lambda done: done != plain and lost_on_the_way(check, said, done), said)
+    refuses_each(shim, run, is_lost, said)
 
 
 @case

@@ -371,11 +371,13 @@ class Context:
         """How many of the files are refused here. The others leave their records."""
         words = ["unload" if self.is_unload else "load", *(self.typed[file.name] for file in files)]
         found = programs.changes(self.shell, words, self.env)
-        if found is None:
-            return 1 if len(files) == 1 else sum(self.refused(programs, [file]) for file in files)
+        if found is None and len(files) > 1:
+            return sum(self.refused(programs, [file]) for file in files)
         try:
             made = difference(self.env, wanted(self.env, files, self.is_unload))
         except model.Refused as refused:
+            if found is None:
+                return 1
             raise Wrong(f"{words} in {self.shell}, by the model {refused}: found {found}") from refused
         if found != made:
             text = files[0].text if len(files) == 1 else ""
