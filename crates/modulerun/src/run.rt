@@ -98,9 +98,9 @@ fn drafted<V: Vars>(
 /// Runs the text of a modulefile (modulefile(5)): its commands have their effects on the environment, in the mode at
 /// hand.
 ///
-/// Errors: want of memory (11 in the evaluation, and else 31); what ends the evaluation early (2 to 9 and 13 to 20); words that don't fit a command (56);
-/// and what a command may not name, or an effect that can't be had (32, 33, 34, 36, 37, 44). The environment is then as
-/// it was.
+/// Errors: want of memory (11 in the evaluation, and else 31); what ends the evaluation early (2 to 9 and 13 to 20);
+/// words that don't fit a command (56); and what a command may not name, or an effect that can't be had (32, 33, 34, 36,
+/// 37, 44). The environment is then as it was.
 pub fn run_file<V: Vars>(
     alloc: Global,
     context: &Context<'_>,
