@@ -35,6 +35,7 @@ pub(crate) fn recorder(alloc: Global) -> Result<Recorder, AllocError> {
         records: Vec::new(alloc),
         messages: Vec::new(alloc),
         asked: false,
+        refused: None,
     })
 }
 

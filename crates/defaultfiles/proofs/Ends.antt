@@ -29,7 +29,7 @@ nothing_left script fault.Stopped o told m h = rw h refl
 nothing_left script (fault.Host n) o told m h = rw h refl
 
 abbrev pub untold : Told
-untold = record { records = []; messages = []; asked = false }
+untold = record { records = []; messages = []; asked = false; refused = None }
 
 abbrev pub globals_of : Text → Variables
 globals_of path = (codes "ModulesCurrentModulefile", path) ∷ []

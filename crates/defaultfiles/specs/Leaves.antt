@@ -14,7 +14,7 @@ use Rattle.modulesearch.specs.DefaultFiles.{Left}
 -- `module-version NAME WORD...` has a name and at least one word, and is kept
 abbrev pub version_answer : List Text → OracleAnswer
 version_answer (command ∷ name ∷ word ∷ words) = Done [] (Kept (command ∷ name ∷ word ∷ words)) false
-version_answer words = Refused 56 false
+version_answer words = Refused 56 None false
 
 -- These are refused: to pass over them could load another module than the one that is meant.
 unfoldable pub renaming_commands : List Text
@@ -27,7 +27,7 @@ abbrev pub named_answer : Text → List Text → OracleAnswer
 named_answer name words =
     if bytes_eq name (codes "module-version") then version_answer words
     else if bytes_eq name (codes "puts") then Done [] Nothing false
-    else if is_among renaming_commands name then Refused 45 false
+    else if is_among renaming_commands name then Refused 45 None false
     else if is_among left_out_module_commands name then LeftOut name false
     else Unknown false
 
@@ -47,7 +47,7 @@ default_setting limits path text =
       script = text;
       globals = (codes "ModulesCurrentModulefile", path) ∷ [];
       oracle = default_oracle;
-      told = record { records = []; messages = []; asked = false };
+      told = record { records = []; messages = []; asked = false; refused = None };
     }
 
 -- At its end its commands are left, and its global variable ModulesVersion. Any fault leaves nothing.

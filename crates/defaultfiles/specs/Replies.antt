@@ -1,5 +1,5 @@
 -- Replies of the host, as answers.
-use Rattle.std.specs.Prelude.{false, List, [], map, string_bytes, vec_items, String}
+use Rattle.std.specs.Prelude.{false, List, [], None, map, string_bytes, vec_items, String}
 use Rattle.std.specs.declared.vec.Vec.{Vec}
 use Rattle.std.specs.declared.alloc.Global.{Global}
 use Rattle.modulename.specs.ModuleName.{Text}
@@ -11,7 +11,7 @@ use Rattle.defaultfiles.specs.declared.replies.Reply.TheVariants as replies
 abbrev pub reply_view : Reply → List Text → OracleAnswer
 reply_view replies.Kept words = Done [] (Kept words) false
 reply_view replies.Dropped words = Done [] Nothing false
-reply_view (replies.Refused n) words = Refused n false
+reply_view (replies.Refused n) words = Refused n None false
 reply_view (replies.LeftOut name) words = LeftOut name.now false
 reply_view replies.Unknown words = Unknown false
 

@@ -66,6 +66,7 @@ impl DefaultFiles for Evaluated {
             alloc,
             commands: Vec::new(alloc),
             asked: false,
+            refused: None,
         };
         let globals = globals_at(alloc, path)?;
         match evaluate(alloc, text, globals, &mut host, self.limits) {

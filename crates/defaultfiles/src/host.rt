@@ -15,6 +15,8 @@ pub(crate) struct DefaultHost {
     pub(crate) commands: Vec<Vec<String>>,
     /// Whether a variable of the environment was read.
     pub(crate) asked: bool,
+    /// The number that a command was refused by.
+    pub(crate) refused: Option<u16>,
 }
 
 fn copy_words(alloc: Global, words: &[String]) -> Result<Vec<String>, AllocError>
@@ -33,6 +35,7 @@ impl DefaultHost {
             ≡ map texts_of_words self.old.commands.items ++ map string_bytes words.now ∷ []) }
         ensures same { OnErr result (self.new.commands.items ≡ self.old.commands.items) }
         ensures asked { self.new.asked ≡ self.old.asked }
+        ensures refused { self.new.refused ≡ self.old.refused }
     {
         let copies = copy_words(self.alloc, words)?;
         self.commands.push(copies)?;
@@ -41,11 +44,17 @@ impl DefaultHost {
 }
 
 impl Host for DefaultHost {
-    ghost use Rattle.std.specs.Prelude.{[], map};
+    ghost use Rattle.std.specs.Prelude.{[], map, option_map};
+    ghost use Rattle.tclrules.specs.Oracle.{unnamed};
     ghost use Rattle.defaultfiles.specs.Leaves.{default_oracle};
     ghost use Rattle.defaultfiles.specs.Replies.{texts_of_words};
 
-    ghost told = { λ h. record { records = map texts_of_words h.commands.items; messages = []; asked = h.asked } };
+    ghost told = { λ h. record {
+      records = map texts_of_words h.commands.items;
+      messages = [];
+      asked = h.asked;
+      refused = option_map unnamed h.refused;
+    } };
 
     ghost oracle = { λ h. default_oracle };
 
@@ -56,7 +65,10 @@ impl Host for DefaultHost {
                 Err(_) => HostAnswer::OutOfMemory,
             },
             Reply::Dropped => HostAnswer::Done(String::new(self.alloc)),
-            Reply::Refused(number) => HostAnswer::Refused(number),
+            Reply::Refused(number) => {
+                self.refused = Some(number);
+                HostAnswer::Refused(number)
+            }
             Reply::LeftOut(name) => match String::from_str(self.alloc, name) {
                 Ok(name) => HostAnswer::LeftOut(name),
                 Err(_) => HostAnswer::OutOfMemory,

@@ -19,12 +19,12 @@ use Rattle.tclvalue.specs.Characters.{white_space, split_space}
 use Rattle.tclrules.specs.Messages.{no_variable, no_command, outside_loop, not_to_unset, is_array, bad_option, no_body, no_loop_variable, is_taken}
 use Rattle.tclrules.specs.Names.{left_out_commands, core_commands, module_commands, left_out_module_commands}
 use Rattle.tclrules.specs.Forms.{core_form}
-use Rattle.tclrules.specs.Derivation.{ByHost, LeftOut}
+use Rattle.tclrules.specs.Derivation.{LeftOut}
 use Rattle.environment.specs.Environment.{Environment, with_value}
 use Rattle.modulerecords.specs.Records.{Set, Unset, Front, Back, Conflict}
 use Rattle.modulefile.specs.Calls.{call_of}
 use Rattle.modulefile.specs.Answers.{Context}
-use Rattle.modulefile.specs.Files.{Ran, Stop, halted, failed, RunsFile, play}
+use Rattle.modulefile.specs.Files.{Ran, Stop, halted, refused, failed, RunsFile, play}
 use Rattle.modulefile.specs.Rows.{standard, file, loading, unloading, showing}
 use Rattle.modulefile.proofs.PlayedFiles.{played_runs}
 
@@ -88,7 +88,7 @@ pub ending_error : (e : Environment) → computed (loading e) (file (codes "sete
 unfolding computed
 ending_error e = refl
 
-pub refused_kept : (e : Environment) → computed (loading e) (file (codes "catch {setenv LOADEDMODULES x}")) 400 ≡ Some (Err (halted (ByHost 33)))
+pub refused_kept : (e : Environment) → computed (loading e) (file (codes "catch {setenv LOADEDMODULES x}")) 400 ≡ Some (Err (refused (record { number = 33; name = Some (codes "LOADEDMODULES") })))
 unfolding computed
 refused_kept e = refl
 

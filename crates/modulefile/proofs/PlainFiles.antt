@@ -14,7 +14,7 @@ use Rattle.tclrules.specs.declared.limits.Limits.{Limits}
 use Rattle.modulerecords.specs.Judgments.{RecordReason, record_reason}
 use Rattle.modulerecords.specs.Effects.{edited, by_edit, permitted, effect}
 use Rattle.modulefile.specs.Calls.{keeps, says, getenv, is_loaded, own_name, typed_name, tells, tests, CallForm, call_of}
-use Rattle.modulefile.specs.Answers.{Context, record_number, kept, read, answered, records_in, found_after, oracle_of, value_shown}
+use Rattle.modulefile.specs.Answers.{Context, record_number, record_name, kept, read, answered, records_in, found_after, oracle_of, value_shown}
 use Rattle.modulefile.specs.Files.{Ran, Stop, ran_of, setting_of, FinishesFile, RunsFile, IsSameOrRefused}
 use Rattle.modulefile.specs.Laws.{PlainFilesAgree}
 use Rattle.modulefile.proofs.Bound.{same_value}
@@ -23,13 +23,13 @@ use Rattle.modulefile.proofs.WholeFiles.{ran_parts}
 -- what was neither refused nor a question is answered alike, or refused
 
 abbrev Alike : OracleAnswer → OracleAnswer → Type 0
-Alike first second = (second ≡ first) ⊎ ((n : ℕ) × (asks : Bool) × (second ≡ oracle.Refused n asks))
+Alike first second = (second ≡ first) ⊎ ((n : ℕ) × (name : Option Text) × (asks : Bool) × (second ≡ oracle.Refused n name asks))
 
 at_kept : (words : List Text) (o : Option RecordReason) (s t : Result Environment RecordReason) → is_refusal (kept words (permitted o s)) ≡ false → Alike (kept words (permitted o s)) (kept words (permitted o t))
 at_kept words (Some o) s t h = absurd (cc)
 at_kept words None (Err q) t h = absurd (cc)
 at_kept words None (Ok a) (Ok b) h = inl refl
-at_kept words None (Ok a) (Err q) h = inr (record_number q, false, refl)
+at_kept words None (Ok a) (Err q) h = inr (record_number q, record_name q, false, refl)
 
 at_read : (var u v : Text) → is_question (read var u) ≡ false → read var v ≡ read var u
 at_read var u v h = go (is_variable_name var) refl
@@ -74,7 +74,7 @@ plain_normal law limits c d text ran o result s w e h a n p (out2, w2, e2, f) =
     let e3 : ComesTo (with_oracle (oracle_of d) (setting_of limits c text)) out2 w2 = subst (λ (z : Setting). ComesTo z out2 w2) (moved_setting limits c d text p) e2 in
     ⊎_elim
     (λ i. same_finish c d text result s w.told ran o h (subst (λ (x : Outcome Ending). FinishesFile d text x w.told o) i.0 (subst (λ (v : World). FinishesFile d text out2 v.told o) i.1 f)))
-    (λ i. inr (i.0, subst (λ (x : Outcome Ending). FinishesFile d text x w2.told o) i.1 f))
+    (λ i. inr (i.0, w2.told.refused, subst (λ (x : Outcome Ending). FinishesFile d text x w2.told o) i.1 f))
     (law (setting_of limits c text) (oracle_of d) (Ended (Normal result s)) out2 w w2 e ((ran_parts c w.told ran h).asked ∙ a) (λ m z. cc) (agree c d n) e3)
 
 pub plain_file : UnaskedLaw → PlainFilesAgree

@@ -14,7 +14,7 @@ use Rattle.modulerecords.specs.Effects.{effects}
 use Rattle.modulerecords.proofs.Effected.{all_proper}
 use Rattle.modulefile.specs.Results.{◌>>=◌}
 use Rattle.modulefile.specs.Answers.{Context, records_in, by_record, effects_so_far}
-use Rattle.modulefile.specs.Files.{Ran, Stop, halted, failed, setting_of, ran_of, FinishesFile}
+use Rattle.modulefile.specs.Files.{Ran, Stop, failed, stop_by, setting_of, ran_of, FinishesFile}
 use Rattle.modulefile.specs.Laws.{SomeOutcome, RecordsMake, RecordsAreProper}
 use Rattle.modulefile.proofs.Bound.{bound, bind_ok, same_value}
 use Rattle.modulefile.proofs.FileEnds.{IsFileEnd, file_end}
@@ -56,7 +56,7 @@ some_end limits c text (Ended (Raised m s)) w d i = (Err (failed m (line_at text
 some_end limits c text (Ended (Returned t s)) w d i = absurd i
 some_end limits c text (Ended (Broken s)) w d i = absurd i
 some_end limits c text (Ended (Continued s)) w d i = absurd i
-some_end limits c text (Halted h) w d i = (Err (halted h), refl)
+some_end limits c text (Halted h) w d i = (Err (stop_by h w.told.refused), refl)
 
 abbrev pub EachComes : Type 0
 EachComes = (s : Setting) → (o : Outcome Ending) × (w : World) × ComesTo s o w

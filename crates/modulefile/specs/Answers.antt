@@ -1,5 +1,5 @@
 -- What the host of a modulefile answers (modulefile(5)), as an oracle over the records so far.
-use Rattle.std.specs.Prelude.{ℕ, Bool, true, false, ◌||◌, ◌&&◌, List, [], ◌∷◌, ◌++◌, codes, bytes_eq, if◌then◌else◌, unwrap_or, Result, Ok, Err}
+use Rattle.std.specs.Prelude.{ℕ, Bool, true, false, ◌||◌, ◌&&◌, List, [], ◌∷◌, ◌++◌, codes, bytes_eq, if◌then◌else◌, unwrap_or, Option, Some, None, Result, Ok, Err}
 use Rattle.std.specs.List.{list_any}
 use Rattle.modulename.specs.ModuleName.{means}
 use Rattle.environment.specs.Texts.{Text}
@@ -86,12 +86,25 @@ abbrev pub record_number : RecordReason → ℕ
 record_number (bad_edit reason) = edit_number reason
 record_number (bad_module_name name) = 44
 
+-- the names that reasons are for
+abbrev pub edit_name : EnvReason → Option Text
+edit_name (bad_variable name) = Some name
+edit_name (protected name) = Some name
+edit_name (counter_full name) = Some name
+edit_name inconsistent = None
+edit_name (bad_stack name) = Some name
+edit_name (bad_value name) = Some name
+
+abbrev pub record_name : RecordReason → Option Text
+record_name (bad_edit reason) = edit_name reason
+record_name (bad_module_name name) = Some name
+
 -- a command that isn't done
 abbrev pub not_done : CallReason → OracleAnswer
 not_done unknown = Unknown false
 not_done (left_out name) = LeftOut name false
-not_done bad_arguments = Refused 56 false
-not_done (bad_record reason) = Refused (record_number reason) false
+not_done bad_arguments = Refused 56 None false
+not_done (bad_record reason) = Refused (record_number reason) (record_name reason) false
 
 -- A command that leaves a record answers the empty text, and its words are kept, where the record has its effect.
 abbrev pub kept : List Text → Result Environment RecordReason → OracleAnswer

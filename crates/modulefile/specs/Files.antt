@@ -4,7 +4,7 @@ use Rattle.std.specs.Prelude.{◌≡◌, ◌⊎◌, ℕ, Bool, false, List, [], 
 use Rattle.environment.specs.Texts.{Text}
 use Rattle.environment.specs.Environment.{Environment}
 use Rattle.tclchars.specs.Faults.{fault_number}
-use Rattle.tclrules.specs.Oracle.{Told}
+use Rattle.tclrules.specs.Oracle.{Refusal, Told}
 use Rattle.tclrules.specs.Derivation.{Halt, OutOfMemory, BadText, TooManyCommands, TooDeep, ValueTooLong, NumberTooLarge, FractionOperand, LeftOut, Stopped, ByHost, Outcome, Ended, Halted, World}
 use Rattle.tclrules.specs.Variables.{Variables}
 use Rattle.tclrules.specs.Plans.{Ending, Normal, Raised, Returned, Broken, Continued}
@@ -20,7 +20,7 @@ use Rattle.modulefile.specs.Answers.{Context, records_in, by_record, oracle_of}
 
 -- nothing is told before
 abbrev pub untold : Told
-untold = record { records = []; messages = []; asked = false }
+untold = record { records = []; messages = []; asked = false; refused = None }
 
 -- a file knows its own path
 abbrev pub globals_of : Text → Variables
@@ -39,9 +39,11 @@ pub record Ran : Type 0 where
   pub asked : Bool
   pub env : Environment
 
--- Why a file is refused: its evaluation was halted, or ended with an error that nothing caught, on this line of it.
+-- Why a file is refused: its evaluation was halted, or one of its commands was refused, by this number and for this
+-- name, or it ended with an error that nothing caught, on this line of it.
 pub data Stop : Type 0 where
   halted : Halt → Stop
+  refused : Refusal → Stop
   failed : (message : Text) (line : ℕ) → Stop
 
 -- what was told, as records and their effects
@@ -51,6 +53,15 @@ ran_of c told =
     by_record (effects c.mode c.name rs c.start) >>= (λ e.
     Ok (record { records = rs; messages = told.messages; asked = told.asked; env = e })))
 
+-- a halt by the host is the refusal that it was told
+abbrev pub refused_by : ℕ → Option Refusal → Stop
+refused_by n None = halted (ByHost n)
+refused_by n (Some refusal) = refused refusal
+
+abbrev pub stop_by : Halt → Option Refusal → Stop
+stop_by (ByHost n) refusal = refused_by n refusal
+stop_by halt refusal = halted halt
+
 -- From how the evaluation ended. A file ends by no return, break or continue: the rules of evaluation see to these.
 abbrev pub FinishesFile : Context → Text → Outcome Ending → Told → Result Ran Stop → Type 0
 FinishesFile c text (Ended (Normal result s)) told o = (ran : Ran) × (ran_of c told ≡ Ok ran) × (o ≡ Ok ran)
@@ -58,7 +69,7 @@ FinishesFile c text (Ended (Raised message s)) told o = o ≡ Err (failed messag
 FinishesFile c text (Ended (Returned result s)) told o = ⊥
 FinishesFile c text (Ended (Broken s)) told o = ⊥
 FinishesFile c text (Ended (Continued s)) told o = ⊥
-FinishesFile c text (Halted halt) told o = o ≡ Err (halted halt)
+FinishesFile c text (Halted halt) told o = o ≡ Err (stop_by halt told.refused)
 
 -- The text of a modulefile, evaluated in a context, comes to this.
 abbrev pub RunsFile : Limits → Context → Text → Result Ran Stop → Type 0
@@ -84,12 +95,14 @@ halt_number (ByHost n) = n
 
 abbrev pub stop_number : Stop → ℕ
 stop_number (halted halt) = halt_number halt
+stop_number (refused refusal) = refusal.number
 stop_number (failed message line) = 13
 
 -- An evaluation left the same records as this one, or was refused by the host.
 abbrev pub IsSameOrRefused : Ran → Result Ran Stop → Type 0
 IsSameOrRefused ran o =
-    ((again : Ran) × (o ≡ Ok again) × (again.records ≡ ran.records)) ⊎ ((n : ℕ) × (o ≡ Err (halted (ByHost n))))
+    ((again : Ran) × (o ≡ Ok again) × (again.records ≡ ran.records))
+    ⊎ ((n : ℕ) × (refusal : Option Refusal) × (o ≡ Err (refused_by n refusal)))
 
 -- A file played: the definition as a function that computes. The number bounds how long a way may be; None where that
 -- is too little.
@@ -104,7 +117,7 @@ shown c text (Some (Ended (Raised message s), w)) = Some (Err (failed message (l
 shown c text (Some (Ended (Returned result s), w)) = None
 shown c text (Some (Ended (Broken s), w)) = None
 shown c text (Some (Ended (Continued s), w)) = None
-shown c text (Some (Halted halt, w)) = Some (Err (halted halt))
+shown c text (Some (Halted halt, w)) = Some (Err (stop_by halt w.told.refused))
 
 abbrev pub play : Limits → Context → Text → ℕ → Option (Result Ran Stop)
 play limits c text steps = shown c text (play_file (setting_of limits c text) steps)

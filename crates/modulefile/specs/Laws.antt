@@ -26,7 +26,7 @@ abbrev pub IsDone : OracleAnswer → Type 0
 IsDone (Done text adds asks) = Unit {0}
 IsDone (Unknown asks) = ⊥
 IsDone (LeftOut name asks) = ⊥
-IsDone (Refused n asks) = ⊥
+IsDone (Refused n name asks) = ⊥
 
 -- What a command that is done adds, and whether it asks, its words say: not the mode, the environment or what went
 -- before.

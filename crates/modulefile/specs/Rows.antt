@@ -8,7 +8,7 @@ use Rattle.modulerecords.specs.Records.{Record}
 use Rattle.modulerecords.specs.Effects.{Mode, load, unload, display}
 use Rattle.shells.specs.declared.shell.Shell.TheVariants.{Sh}
 use Rattle.modulefile.specs.Answers.{Context}
-use Rattle.modulefile.specs.Files.{halted, failed, RunsFile}
+use Rattle.modulefile.specs.Files.{halted, refused, failed, RunsFile}
 
 -- what every command may use
 abbrev pub standard : Limits
@@ -79,6 +79,12 @@ LeavesMessages seat lines messages =
 -- it is halted
 abbrev pub IsHalted : Seat → Text → Halt → Type 0
 IsHalted seat lines halt = (e : Environment) → RunsFile standard (seat e) (file lines) (Err (halted halt))
+
+-- one of its commands is refused, by this number and for this name
+abbrev pub IsRefusedFor : Seat → Text → ℕ → Text → Type 0
+IsRefusedFor seat lines number name =
+    (e : Environment)
+    → RunsFile standard (seat e) (file lines) (Err (refused (record { number = number; name = Some name })))
 
 -- it ends with an error that nothing caught, on this line
 abbrev pub FailsOnLine : Seat → Text → Text → ℕ → Type 0

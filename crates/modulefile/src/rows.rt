@@ -1,10 +1,10 @@
 //! Worked modulefiles and what they come to, by computation, in every environment. More are rows of `cases_requests`.
 ghost use Rattle.std.specs.Prelude.{◌≡◌, [], ◌∷◌, codes, Some, None};
-ghost use Rattle.tclrules.specs.Derivation.{ByHost, LeftOut};
+ghost use Rattle.tclrules.specs.Derivation.{LeftOut};
 ghost use Rattle.modulerecords.specs.Records.{Set, Unset, Front, Back, Conflict, Prereq, Whatis};
 ghost use Rattle.modulefile.specs.Reports.{show_text, whatis_text};
 ghost use Rattle.modulefile.specs.Rows.{loading, unloading, showing};
-ghost use Rattle.modulefile.specs.Rows.{stays, sets, unsets, LeavesRecords, LeavesAsking, LeavesMessages, IsHalted, FailsOnLine};
+ghost use Rattle.modulefile.specs.Rows.{stays, sets, unsets, LeavesRecords, LeavesAsking, LeavesMessages, IsHalted, IsRefusedFor, FailsOnLine};
 
 /// Records and effects, by mode.
 pub fn file_rows()
@@ -46,9 +46,9 @@ pub fn ending_rows()
     ensures error { FailsOnLine loading (codes "setenv A 1\n\nerror {no such thing}") (codes "no such thing") 4 }
 {}
 
-/// What is refused, and by which number.
+/// What is refused, by which number and for which name.
 pub fn refused_rows()
-    ensures kept { IsHalted loading (codes "catch {setenv LOADEDMODULES x}") (ByHost 33) }
+    ensures kept { IsRefusedFor loading (codes "catch {setenv LOADEDMODULES x}") 33 (codes "LOADEDMODULES") }
     ensures topic { IsHalted loading (codes "module-info nope x y") (LeftOut (codes "module-info nope")) }
 {}
 

@@ -84,7 +84,7 @@ pub shared_variable_row : sees (within standard (codes "set x 1; proc f {} {set 
 unfolding computed
 shared_variable_row = refl
 
-pub asked_mode_row : computed (recorded standard (codes "if {[mode] eq \"unload\"} {setenv A 1}")) told_to 300 ≡ Some (record { records = (setenv_words (codes "A") (codes "1") ∷ []); messages = []; asked = true })
+pub asked_mode_row : computed (recorded standard (codes "if {[mode] eq \"unload\"} {setenv A 1}")) told_to 300 ≡ Some (record { records = (setenv_words (codes "A") (codes "1") ∷ []); messages = []; asked = true; refused = None })
 unfolding computed
 asked_mode_row = refl
 

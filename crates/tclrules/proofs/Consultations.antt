@@ -12,7 +12,7 @@ same_or_refused second (over g) t = inl (over g)
 same_or_refused second (consults {words = words} {k = k} {w = w} d) t =
     ⊎_elim
     (λ same. ⊎_elim (λ i. inl (consults (rw same i))) (λ i. inr (i.0, i.1, consults (rw same i.2))) (same_or_refused second d t.1))
-    (λ no. inr (no.0, hear w (second.command w.told.records words), consults (rw no.2 ends)))
+    (λ no. inr (no.0, hear w (second.command w.told.records words), consults (rw no.3 ends)))
     t.0
 same_or_refused second (reads d) t =
     ⊎_elim (λ i. inl (reads (rw t.0 i))) (λ i. inr (i.0, i.1, reads (rw t.0 i.2))) (same_or_refused second d t.1)
@@ -63,8 +63,8 @@ answer_unrefused : {J R : Type 0} {oracle : Oracle} {most : ℕ} {rule : J → P
 answer_unrefused k (Done text adds asks) d h = refl
 answer_unrefused k (Unknown asks) d h = refl
 answer_unrefused k (LeftOut name asks) d h = refl
-answer_unrefused k (Refused n asks) ends h = absurd (h n refl)
-answer_unrefused k (Refused n asks) (starves a g) h = absurd (cc)
+answer_unrefused k (Refused n name asks) ends h = absurd (h n refl)
+answer_unrefused k (Refused n name asks) (starves a g) h = absurd (cc)
 
 pub unrefused : {J R : Type 0} {oracle : Oracle} {most : ℕ} {rule : J → Plan J R} {p : Plan J R} {w : World} {o : Outcome R} {w' : World} (d : Eval false oracle most rule p w o w') → ((n : ℕ) → ¬ (o ≡ Halted (ByHost n))) → Throughout (IsUnrefused oracle) d
 unrefused ends h = tt

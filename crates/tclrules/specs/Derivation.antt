@@ -53,11 +53,12 @@ hear w a = record { used = w.used; told = tell w.told a }
 
 -- reading the environment is a question
 abbrev pub ask_told : Told → Told
-ask_told t = record { records = t.records; messages = t.messages; asked = true }
+ask_told t = record { records = t.records; messages = t.messages; asked = true; refused = t.refused }
 
 -- what is told where something was perhaps asked, and no more
 abbrev pub perhaps_asked : Bool → Told → Told
-perhaps_asked asked t = record { records = t.records; messages = t.messages; asked = asked || t.asked }
+perhaps_asked asked t =
+    record { records = t.records; messages = t.messages; asked = asked || t.asked; refused = t.refused }
 
 abbrev pub ask : World → World
 ask w = record { used = w.used; told = ask_told w.told }
@@ -70,7 +71,7 @@ abbrev pub replied : {J R : Type 0} → (Reply → Plan J R) → OracleAnswer �
 replied k (Done text adds asks) = k (Says text)
 replied k (Unknown asks) = k NotKnown
 replied k (host.LeftOut name asks) = Ends (Halted (LeftOut name))
-replied k (Refused n asks) = Ends (Halted (ByHost n))
+replied k (Refused n name asks) = Ends (Halted (ByHost n))
 
 -- derivations: a plan comes from one world to an outcome and another world. Where it may starve, want of memory can end
 -- it anywhere; a host that wants memory may have set the mark before
@@ -116,7 +117,7 @@ Throughout Holds (starves asked h) = Unit {0}
 -- the second oracle answers as the first does, or refuses
 abbrev pub AnswersOrRefuses : Oracle → Oracle → List CommandWords → Query → Type 0
 AnswersOrRefuses first second records (Command words) = (second.command records words ≡ first.command records words)
-    ⊎ ((n : ℕ) × (asks : Bool) × (second.command records words ≡ Refused n asks))
+    ⊎ ((n : ℕ) × (name : Option Text) × (asks : Bool) × (second.command records words ≡ Refused n name asks))
 AnswersOrRefuses first second records (Variable name) = second.variable records name ≡ first.variable records name
 
 -- a consultation that isn't refused

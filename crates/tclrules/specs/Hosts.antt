@@ -21,8 +21,8 @@ Answers oracle words Unknown old new = (asks : Bool)
     × IsTold (oracle.command old.records words) (host.Unknown asks) old new
 Answers oracle words (LeftOut name) old new = (asks : Bool)
     × IsTold (oracle.command old.records words) (host.LeftOut (string_bytes name) asks) old new
-Answers oracle words (Refused n) old new = (asks : Bool)
-    × IsTold (oracle.command old.records words) (host.Refused n asks) old new
+Answers oracle words (Refused n) old new = (name : Option Text) × (asks : Bool)
+    × IsTold (oracle.command old.records words) (host.Refused n name asks) old new
 Answers oracle words OutOfMemory old new = (asked : Bool) × (new ≡ perhaps_asked asked old)
 
 -- the value of an environment variable

@@ -1,5 +1,5 @@
 -- What a host means: how it answers, and what it was told.
-use Rattle.std.specs.Prelude.{ℕ, Bool, true, false, ◌||◌, List, [], ◌∷◌, ◌++◌, Option}
+use Rattle.std.specs.Prelude.{ℕ, Bool, true, false, ◌||◌, List, [], ◌∷◌, ◌++◌, Option, Some, None}
 use Rattle.tclchars.specs.Runs.{Text}
 
 -- a record is the words of its command
@@ -12,42 +12,53 @@ pub data Addition : Type 0 where
   Kept : CommandWords → Addition
   Message : Text → Addition
 
--- an answer to the words of a command. Only what was done leaves something behind; the flag says that the command asks
--- for the environment, the mode, the shell, the name as it was typed or the modules that are loaded
+-- an answer to the words of a command. Only what was done leaves something behind. A refusal has a number, and the name
+-- that it is for, where it is for one. The flag says that the command asks for the environment, the mode, the shell, the
+-- name as it was typed or the modules that are loaded
 pub data OracleAnswer : Type 0 where
   Done : Text → Addition → Bool → OracleAnswer
   Unknown : Bool → OracleAnswer
   LeftOut : Text → Bool → OracleAnswer
-  Refused : ℕ → Bool → OracleAnswer
+  Refused : ℕ → Option Text → Bool → OracleAnswer
 
 -- what is answered, from the records so far, to the words of a command and to the name of an environment variable
 pub record Oracle : Type 0 where
   pub command : List CommandWords → List Text → OracleAnswer
   pub variable : List CommandWords → Text → Option Text
 
--- the records and messages so far, and whether something was asked
+-- by which number a command was refused, and for which name
+pub record Refusal : Type 0 where
+  pub number : ℕ
+  pub name : Option Text
+
+-- a refusal that is for no name
+abbrev pub unnamed : ℕ → Refusal
+unnamed n = record { number = n; name = None }
+
+-- the records and messages so far, whether something was asked, and the refusal of a command
 pub record Told : Type 0 where
   pub records : List CommandWords
   pub messages : List Text
   pub asked : Bool
+  pub refused : Option Refusal
 
 abbrev pub addition : OracleAnswer → Addition
 addition (Done text adds asks) = adds
 addition (Unknown asks) = Nothing
 addition (LeftOut name asks) = Nothing
-addition (Refused n asks) = Nothing
+addition (Refused n name asks) = Nothing
 
 abbrev pub is_question : OracleAnswer → Bool
 is_question (Done text adds asks) = asks
 is_question (Unknown asks) = asks
 is_question (LeftOut name asks) = asks
-is_question (Refused n asks) = asks
+is_question (Refused n name asks) = asks
 
 abbrev pub is_refusal : OracleAnswer → Bool
 is_refusal (Done text adds asks) = false
 is_refusal (Unknown asks) = false
 is_refusal (LeftOut name asks) = false
-is_refusal (Refused n asks) = true
+is_refusal (Refused n name asks) = true
 
 abbrev pub records_with : List CommandWords → Addition → List CommandWords
 records_with records Nothing = records
@@ -59,10 +70,18 @@ messages_with messages Nothing = messages
 messages_with messages (Kept r) = messages
 messages_with messages (Message m) = messages ++ m ∷ []
 
+-- the refusal is that of the last command that was refused
+abbrev pub refused_with : Option Refusal → OracleAnswer → Option Refusal
+refused_with before (Done text adds asks) = before
+refused_with before (Unknown asks) = before
+refused_with before (LeftOut name asks) = before
+refused_with before (Refused n name asks) = Some (record { number = n; name = name })
+
 -- what is told after an answer
 abbrev pub tell : Told → OracleAnswer → Told
 tell t a = record {
   records = records_with t.records (addition a);
   messages = messages_with t.messages (addition a);
   asked = t.asked || is_question a;
+  refused = refused_with t.refused a;
 }

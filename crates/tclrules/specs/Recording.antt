@@ -28,7 +28,7 @@ named_answer mode name words =
     if bytes_eq name (codes "setenv") then Done [] (Kept words) false
     else if bytes_eq name (codes "puts") then said (message_in words)
     else if bytes_eq name (codes "mode") then Done mode Nothing true
-    else if bytes_eq name (codes "conflict") then Refused 51 false
+    else if bytes_eq name (codes "conflict") then Refused 51 None false
     else Unknown false
 
 abbrev pub answer_of : Text → List CommandWords → List Text → OracleAnswer

@@ -21,7 +21,7 @@ abbrev pub with_bytes : ℕ → Limits
 with_bytes n = record standard { value_bytes = n }
 
 abbrev pub untold : Told
-untold = record { records = []; messages = []; asked = false }
+untold = record { records = []; messages = []; asked = false; refused = None }
 
 -- a host that knows no command and has no environment
 abbrev pub nobody : Oracle
@@ -83,7 +83,7 @@ HostStops l script h = Sees (recorded l script) (Halts h)
 -- it is told these records and messages, and is asked or not
 abbrev pub HostIsTold : Text → List CommandWords → List Text → Bool → Type 0
 HostIsTold script records messages asked = Shows (recorded standard script) told_to
-    (record { records = records; messages = messages; asked = asked })
+    (record { records = records; messages = messages; asked = asked; refused = None })
 
 -- the words of a setenv
 abbrev pub setenv_words : Text → Text → CommandWords

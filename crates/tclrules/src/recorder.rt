@@ -18,6 +18,8 @@ pub struct Recorder {
     pub records: Vec<Vec<String>>,
     pub messages: Vec<String>,
     pub asked: bool,
+    /// The number that a command was refused by.
+    pub refused: Option<u16>,
 }
 
 fn copy_words(alloc: Global, words: &[String]) -> Result<Vec<String>, AllocError>
@@ -74,13 +76,15 @@ fn value_of(
 }
 
 impl Host for Recorder {
-    ghost use Rattle.std.specs.Prelude.{string_bytes, map};
+    ghost use Rattle.std.specs.Prelude.{string_bytes, map, option_map};
+    ghost use Rattle.tclrules.specs.Oracle.{unnamed};
     ghost use Rattle.tclrules.specs.Recording.{answer_of, record_texts, pair_texts, value_in};
 
     ghost told = { λ r. record {
       records = map record_texts r.records.items;
       messages = map string_bytes r.messages.items;
       asked = r.asked;
+      refused = option_map unnamed r.refused;
     } };
 
     ghost oracle = { λ r. record {
@@ -115,6 +119,7 @@ impl Host for Recorder {
                 Err(_) => HostAnswer::OutOfMemory,
             }
         } else if name.as_str() == "conflict" {
+            self.refused = Some(51);
             HostAnswer::Refused(51)
         } else {
             HostAnswer::Unknown
