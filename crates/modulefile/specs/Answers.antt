@@ -7,7 +7,7 @@ use Rattle.environment.specs.Names.{is_variable_name}
 use Rattle.environment.specs.Environment.{Environment, lookup}
 use Rattle.environment.specs.Reasons.{EnvReason, bad_variable, protected, counter_full, inconsistent, bad_stack, bad_value}
 use Rattle.tclrules.specs.Oracle as oracle
-use Rattle.tclrules.specs.Oracle.{Oracle, OracleAnswer, Addition, Nothing, Kept, Message, Done, Unknown, LeftOut, Refused}
+use Rattle.tclrules.specs.Oracle.{Oracle, OracleAnswer, Refusal, Addition, Nothing, Kept, Message, Done, Unknown, LeftOut, Refused}
 use Rattle.modulerecords.specs.Records.{Record}
 use Rattle.modulerecords.specs.Judgments.{RecordReason, bad_edit, bad_module_name}
 use Rattle.modulerecords.specs.Effects.{Mode, load, unload, display, whatis, effect, effects}
@@ -98,6 +98,10 @@ edit_name (bad_value name) = Some name
 abbrev pub record_name : RecordReason → Option Text
 record_name (bad_edit reason) = edit_name reason
 record_name (bad_module_name name) = Some name
+
+-- the refusal of a command that leaves a record, for this reason
+abbrev pub refusal_of : RecordReason → Refusal
+refusal_of reason = record { number = record_number reason; name = record_name reason }
 
 -- a command that isn't done
 abbrev pub not_done : CallReason → OracleAnswer

@@ -1,11 +1,11 @@
 -- A file evaluated by the host, from the environment before it.
-use Rattle.std.proofs.Common.{◌≡◌, Bool, false, List, [], map, string_bytes, String, Some, IfSome, Result, Ok, Err, IfOk, IfErr, ap, sym, subst, ◌∙◌}
+use Rattle.std.proofs.Common.{◌≡◌, Bool, false, List, [], map, string_bytes, String, Option, Some, None, IfSome, Result, Ok, Err, IfOk, IfErr, ap, sym, subst, ◌∙◌}
 use Rattle.std.specs.declared.vec.Vec.{Vec}
 use Rattle.std.specs.declared.alloc.Global.{Global}
 use Rattle.environment.specs.Texts.{Text, texts_in}
 use Rattle.environment.specs.Environment.{Environment}
 use Rattle.environment.specs.Changes.{applied, new_values_in}
-use Rattle.tclrules.specs.Oracle.{Told}
+use Rattle.tclrules.specs.Oracle.{Refusal, Told}
 use Rattle.tclrules.specs.Variables.{Variables}
 use Rattle.tclrules.specs.Promise.{Evaluates}
 use Rattle.tclrules.specs.declared.limits.Limits.{Limits}
@@ -14,12 +14,13 @@ use Rattle.tclrules.specs.declared.outcome.EvalFault.{EvalFault}
 use Rattle.modulefile.specs.Answers as answers
 use Rattle.modulefile.specs.Answers.{oracle_of}
 use Rattle.modulefile.specs.Files.{RunsFile, ran_of, untold, globals_of}
+use Rattle.modulerun.specs.declared.command_refusal.CommandRefusal.{CommandRefusal}
 use Rattle.modulerun.specs.declared.context.Context.{Context}
 use Rattle.modulerun.specs.declared.run.Draft.{Draft}
 use Rattle.modulerun.specs.declared.run_fault.RunFault.{RunFault}
 use Rattle.modulerun.specs.declared.run_fault.RunFault.TheVariants.{OutOfMemory}
 use Rattle.modulerun.specs.Journals.{SoFar, so_far_of}
-use Rattle.modulerun.specs.Hosting.{context_with, told_with}
+use Rattle.modulerun.specs.Hosting.{context_with, refusal_view, told_with}
 use Rattle.modulerun.specs.Running.{context_view, ran_view, eval_stop, stop_of, Drafts}
 use Rattle.modulerun.proofs.RunLemmas.{runs_ok, runs_err, of_stop, same_start, same_ran}
 
@@ -28,25 +29,26 @@ pub begun : (cx ctx : Context) (start : Environment) (j : SoFar) → j ≡ so_fa
 begun cx ctx start j e d =
     ap (λ (s : SoFar). context_with s ctx) e ∙ ap (λ (x : Context). context_with (so_far_of cx.mode cx.name.now start []) x) d
 
-abbrev told_of : List (List Text) → List Text → Bool → Told
-told_of words messages mark = record { records = words; messages = messages; asked = mark }
+abbrev told_of : List (List Text) → List Text → Bool → Option Refusal → Told
+told_of words messages mark refusal = record { records = words; messages = messages; asked = mark; refused = refusal }
 
 -- nothing is told before
-untold_at : (j : SoFar) (messages : Vec (String Global) Global) (mark : Bool) → j.words ≡ [] → messages.items ≡ [] → mark ≡ false → told_with j messages mark ≡ untold
-untold_at j messages mark e d b =
-    ap (λ (ws : List (List Text)). told_of ws (texts_in messages) mark) e
-    ∙ ap (λ (ms : List (String Global)). told_of [] (map string_bytes ms) mark) d
-    ∙ ap (λ (m : Bool). told_of [] [] m) b
+untold_at : (j : SoFar) (messages : Vec (String Global) Global) (mark : Bool) (kept : Option CommandRefusal) → j.words ≡ [] → messages.items ≡ [] → mark ≡ false → kept ≡ None → told_with j messages mark kept ≡ untold
+untold_at j messages mark kept e d b n =
+    ap (λ (ws : List (List Text)). told_of ws (texts_in messages) mark (refusal_view kept)) e
+    ∙ ap (λ (ms : List (String Global)). told_of [] (map string_bytes ms) mark (refusal_view kept)) d
+    ∙ ap (λ (m : Bool). told_of [] [] m (refusal_view kept)) b
+    ∙ ap (λ (k : Option CommandRefusal). told_of [] [] false (refusal_view k)) n
 
 -- the evaluation is that of the file
-pub started : (limits : Limits) (text : Text) (cx ctx : Context) (start : Environment) (j : SoFar) (messages : Vec (String Global) Global) (mark : Bool) (gs : Variables) (r : Result Ending EvalFault) (new : Told)
-    → j ≡ so_far_of cx.mode cx.name.now start [] → ctx ≡ cx → messages.items ≡ [] → mark ≡ false → gs ≡ globals_of cx.path.now
-    → Evaluates limits text gs (oracle_of (context_with j ctx)) (told_with j messages mark) r new
+pub started : (limits : Limits) (text : Text) (cx ctx : Context) (start : Environment) (j : SoFar) (messages : Vec (String Global) Global) (mark : Bool) (kept : Option CommandRefusal) (gs : Variables) (r : Result Ending EvalFault) (new : Told)
+    → j ≡ so_far_of cx.mode cx.name.now start [] → ctx ≡ cx → messages.items ≡ [] → mark ≡ false → kept ≡ None → gs ≡ globals_of cx.path.now
+    → Evaluates limits text gs (oracle_of (context_with j ctx)) (told_with j messages mark kept) r new
     → Evaluates limits text (globals_of cx.path.now) (oracle_of (context_view cx start)) untold r new
-started limits text cx ctx start j messages mark gs r new e d m b k h =
-    subst (λ (t : Told). Evaluates limits text (globals_of cx.path.now) (oracle_of (context_view cx start)) t r new) (untold_at j messages mark (ap (λ (s : SoFar). s.words) e) m b)
-    (subst (λ (c : answers.Context). Evaluates limits text (globals_of cx.path.now) (oracle_of c) (told_with j messages mark) r new) (begun cx ctx start j e d)
-    (subst (λ (vs : Variables). Evaluates limits text vs (oracle_of (context_with j ctx)) (told_with j messages mark) r new) k h))
+started limits text cx ctx start j messages mark kept gs r new e d m b n k h =
+    subst (λ (t : Told). Evaluates limits text (globals_of cx.path.now) (oracle_of (context_view cx start)) t r new) (untold_at j messages mark kept (ap (λ (s : SoFar). s.words) e) m b n)
+    (subst (λ (c : answers.Context). Evaluates limits text (globals_of cx.path.now) (oracle_of c) (told_with j messages mark kept) r new) (begun cx ctx start j e d)
+    (subst (λ (vs : Variables). Evaluates limits text vs (oracle_of (context_with j ctx)) (told_with j messages mark kept) r new) k h))
 
 pub drafts_ok : (limits : Limits) (c d : answers.Context) (text : Text) (told : Told) (end : Ending) (r : Result Draft RunFault)
     → Evaluates limits text (globals_of c.path) (oracle_of c) untold (Ok end) told → oracle_of d ≡ oracle_of c
@@ -58,6 +60,6 @@ drafts_ok limits c d text told end (Ok draft) h same k only =
 drafts_ok limits c d text told end (Err fault) h same k only = subst (λ (f : RunFault). IfSome (stop_of f) (λ stop. RunsFile limits c text (Err stop))) (sym only) tt
 
 pub drafts_err : (limits : Limits) (c : answers.Context) (text : Text) (told : Told) (fault : EvalFault) (refusal : RunFault)
-    → Evaluates limits text (globals_of c.path) (oracle_of c) untold (Err fault) told → IfSome (stop_of refusal) (λ stop. eval_stop fault ≡ Some stop)
+    → Evaluates limits text (globals_of c.path) (oracle_of c) untold (Err fault) told → IfSome (stop_of refusal) (λ stop. eval_stop fault told.refused ≡ Some stop)
     → Drafts limits c text (Err refusal)
-drafts_err limits c text told fault refusal h k = of_stop (eval_stop fault) (stop_of refusal) (λ stop. RunsFile limits c text (Err stop)) k (runs_err limits c text told fault h)
+drafts_err limits c text told fault refusal h k = of_stop (eval_stop fault told.refused) (stop_of refusal) (λ stop. RunsFile limits c text (Err stop)) k (runs_err limits c text told fault h)

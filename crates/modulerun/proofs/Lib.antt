@@ -3,5 +3,3 @@ pub mod ListLemmas
 pub mod ReplyLemmas
 pub mod RunLemmas
 pub mod DraftLemmas
-pub mod RefusalLemmas
-pub mod AgainstLemmas

@@ -24,6 +24,7 @@ use Rattle.modulefile.specs.CallViews.{reason_of, call_view, HasReason}
 use Rattle.modulefile.specs.RecordViews.{record_view, fault_reason, HasFault}
 use Rattle.modulefile.specs.Answers as answers
 use Rattle.modulefile.specs.Answers.{answered, asked, kept, not_done, read}
+use Rattle.modulerun.specs.declared.command_refusal.CommandRefusal.{CommandRefusal}
 use Rattle.modulerun.specs.declared.context.Context.{Context}
 use Rattle.modulerun.specs.Journals.{SoFar, found, noted, effect_on}
 use Rattle.modulerun.specs.Hosting.{context_with, told_with, Replies}
@@ -44,17 +45,17 @@ or_false true = refl
 or_false false = refl
 
 -- a record that has its effect is kept
-pub noted_reply : (s t : SoFar) (cx : Context) (messages : Vec (String Global) Global) (mark : Bool) (words : List Text) (r : records.Record) (text : String Global) (e : Environment)
+pub noted_reply : (s t : SoFar) (cx : Context) (messages : Vec (String Global) Global) (mark : Bool) (kept : Option CommandRefusal) (words : List Text) (r : records.Record) (text : String Global) (e : Environment)
     → call_of words ≡ Ok (keeps r) → string_bytes text ≡ [] → t ≡ noted s words → effect_on s r ≡ Ok e
-    → Replies (answered (context_with s cx) (found s) words (call_of words)) (Done text) (told_with s messages mark) (told_with t messages mark)
-noted_reply s t cx messages mark words r text e call empty note effect =
-    by_answer _ (oracle.Done [] (Kept words) false) (Done text) (told_with s messages mark) (told_with t messages mark)
+    → Replies (answered (context_with s cx) (found s) words (call_of words)) (Done text) (told_with s messages mark kept) (told_with t messages mark kept)
+noted_reply s t cx messages mark kept words r text e call empty note effect =
+    by_answer _ (oracle.Done [] (Kept words) false) (Done text) (told_with s messages mark kept) (told_with t messages mark kept)
     (ap (answered (context_with s cx) (found s) words) call ∙ ap (kept words) effect) (
       Kept words,
       false,
       (
         ap (λ (x : Text). oracle.Done x (Kept words) false) (sym empty),
-        ap (λ (j : SoFar). told_with j messages mark) note ∙ ap (λ b. told_with (noted s words) messages b) (or_false mark),
+        ap (λ (j : SoFar). told_with j messages mark kept) note ∙ ap (λ b. told_with (noted s words) messages b kept) (or_false mark),
       ),
     )
 
@@ -62,41 +63,41 @@ abbrev number_in : OracleAnswer → ℕ
 number_in (oracle.Done t adds asks) = 0
 number_in (oracle.Unknown asks) = 0
 number_in (oracle.LeftOut name asks) = 0
-number_in (oracle.Refused n asks) = n
+number_in (oracle.Refused n name asks) = n
 
 true_not_false : true ≡ false → ⊥
 true_not_false e = absurd (cc)
 
 -- what replies to every reason of a record alike is want of memory
 from_reasons : (h : HostAnswer) (old new : Told) (a : OracleAnswer) → ((reason : RecordReason) → Replies (not_done (bad_record reason)) h old new) → Replies a h old new
-from_reasons (Done t) old new a f = let r = f (bad_module_name []) in let e : oracle.Refused 44 false ≡ oracle.Done (string_bytes t) r.0 r.1 = r.2.0 in absurd (cc)
-from_reasons Unknown old new a f = let r = f (bad_module_name []) in let e : oracle.Refused 44 false ≡ oracle.Unknown r.0 = r.1.0 in absurd (cc)
-from_reasons (LeftOut name) old new a f = let r = f (bad_module_name []) in let e : oracle.Refused 44 false ≡ oracle.LeftOut (string_bytes name) r.0 = r.1.0 in absurd (cc)
+from_reasons (Done t) old new a f = let r = f (bad_module_name []) in let e : oracle.Refused 44 (Some []) false ≡ oracle.Done (string_bytes t) r.0 r.1 = r.2.0 in absurd (cc)
+from_reasons Unknown old new a f = let r = f (bad_module_name []) in let e : oracle.Refused 44 (Some []) false ≡ oracle.Unknown r.0 = r.1.0 in absurd (cc)
+from_reasons (LeftOut name) old new a f = let r = f (bad_module_name []) in let e : oracle.Refused 44 (Some []) false ≡ oracle.LeftOut (string_bytes name) r.0 = r.1.0 in absurd (cc)
 from_reasons (Refused n) old new a f =
     let r = f (bad_module_name []) in
     let q = f (bad_edit inconsistent) in
-    let e : oracle.Refused 44 false ≡ oracle.Refused n r.0 = r.1.0 in
-    let d : oracle.Refused 35 false ≡ oracle.Refused n q.0 = q.1.0 in
+    let e : oracle.Refused 44 (Some []) false ≡ oracle.Refused n r.0 r.1 = r.2.0 in
+    let d : oracle.Refused 35 None false ≡ oracle.Refused n q.0 q.1 = q.2.0 in
     let yes : true ≡ (n == 44) = ap (λ a. number_in a == 44) e in
     let no : false ≡ (n == 44) = ap (λ a. number_in a == 44) d in
     absurd (true_not_false (yes ∙ sym no))
 from_reasons OutOfMemory old new a f = f (bad_module_name [])
 
 -- a record that has no effect is refused
-pub refused_reply : (s t : SoFar) (cx : Context) (messages : Vec (String Global) Global) (mark : Bool) (words : List Text) (r : records.Record) (fault : RecordFault) (h : HostAnswer) (new : Told)
+pub refused_reply : (s t : SoFar) (cx : Context) (messages : Vec (String Global) Global) (mark : Bool) (kept : Option CommandRefusal) (words : List Text) (r : records.Record) (fault : RecordFault) (h : HostAnswer) (new : Told)
     → call_of words ≡ Ok (keeps r) → t ≡ s → IfSome (fault_reason fault) (λ reason. effect_on s r ≡ Err reason)
-    → ((reason : RecordReason) → HasFault reason fault → Replies (not_done (bad_record reason)) h (told_with t messages mark) new)
-    → Replies (answered (context_with s cx) (found s) words (call_of words)) h (told_with s messages mark) new
-refused_reply s t cx messages mark words r fault h new call same e f = go (fault_reason fault) refl
+    → ((reason : RecordReason) → HasFault reason fault → Replies (not_done (bad_record reason)) h (told_with t messages mark kept) new)
+    → Replies (answered (context_with s cx) (found s) words (call_of words)) h (told_with s messages mark kept) new
+refused_reply s t cx messages mark kept words r fault h new call same e f = go (fault_reason fault) refl
   where
-    at : (reason : RecordReason) → HasFault reason fault → Replies (not_done (bad_record reason)) h (told_with s messages mark) new
-    at reason k = subst (λ (j : SoFar). Replies (not_done (bad_record reason)) h (told_with j messages mark) new) same (f reason k)
+    at : (reason : RecordReason) → HasFault reason fault → Replies (not_done (bad_record reason)) h (told_with s messages mark kept) new
+    at reason k = subst (λ (j : SoFar). Replies (not_done (bad_record reason)) h (told_with j messages mark kept) new) same (f reason k)
 
-    go : (o : Option RecordReason) → fault_reason fault ≡ o → Replies (answered (context_with s cx) (found s) words (call_of words)) h (told_with s messages mark) new
-    go None q = from_reasons h (told_with s messages mark) new _ (λ reason. at reason (subst (λ o. IfSome o (λ x. x ≡ reason)) (sym q) tt))
+    go : (o : Option RecordReason) → fault_reason fault ≡ o → Replies (answered (context_with s cx) (found s) words (call_of words)) h (told_with s messages mark kept) new
+    go None q = from_reasons h (told_with s messages mark kept) new _ (λ reason. at reason (subst (λ o. IfSome o (λ x. x ≡ reason)) (sym q) tt))
     go (Some reason) q =
         let d : effect_on s r ≡ Err reason = subst (λ o. IfSome o (λ x. effect_on s r ≡ Err x)) q e in
-        by_answer _ (not_done (bad_record reason)) h (told_with s messages mark) new
+        by_answer _ (not_done (bad_record reason)) h (told_with s messages mark kept) new
         (ap (answered (context_with s cx) (found s) words) call ∙ ap (kept words) d)
         (at reason (subst (λ o. IfSome o (λ x. x ≡ reason)) (sym q) refl))
 
@@ -116,9 +117,9 @@ asked_reply c e words call made text h old new k is a r =
 -- what replies to every reason of a call alike is want of memory
 from_call_reasons : (h : HostAnswer) (old new : Told) (a : OracleAnswer) → ((reason : CallReason) → Replies (not_done reason) h old new) → Replies a h old new
 from_call_reasons (Done t) old new a f = let r = f unknown in let e : oracle.Unknown false ≡ oracle.Done (string_bytes t) r.0 r.1 = r.2.0 in absurd (cc)
-from_call_reasons Unknown old new a f = let r = f bad_arguments in let e : oracle.Refused 56 false ≡ oracle.Unknown r.0 = r.1.0 in absurd (cc)
+from_call_reasons Unknown old new a f = let r = f bad_arguments in let e : oracle.Refused 56 None false ≡ oracle.Unknown r.0 = r.1.0 in absurd (cc)
 from_call_reasons (LeftOut name) old new a f = let r = f unknown in let e : oracle.Unknown false ≡ oracle.LeftOut (string_bytes name) r.0 = r.1.0 in absurd (cc)
-from_call_reasons (Refused n) old new a f = let r = f unknown in let e : oracle.Unknown false ≡ oracle.Refused n r.0 = r.1.0 in absurd (cc)
+from_call_reasons (Refused n) old new a f = let r = f unknown in let e : oracle.Unknown false ≡ oracle.Refused n r.0 r.1 = r.2.0 in absurd (cc)
 from_call_reasons OutOfMemory old new a f = f unknown
 
 -- words that call no command are answered by the reason

@@ -18,7 +18,7 @@ use Rattle.modulerecords.specs.Effects.{Mode, load, unload, display, whatis}
 use Rattle.modulefile.specs.Calls.{call_of, mode, tells, own_name}
 use Rattle.modulefile.specs.Answers.{Context, answered, mode_word, oracle_of}
 use Rattle.modulefile.specs.Files as files
-use Rattle.modulefile.specs.Files.{Stop, halted, failed, RunsFile, FinishesFile, ran_of, untold, globals_of}
+use Rattle.modulefile.specs.Files.{Stop, failed, stop_by, RunsFile, FinishesFile, ran_of, untold, globals_of}
 use Rattle.modulerun.specs.Running.{eval_stop}
 
 pub runs_ok : (limits : Limits) (c : Context) (text : Text) (told : Told) (end : Ending) (ran : files.Ran)
@@ -26,12 +26,12 @@ pub runs_ok : (limits : Limits) (c : Context) (text : Text) (told : Told) (end :
 runs_ok limits c text told end ran h r = (Ended (Normal (string_bytes end.result) h.0), record { used = end.used_commands; told = told }, h.1, (ran, r, refl))
 
 halted_by : (limits : Limits) (c : Context) (text : Text) (w : World) (o : Outcome plans.Ending) (halt : halts.Halt)
-    → o ≡ Halted halt → Comes false limits text (globals_of c.path) (oracle_of c) untold o w → RunsFile limits c text (Err (halted halt))
+    → o ≡ Halted halt → Comes false limits text (globals_of c.path) (oracle_of c) untold o w → RunsFile limits c text (Err (stop_by halt w.told.refused))
 halted_by limits c text w o halt e k =
     (Halted halt, w, subst (λ (x : Outcome plans.Ending). Comes false limits text (globals_of c.path) (oracle_of c) untold x w) e k, refl)
 
 pub runs_err : (limits : Limits) (c : Context) (text : Text) (told : Told) (fault : EvalFault)
-    → Evaluates limits text (globals_of c.path) (oracle_of c) untold (Err fault) told → IfSome (eval_stop fault) (λ stop. RunsFile limits c text (Err stop))
+    → Evaluates limits text (globals_of c.path) (oracle_of c) untold (Err fault) told → IfSome (eval_stop fault told.refused) (λ stop. RunsFile limits c text (Err stop))
 runs_err limits c text told faults.OutOfMemory h = tt
 runs_err limits c text told (faults.Text f) h = halted_by limits c text (record { used = h.1; told = told }) h.0 _ h.2 h.3
 runs_err limits c text told (faults.TclError m n) h = (
@@ -76,7 +76,7 @@ abbrev done_text : oracle.OracleAnswer → Text
 done_text (oracle.Done t adds asks) = t
 done_text (oracle.Unknown asks) = []
 done_text (oracle.LeftOut name asks) = []
-done_text (oracle.Refused n asks) = []
+done_text (oracle.Refused n name asks) = []
 
 pub same_start : (c d : Context) → oracle_of c ≡ oracle_of d → c.start ≡ d.start
 same_start c d e = same_environment c.start d.start (λ q. ap (λ (o : Oracle). o.variable [] q) e)

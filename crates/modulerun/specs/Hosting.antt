@@ -1,16 +1,20 @@
 -- How the host of a modulefile answers.
-use Rattle.std.specs.Prelude.{◌≡◌, Bool, [], ◌∷◌, ◌++◌, map, string_bytes, String, if◌then◌else◌}
+use Rattle.std.specs.Prelude.{◌≡◌, Bool, [], ◌∷◌, ◌++◌, map, string_bytes, String, if◌then◌else◌, Option, Some, None}
+use Rattle.std.specs.Option.{option_map}
 use Rattle.std.specs.declared.vec.Vec.{Vec}
 use Rattle.std.specs.declared.alloc.Global.{Global}
 use Rattle.environment.specs.Texts.{Text, texts_in}
 use Rattle.tclrules.specs.Oracle as oracle
-use Rattle.tclrules.specs.Oracle.{OracleAnswer, Told}
+use Rattle.tclrules.specs.Oracle.{OracleAnswer, Refusal, Told, unnamed}
 use Rattle.tclrules.specs.Derivation.{perhaps_asked}
 use Rattle.tclrules.specs.Hosts.{IsTold}
 use Rattle.tclrules.specs.declared.host.HostAnswer.{HostAnswer}
 use Rattle.tclrules.specs.declared.host.HostAnswer.TheVariants.{Done, Unknown, LeftOut, Refused, OutOfMemory}
-use Rattle.modulefile.specs.RecordViews.{mode_view}
+use Rattle.modulefile.specs.RecordViews.{mode_view, fault_reason}
 use Rattle.modulefile.specs.Answers as answers
+use Rattle.modulefile.specs.Answers.{refusal_of}
+use Rattle.modulerun.specs.declared.command_refusal.CommandRefusal.{CommandRefusal}
+use Rattle.modulerun.specs.declared.command_refusal.CommandRefusal.TheVariants.{BadArguments, BadRecord}
 use Rattle.modulerun.specs.declared.context.Context.{Context}
 use Rattle.modulerun.specs.declared.runner.Runner.{Runner}
 use Rattle.modulerun.specs.Journals.{SoFar}
@@ -29,13 +33,20 @@ context_with s c =
       start = s.start;
     }
 
+-- the refusal that the host keeps behind its number, by number and name
+abbrev pub refusal_view : Option CommandRefusal → Option Refusal
+refusal_view None = None
+refusal_view (Some BadArguments) = Some (unnamed 56)
+refusal_view (Some (BadRecord fault)) = option_map refusal_of (fault_reason fault)
+
 -- what the host was told
-abbrev pub told_with : SoFar → Vec (String Global) Global → Bool → Told
-told_with s messages asked = record { records = s.words; messages = texts_in messages; asked = asked }
+abbrev pub told_with : SoFar → Vec (String Global) Global → Bool → Option CommandRefusal → Told
+told_with s messages asked refusal =
+    record { records = s.words; messages = texts_in messages; asked = asked; refused = refusal_view refusal }
 
 -- what a host was told, and the context of the file with what it has done
 abbrev pub told_by : {V : Type 0} → Runner V → Told
-told_by runner = told_with runner.journal runner.messages runner.asked
+told_by runner = told_with runner.journal runner.messages runner.asked runner.refusal
 
 abbrev pub context_of : {V : Type 0} → Runner V → answers.Context
 context_of runner = context_with runner.journal runner.context
@@ -50,5 +61,6 @@ Replies answer (Done t) old new =
     (adds : oracle.Addition) × (asks : Bool) × IsTold answer (oracle.Done (string_bytes t) adds asks) old new
 Replies answer Unknown old new = (asks : Bool) × IsTold answer (oracle.Unknown asks) old new
 Replies answer (LeftOut name) old new = (asks : Bool) × IsTold answer (oracle.LeftOut (string_bytes name) asks) old new
-Replies answer (Refused n) old new = (asks : Bool) × IsTold answer (oracle.Refused n asks) old new
+Replies answer (Refused n) old new =
+    (name : Option Text) × (asks : Bool) × IsTold answer (oracle.Refused n name asks) old new
 Replies answer OutOfMemory old new = (asked : Bool) × (new ≡ perhaps_asked asked old)

@@ -4,6 +4,7 @@ use Rattle.std.specs.Option.{option_map}
 use Rattle.environment.specs.Texts.{Text}
 use Rattle.environment.specs.Environment.{Environment}
 use Rattle.environment.specs.Changes.{applied, new_values_in}
+use Rattle.tclrules.specs.Oracle.{Refusal, unnamed}
 use Rattle.tclrules.specs.Derivation as halts
 use Rattle.tclrules.specs.Derivation.{Halt}
 use Rattle.tclrules.specs.declared.limits.Limits.{Limits}
@@ -11,9 +12,9 @@ use Rattle.tclrules.specs.declared.outcome.EvalFault.{EvalFault}
 use Rattle.tclrules.specs.declared.outcome.EvalFault.TheVariants as faults
 use Rattle.modulefile.specs.RecordViews.{mode_view, record_view, fault_reason}
 use Rattle.modulefile.specs.Answers as answers
-use Rattle.modulefile.specs.Answers.{record_number}
+use Rattle.modulefile.specs.Answers.{refusal_of}
 use Rattle.modulefile.specs.Files as files
-use Rattle.modulefile.specs.Files.{Stop, halted, failed, RunsFile}
+use Rattle.modulefile.specs.Files.{Stop, halted, refused, failed, refused_by, RunsFile}
 use Rattle.modulerun.specs.declared.context.Context.{Context}
 use Rattle.modulerun.specs.declared.run.Ran.{Ran}
 use Rattle.modulerun.specs.declared.run.Draft.{Draft}
@@ -44,26 +45,26 @@ ran_view ran env =
       env = env;
     }
 
--- the stop that a fault of the evaluation says; want of memory is none
-abbrev pub eval_stop : EvalFault → Option Stop
-eval_stop faults.OutOfMemory = None
-eval_stop (faults.Text fault) = Some (halted (halts.BadText fault))
-eval_stop (faults.TclError message line) = Some (failed (string_bytes message) line)
-eval_stop faults.TooManyCommands = Some (halted halts.TooManyCommands)
-eval_stop faults.TooDeep = Some (halted halts.TooDeep)
-eval_stop faults.ValueTooLong = Some (halted halts.ValueTooLong)
-eval_stop faults.NumberTooLarge = Some (halted halts.NumberTooLarge)
-eval_stop faults.FractionOperand = Some (halted halts.FractionOperand)
-eval_stop (faults.LeftOut name) = Some (halted (halts.LeftOut (string_bytes name)))
-eval_stop faults.Stopped = Some (halted halts.Stopped)
-eval_stop (faults.Host n) = Some (halted (halts.ByHost n))
+-- the stop that a fault of the evaluation says, with the refusal that the host was told; want of memory is none
+abbrev pub eval_stop : EvalFault → Option Refusal → Option Stop
+eval_stop faults.OutOfMemory refusal = None
+eval_stop (faults.Text fault) refusal = Some (halted (halts.BadText fault))
+eval_stop (faults.TclError message line) refusal = Some (failed (string_bytes message) line)
+eval_stop faults.TooManyCommands refusal = Some (halted halts.TooManyCommands)
+eval_stop faults.TooDeep refusal = Some (halted halts.TooDeep)
+eval_stop faults.ValueTooLong refusal = Some (halted halts.ValueTooLong)
+eval_stop faults.NumberTooLarge refusal = Some (halted halts.NumberTooLarge)
+eval_stop faults.FractionOperand refusal = Some (halted halts.FractionOperand)
+eval_stop (faults.LeftOut name) refusal = Some (halted (halts.LeftOut (string_bytes name)))
+eval_stop faults.Stopped refusal = Some (halted halts.Stopped)
+eval_stop (faults.Host n) refusal = Some (refused_by n refusal)
 
--- the stop that a fault says
+-- the stop that a fault says. That of a refused command has its number, and the name that it is refused for
 abbrev pub stop_of : RunFault → Option Stop
 stop_of OutOfMemory = None
-stop_of (Eval fault) = eval_stop fault
-stop_of BadArguments = Some (halted (halts.ByHost 56))
-stop_of (BadRecord fault) = option_map (λ reason. halted (halts.ByHost (record_number reason))) (fault_reason fault)
+stop_of (Eval fault) = eval_stop fault None
+stop_of BadArguments = Some (refused (unnamed 56))
+stop_of (BadRecord fault) = option_map (λ reason. refused (refusal_of reason)) (fault_reason fault)
 
 -- What a call returned is what the text comes to in the context, or want of memory. The environment after an accepted
 -- file is the one that it left, and after a refused one the old one.

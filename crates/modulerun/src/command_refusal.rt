@@ -12,23 +12,8 @@ pub(crate) enum CommandRefusal {
 }
 
 impl CommandRefusal {
-    ghost use Rattle.std.specs.Prelude.{◌≡◌, IfSome};
-    ghost use Rattle.tclrules.specs.Derivation.{ByHost};
-    ghost use Rattle.modulefile.specs.Files.{halted};
-    ghost use Rattle.modulerun.specs.Messages.{number_of};
-    ghost use Rattle.modulerun.specs.Running.{stop_of};
+    ghost use Rattle.std.specs.Prelude.{◌≡◌};
     ghost use Rattle.modulerun.specs.Refusals.{fault_of};
-
-    /// The number that the evaluation is told.
-    pub(crate) fn number(&self) -> u16
-        ensures exact { result ≡ number_of (fault_of self.now) }
-        ensures by_stop { IfSome (stop_of (fault_of self.now)) (λ stop. stop ≡ halted (ByHost result)) }
-    {
-        match self {
-            CommandRefusal::BadArguments => 56,
-            CommandRefusal::BadRecord(fault) => fault.number(),
-        }
-    }
 
     /// The refusal of the file.
     pub(crate) fn into_fault(self) -> RunFault

@@ -6,7 +6,6 @@ mod command_refusal;
 mod context;
 mod entry;
 mod journal;
-mod laws;
 mod made;
 mod questions;
 mod reports;
@@ -15,7 +14,6 @@ mod run_fault;
 mod runner;
 
 pub use context::Context;
-pub use laws::refusals;
 pub use reports::{show_report, whatis_report};
 pub use run::{Ran, run_file};
 pub use run_fault::RunFault;

@@ -1,11 +1,8 @@
 //! A modulefile, run.
-ghost use Rattle.std.specs.Prelude.{◌≡◌, ℕ, Some, IfOk, IfSome};
+ghost use Rattle.std.specs.Prelude.{◌≡◌, Some, IfOk, IfSome};
 ghost use Rattle.tclrules.specs.Promise.{texts_of};
-ghost use Rattle.tclrules.specs.Derivation.{ByHost};
-ghost use Rattle.tclrules.specs.declared.outcome.EvalFault.TheVariants.{Host};
-ghost use Rattle.modulefile.specs.Calls.{CallReason};
-ghost use Rattle.modulefile.specs.Files.{globals_of, halted};
-ghost use Rattle.modulerun.specs.Refusals.{reason_told, IsKept};
+ghost use Rattle.modulefile.specs.Files.{globals_of, refused_by};
+ghost use Rattle.modulerun.specs.Hosting.{refusal_view};
 ghost use Rattle.modulerun.specs.Running.{context_view, eval_stop, stop_of, RunsTo, Drafts};
 
 use crate::command_refusal::CommandRefusal;
@@ -47,9 +44,7 @@ fn globals(alloc: Global, path: &str) -> Result<Vec<(String, String)>, AllocErro
 
 /// The refusal behind a fault of the evaluation: for a number of the host the one that it kept.
 pub(crate) fn refusal(fault: EvalFault, kept: Option<CommandRefusal>) -> RunFault
-    ensures stop { IfSome (stop_of result) (λ stop. eval_stop fault ≡ Some stop) }
-    ensures told { (number : ℕ) (reason : CallReason) → fault ≡ Host number → IsKept (Some reason) number kept
-        → reason_told result ≡ Some reason }
+    ensures { IfSome (stop_of result) (λ stop. eval_stop fault (refusal_view kept) ≡ Some stop) }
 {
     match fault {
         EvalFault::Host(number) => refused(number, kept),
@@ -66,14 +61,13 @@ pub(crate) fn refusal(fault: EvalFault, kept: Option<CommandRefusal>) -> RunFaul
     }
 }
 
-/// The refusal by a number: the one that was kept, where it has this number.
+/// The refusal of a command: the one that was kept behind the number.
 fn refused(number: u16, kept: Option<CommandRefusal>) -> RunFault
-    ensures stop { IfSome (stop_of result) (λ stop. stop ≡ halted (ByHost number)) }
-    ensures told { (reason : CallReason) → IsKept (Some reason) number kept → reason_told result ≡ Some reason }
+    ensures { IfSome (stop_of result) (λ stop. stop ≡ refused_by number (refusal_view kept)) }
 {
     match kept {
-        Some(refusal) if refusal.number() == number => refusal.into_fault(),
-        Some(_) | None => RunFault::Eval(EvalFault::Host(number)),
+        Some(refusal) => refusal.into_fault(),
+        None => RunFault::Eval(EvalFault::Host(number)),
     }
 }
 

@@ -5,7 +5,6 @@ ghost use Rattle.environment.specs.Texts.{Text, texts_in};
 ghost use Rattle.environment.specs.Reasons.{bad_variable};
 ghost use Rattle.environment.specs.Changes.{applied, new_values_in};
 ghost use Rattle.tclrules.specs.Oracle.{Nothing, Message, Done};
-ghost use Rattle.tclrules.specs.declared.outcome.EvalFault.TheVariants as evals;
 ghost use Rattle.modulerecords.specs.Judgments.{RecordReason, bad_edit};
 ghost use Rattle.modulefile.specs.Calls.{CallReason, bad_record, keeps, call_of};
 ghost use Rattle.modulefile.specs.CallViews.{HasReason, call_view, reason_of, topic_view};
@@ -16,8 +15,7 @@ ghost use Rattle.modulefile.specs.Files.{ran_of};
 ghost use Rattle.modulerun.specs.declared.run_fault.RunFault.TheVariants.{OutOfMemory};
 ghost use Rattle.modulerun.specs.Running.{ran_view, eval_stop, stop_of};
 ghost use Rattle.modulerun.specs.Journals.{found, so_far_of};
-ghost use Rattle.modulerun.specs.Hosting.{context_of, told_by, message_of, Replies};
-ghost use Rattle.modulerun.specs.Refusals.{against, against_reading, reason_told, IsKept, KeepsRefusal};
+ghost use Rattle.modulerun.specs.Hosting.{context_of, told_by, refusal_view, message_of, Replies};
 
 use crate::command_refusal::CommandRefusal;
 use crate::context::Context;
@@ -74,6 +72,7 @@ impl<'a, V: Vars> Runner<'a, V> {
         ensures context { result.context ≡ context.entry }
         ensures messages { result.messages.items ≡ [] }
         ensures asked { result.asked ≡ false }
+        ensures refusal { result.refusal ≡ None }
     {
         Runner {
             alloc,
@@ -90,7 +89,6 @@ impl<'a, V: Vars> Runner<'a, V> {
         ensures replies { (reason : CallReason) → HasReason reason fault → Replies (not_done reason) result
             (told_by self.old) (told_by self.new) }
         ensures same { context_of self.new ≡ context_of self.old }
-        ensures kept { KeepsRefusal (reason_of fault) result self.new.refusal }
     {
         match fault {
             CallFault::OutOfMemory => HostAnswer::OutOfMemory,
@@ -108,7 +106,6 @@ impl<'a, V: Vars> Runner<'a, V> {
         ensures replies { (reason : RecordReason) → HasFault reason fault
             → Replies (not_done (bad_record reason)) result (told_by self.old) (told_by self.new) }
         ensures same { context_of self.new ≡ context_of self.old }
-        ensures kept { KeepsRefusal (option_map bad_record (fault_reason fault)) result self.new.refusal }
     {
         if let RecordFault::Env(EnvFault::OutOfMemory) = fault {
             return HostAnswer::OutOfMemory;
@@ -125,8 +122,6 @@ impl<'a, V: Vars> Runner<'a, V> {
             (map string_bytes words.now) (call_of (map string_bytes words.now))) result
             (told_by self.old) (told_by self.new) }
         ensures same { context_of self.new ≡ context_of self.old }
-        ensures kept { KeepsRefusal (against (context_of self.old) (found self.old.journal)
-            (call_of (map string_bytes words.now))) result self.new.refusal }
     {
         match made {
             Err(_) => HostAnswer::OutOfMemory,
@@ -142,7 +137,6 @@ impl<'a, V: Vars> Runner<'a, V> {
         ensures replies { Replies (Done [] (Message (message_of text.now newline)) false) result
             (told_by self.old) (told_by self.new) }
         ensures same { context_of self.new ≡ context_of self.old }
-        ensures kept { KeepsRefusal None result self.new.refusal }
     {
         match push_message(self.alloc, &mut self.messages, text, newline) {
             Ok(()) => HostAnswer::Done(String::new(self.alloc)),
@@ -155,7 +149,6 @@ impl<'a, V: Vars> Runner<'a, V> {
         ensures replies { (t : Text) → IfOk text (λ s. string_bytes s ≡ t) → Replies (asked t) result
             (told_by self.old) (told_by self.new) }
         ensures same { context_of self.new ≡ context_of self.old }
-        ensures kept { KeepsRefusal None result self.new.refusal }
     {
         self.asked = true;
         match text {
@@ -168,7 +161,6 @@ impl<'a, V: Vars> Runner<'a, V> {
     fn own_name(&self) -> HostAnswer
         ensures replies { Replies (Done self.now.journal.owner Nothing false) result
             (told_by self.now) (told_by self.now) }
-        ensures kept { KeepsRefusal None result self.now.refusal }
     {
         match String::from_str(self.alloc, self.journal.owner()) {
             Ok(name) => HostAnswer::Done(name),
@@ -195,7 +187,6 @@ impl<'a, V: Vars> Runner<'a, V> {
             (value_shown (mode_view self.old.journal.mode) (found self.old.journal) var.now default.now)) result
             (told_by self.old) (told_by self.new) }
         ensures same { context_of self.new ≡ context_of self.old }
-        ensures kept { KeepsRefusal (against_reading var.now) result self.new.refusal }
     {
         if is_variable_name(var) {
             let value = self.value_shown(var, default);
@@ -232,7 +223,6 @@ impl<'a, V: Vars> Runner<'a, V> {
             (map string_bytes self.old.context.loaded.now)))) result
             (told_by self.old) (told_by self.new) }
         ensures same { context_of self.new ≡ context_of self.old }
-        ensures kept { KeepsRefusal None result self.new.refusal }
     {
         let so = any_loaded(names, self.context.loaded);
         self.ask(String::from_str(self.alloc, truth(so)))
@@ -263,9 +253,7 @@ impl<'a, V: Vars> Runner<'a, V> {
 
     /// Why the file is refused whose evaluation ended with this fault: for a number the refusal that was kept last.
     pub(crate) fn into_fault(self, fault: EvalFault) -> RunFault
-        ensures stop { IfSome (stop_of result) (λ stop. eval_stop fault ≡ Some stop) }
-        ensures told { (number : ℕ) (reason : CallReason) → fault ≡ evals.Host number
-            → IsKept (Some reason) number self.entry.refusal → reason_told result ≡ Some reason }
+        ensures { IfSome (stop_of result) (λ stop. eval_stop fault (refusal_view self.entry.refusal) ≡ Some stop) }
     {
         let Runner {
             alloc: _alloc,
@@ -285,8 +273,6 @@ impl<'a, V: Vars> Runner<'a, V> {
             (map string_bytes words.now) (call_of (map string_bytes words.now))) result
             (told_by self.old) (told_by self.new) }
         ensures same { context_of self.new ≡ context_of self.old }
-        ensures kept { KeepsRefusal (against (context_of self.old) (found self.old.journal)
-            (call_of (map string_bytes words.now))) result self.new.refusal }
     {
         let alloc = self.alloc;
         match call {
@@ -354,7 +340,6 @@ impl<'a, V: Vars> Host for Runner<'a, V> {
     ghost use Rattle.modulefile.specs.Answers.{oracle_of};
     ghost use Rattle.modulerun.specs.Journals.{found};
     ghost use Rattle.modulerun.specs.Hosting.{context_of, told_by};
-    ghost use Rattle.modulerun.specs.Refusals.{against, KeepsRefusal};
 
     ghost told = { λ r. told_by r };
 
@@ -366,8 +351,6 @@ impl<'a, V: Vars> Host for Runner<'a, V> {
         ensures same { oracle_of (context_of self.new) ≡ oracle_of (context_of self.old) }
 
         // What refuses keeps the reason, with its name, behind the number.
-        ensures kept { KeepsRefusal (against (context_of self.old) (found self.old.journal)
-            (call_of (map string_bytes words.now))) result self.new.refusal }
     {
         match call_of(self.alloc, words) {
             Ok(call) => self.answer(words, call),

@@ -23,8 +23,8 @@ returns-in-LeftOut g c =
 pub returns-in-Refused : goal.returns-in-Refused
 returns-in-Refused g c =
     let h = c.in-Refused.ensures in
-    let t = rw h.answer.1.0 at h.answer.1.1 in
-    λ most used r k. rw t (hear_on h.answer.1.0 h.same)
+    let t = rw h.answer.2.0 at h.answer.2.1 in
+    λ most used r k. rw t (hear_on h.answer.2.0 h.same)
 
 pub returns-in-OutOfMemory : goal.returns-in-OutOfMemory
 returns-in-OutOfMemory g c =

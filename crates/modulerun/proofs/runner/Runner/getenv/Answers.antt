@@ -9,6 +9,6 @@ use Rattle.modulerun.proofs.runner.Runner.getenv.Goals as goal
 pub returns-then-is_variable_name-clause-replies : goal.returns-then-is_variable_name-clause-replies
 returns-then-is_variable_name-clause-replies g c =
     let value = value_shown (mode_view c.args.self.now.journal.mode) (found c.args.self.now.journal) c.args.var.now c.args.default.now in
-    by_answer _ (asked value) c.ask.result (told_with c.args.self.now.journal c.args.self.now.messages c.args.self.now.asked) (told_with c.ask.new.self.journal c.ask.new.self.messages c.ask.new.self.asked)
+    by_answer _ (asked value) c.ask.result (told_with c.args.self.now.journal c.args.self.now.messages c.args.self.now.asked c.args.self.now.refusal) (told_with c.ask.new.self.journal c.ask.new.self.messages c.ask.new.self.asked c.ask.new.self.refusal)
     (read_named c.args.var.now value (sym c.is_variable_name.ensures ∙ c.if-is_variable_name.true))
     (c.ask.ensures.replies value c.value_shown-value.ensures)
