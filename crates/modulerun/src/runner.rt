@@ -350,7 +350,7 @@ impl<'a, V: Vars> Host for Runner<'a, V> {
             (told_by self.old) (told_by self.new) }
         ensures same { oracle_of (context_of self.new) ≡ oracle_of (context_of self.old) }
 
-        // What refuses keeps the reason, with its name, behind the number.
+    // What refuses keeps the reason, with its name, behind the number.
     {
         match call_of(self.alloc, words) {
             Ok(call) => self.answer(words, call),

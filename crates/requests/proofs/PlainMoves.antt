@@ -14,7 +14,7 @@ use Rattle.loadedlist.specs.Loaded.{Entry, names_of, loaded_in}
 use Rattle.filetree.specs.Search.{script, modulefile}
 use Rattle.shells.specs.declared.shell.Shell.{Shell}
 use Rattle.modulerecords.specs.Moves.{Module, Move, Loads, Unloads, entry_of, Fits, Lead}
-use Rattle.modulefile.specs.Files.{Ran, halted, RunsFile, IsSameOrRefused}
+use Rattle.modulefile.specs.Files.{Ran, refused_by, RunsFile, IsSameOrRefused}
 use Rattle.modulefile.specs.Laws.{PlainFilesAgree}
 use Rattle.reversal.specs.Ways.{Way}
 use Rattle.reversal.specs.Live.{entries_over}
@@ -102,7 +102,7 @@ one_script s path a b h k = let q : script a ≡ script b = sym h ∙ k in cc
 
 agreed : (ran other : Ran) → IsSameOrRefused ran (Ok other) → other.records ≡ ran.records
 agreed ran other (inl (again, same, records)) = let q : other ≡ again = (let r : Ok other ≡ Ok again = same in cc) in ap (λ (x : Ran). x.records) q ∙ records
-agreed ran other (inr (n, same)) = absurd (let r : Ok other ≡ Err (halted _) = same in cc)
+agreed ran other (inr (n, refusal, same)) = absurd (let r : Ok other ≡ Err (refused_by n refusal) = same in cc)
 
 pub same_records : PlainFilesAgree → (s : Site) (name path : Text) (ran other : Ran) → HasLeft s name path ran → ran.asked ≡ false → HasLeft s name path other → other.records ≡ ran.records
 same_records agree s name path ran other h unasked k =
