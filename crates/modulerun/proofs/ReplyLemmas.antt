@@ -1,9 +1,10 @@
 -- How the host's replies follow from what its parts say.
-use Rattle.std.proofs.Common.{◌≡◌, ◌==◌, ℕ, Bool, true, false, ◌||◌, List, [], string_bytes, String, if◌then◌else◌, Option, Some, None, IfSome, Result, Ok, Err, IfOk, refl, ap, sym, subst, ◌∙◌}
+use Rattle.std.proofs.Common.{◌≡◌, ◌==◌, ℕ, Bool, true, false, ◌||◌, List, [], string_bytes, String, is_none, if◌then◌else◌, Option, Some, None, IfSome, Result, Ok, Err, IfOk, refl, ap, sym, subst, ◌∙◌}
+use Rattle.std.specs.Option.{option_map}
 use Rattle.std.specs.declared.vec.Vec.{Vec}
 use Rattle.std.specs.declared.alloc.Global.{Global}
 use Rattle.std.specs.declared.alloc.AllocError.{AllocError}
-use Rattle.environment.specs.Texts.{Text}
+use Rattle.environment.specs.Texts.{Text, texts_in}
 use Rattle.environment.specs.Names.{is_variable_name}
 use Rattle.environment.specs.Environment.{Environment}
 use Rattle.environment.specs.Reasons.{bad_variable, inconsistent}
@@ -23,8 +24,9 @@ use Rattle.modulefile.specs.Calls.{CallReason, bad_record, bad_arguments, unknow
 use Rattle.modulefile.specs.CallViews.{reason_of, call_view, HasReason}
 use Rattle.modulefile.specs.RecordViews.{record_view, fault_reason, HasFault}
 use Rattle.modulefile.specs.Answers as answers
-use Rattle.modulefile.specs.Answers.{answered, asked, kept, not_done, read}
+use Rattle.modulefile.specs.Answers.{answered, asked, kept, not_done, read, record_name, record_number, refusal_of}
 use Rattle.modulerun.specs.declared.command_refusal.CommandRefusal.{CommandRefusal}
+use Rattle.modulerun.specs.declared.command_refusal.CommandRefusal.TheVariants.{BadRecord}
 use Rattle.modulerun.specs.declared.context.Context.{Context}
 use Rattle.modulerun.specs.Journals.{SoFar, found, noted, effect_on}
 use Rattle.modulerun.specs.Hosting.{context_with, told_with, Replies}
@@ -45,17 +47,17 @@ or_false true = refl
 or_false false = refl
 
 -- a record that has its effect is kept
-pub noted_reply : (s t : SoFar) (cx : Context) (messages : Vec (String Global) Global) (mark : Bool) (kept : Option CommandRefusal) (words : List Text) (r : records.Record) (text : String Global) (e : Environment)
+pub noted_reply : (s t : SoFar) (cx : Context) (messages : Vec (String Global) Global) (mark : Bool) (held : Option CommandRefusal) (words : List Text) (r : records.Record) (text : String Global) (e : Environment)
     → call_of words ≡ Ok (keeps r) → string_bytes text ≡ [] → t ≡ noted s words → effect_on s r ≡ Ok e
-    → Replies (answered (context_with s cx) (found s) words (call_of words)) (Done text) (told_with s messages mark kept) (told_with t messages mark kept)
-noted_reply s t cx messages mark kept words r text e call empty note effect =
-    by_answer _ (oracle.Done [] (Kept words) false) (Done text) (told_with s messages mark kept) (told_with t messages mark kept)
+    → Replies (answered (context_with s cx) (found s) words (call_of words)) (Done text) (told_with s messages mark held) (told_with t messages mark held)
+noted_reply s t cx messages mark held words r text e call empty note effect =
+    by_answer _ (oracle.Done [] (Kept words) false) (Done text) (told_with s messages mark held) (told_with t messages mark held)
     (ap (answered (context_with s cx) (found s) words) call ∙ ap (kept words) effect) (
       Kept words,
       false,
       (
         ap (λ (x : Text). oracle.Done x (Kept words) false) (sym empty),
-        ap (λ (j : SoFar). told_with j messages mark kept) note ∙ ap (λ b. told_with (noted s words) messages b kept) (or_false mark),
+        ap (λ (j : SoFar). told_with j messages mark held) note ∙ ap (λ b. told_with (noted s words) messages b held) (or_false mark),
       ),
     )
 
@@ -83,21 +85,42 @@ from_reasons (Refused n) old new a f =
     absurd (true_not_false (yes ∙ sym no))
 from_reasons OutOfMemory old new a f = f (bad_module_name [])
 
--- a record that has no effect is refused
-pub refused_reply : (s t : SoFar) (cx : Context) (messages : Vec (String Global) Global) (mark : Bool) (kept : Option CommandRefusal) (words : List Text) (r : records.Record) (fault : RecordFault) (h : HostAnswer) (new : Told)
-    → call_of words ≡ Ok (keeps r) → t ≡ s → IfSome (fault_reason fault) (λ reason. effect_on s r ≡ Err reason)
-    → ((reason : RecordReason) → HasFault reason fault → Replies (not_done (bad_record reason)) h (told_with t messages mark kept) new)
-    → Replies (answered (context_with s cx) (found s) words (call_of words)) h (told_with s messages mark kept) new
-refused_reply s t cx messages mark kept words r fault h new call same e f = go (fault_reason fault) refl
-  where
-    at : (reason : RecordReason) → HasFault reason fault → Replies (not_done (bad_record reason)) h (told_with s messages mark kept) new
-    at reason k = subst (λ (j : SoFar). Replies (not_done (bad_record reason)) h (told_with j messages mark kept) new) same (f reason k)
+some_reason : (o : Option RecordReason) → is_none o ≡ false → (reason : RecordReason) → IfSome o (λ r. r ≡ reason) → o ≡ Some reason
+some_reason None h reason e = absurd (cc)
+some_reason (Some r) h reason e = ap (λ x. Some x) e
 
-    go : (o : Option RecordReason) → fault_reason fault ≡ o → Replies (answered (context_with s cx) (found s) words (call_of words)) h (told_with s messages mark kept) new
-    go None q = from_reasons h (told_with s messages mark kept) new _ (λ reason. at reason (subst (λ o. IfSome o (λ x. x ≡ reason)) (sym q) tt))
+-- a refusal that is kept is told, with its name
+pub refusal_told : (s : SoFar) (messages : Vec (String Global) Global) (mark : Bool) (held : Option CommandRefusal) (fault : RecordFault) (n : ℕ)
+    → is_none (fault_reason fault) ≡ false → IfSome (fault_reason fault) (λ reason. n ≡ record_number reason)
+    → (reason : RecordReason) → HasFault reason fault
+    → Replies (not_done (bad_record reason)) (Refused n) (told_with s messages mark held) (told_with s messages mark (Some (BadRecord fault)))
+refusal_told s messages mark held fault n some number reason h =
+    let is : fault_reason fault ≡ Some reason = some_reason (fault_reason fault) some reason h in
+    let k : n ≡ record_number reason = subst (λ o. IfSome o (λ r. n ≡ record_number r)) is number in (
+      record_name reason,
+      false,
+      (
+        ap (λ (m : ℕ). oracle.Refused m (record_name reason) false) (sym k),
+        ap (λ (b : Bool). record { records = s.words; messages = texts_in messages; asked = b; refused = option_map refusal_of (fault_reason fault) }) (or_false mark)
+            ∙ ap (λ (o : Option RecordReason). record { records = s.words; messages = texts_in messages; asked = mark || false; refused = option_map refusal_of o }) is,
+      ),
+    )
+
+-- a record that has no effect is refused
+pub refused_reply : (s t : SoFar) (cx : Context) (messages : Vec (String Global) Global) (mark : Bool) (held : Option CommandRefusal) (words : List Text) (r : records.Record) (fault : RecordFault) (h : HostAnswer) (new : Told)
+    → call_of words ≡ Ok (keeps r) → t ≡ s → IfSome (fault_reason fault) (λ reason. effect_on s r ≡ Err reason)
+    → ((reason : RecordReason) → HasFault reason fault → Replies (not_done (bad_record reason)) h (told_with t messages mark held) new)
+    → Replies (answered (context_with s cx) (found s) words (call_of words)) h (told_with s messages mark held) new
+refused_reply s t cx messages mark held words r fault h new call same e f = go (fault_reason fault) refl
+  where
+    at : (reason : RecordReason) → HasFault reason fault → Replies (not_done (bad_record reason)) h (told_with s messages mark held) new
+    at reason k = subst (λ (j : SoFar). Replies (not_done (bad_record reason)) h (told_with j messages mark held) new) same (f reason k)
+
+    go : (o : Option RecordReason) → fault_reason fault ≡ o → Replies (answered (context_with s cx) (found s) words (call_of words)) h (told_with s messages mark held) new
+    go None q = from_reasons h (told_with s messages mark held) new _ (λ reason. at reason (subst (λ o. IfSome o (λ x. x ≡ reason)) (sym q) tt))
     go (Some reason) q =
         let d : effect_on s r ≡ Err reason = subst (λ o. IfSome o (λ x. effect_on s r ≡ Err x)) q e in
-        by_answer _ (not_done (bad_record reason)) h (told_with s messages mark kept) new
+        by_answer _ (not_done (bad_record reason)) h (told_with s messages mark held) new
         (ap (answered (context_with s cx) (found s) words) call ∙ ap (kept words) d)
         (at reason (subst (λ o. IfSome o (λ x. x ≡ reason)) (sym q) refl))
 

@@ -1,13 +1,12 @@
 //! The host of a modulefile.
-ghost use Rattle.std.specs.Prelude.{◌≡◌, ℕ, ◌++◌, ◌∷◌, [], None, Some, Ok, map, string_bytes, IfOk, IfErr, IfSome, OnOk, OnErr, false};
-ghost use Rattle.std.specs.Option.{option_map};
+ghost use Rattle.std.specs.Prelude.{◌≡◌, ◌++◌, ◌∷◌, [], None, Some, Ok, map, string_bytes, is_none, IfOk, IfErr, IfSome, OnOk, OnErr, false};
 ghost use Rattle.environment.specs.Texts.{Text, texts_in};
 ghost use Rattle.environment.specs.Reasons.{bad_variable};
 ghost use Rattle.environment.specs.Changes.{applied, new_values_in};
 ghost use Rattle.tclrules.specs.Oracle.{Nothing, Message, Done};
 ghost use Rattle.modulerecords.specs.Judgments.{RecordReason, bad_edit};
 ghost use Rattle.modulefile.specs.Calls.{CallReason, bad_record, keeps, call_of};
-ghost use Rattle.modulefile.specs.CallViews.{HasReason, call_view, reason_of, topic_view};
+ghost use Rattle.modulefile.specs.CallViews.{HasReason, call_view, topic_view};
 ghost use Rattle.modulefile.specs.RecordViews.{mode_view, record_view, fault_reason, HasFault};
 ghost use Rattle.modulefile.specs.Answers.{answered, any_loaded, asked, not_done, read, truth};
 ghost use Rattle.modulefile.specs.Answers.{topic_text, topic_test, value_shown};
@@ -51,6 +50,16 @@ impl<'a, V: Vars> Drop for Runner<'a, V> {
             asked: _asked,
             refusal: _refusal,
         } = self;
+    }
+}
+
+/// Whether the fault is want of memory, and no reason.
+fn is_want_of_memory(fault: &RecordFault) -> bool
+    ensures { result ≡ is_none (fault_reason fault.now) }
+{
+    match fault {
+        RecordFault::Env(EnvFault::OutOfMemory) => true,
+        RecordFault::Env(_) | RecordFault::BadModuleName(_) => false,
     }
 }
 
@@ -107,7 +116,7 @@ impl<'a, V: Vars> Runner<'a, V> {
             → Replies (not_done (bad_record reason)) result (told_by self.old) (told_by self.new) }
         ensures same { context_of self.new ≡ context_of self.old }
     {
-        if let RecordFault::Env(EnvFault::OutOfMemory) = fault {
+        if is_want_of_memory(&fault) {
             return HostAnswer::OutOfMemory;
         }
         let number = fault.number();
