@@ -13,12 +13,17 @@ import re
 import shutil
 import subprocess
 import sys
+import tempfile
 
 from times import Sampler, children_seconds, table
 
 HERE = os.path.dirname(os.path.abspath(__file__))
 TOP = os.path.dirname(HERE)
 BUILT = os.path.join(TOP, "build", "bin")
+OBJECTS = os.path.join(TOP, "build", "objects")
+sys.path.append(os.path.join(TOP, "tools"))
+
+import link  # noqa: E402
 COUNTS = re.compile(r"(\d+) passed, (\d+) failed")
 
 # What the gate leaves in the folder out/ of a crate, by the name that the tests outside it know it by.
@@ -29,6 +34,9 @@ PROGRAMS = {
     "cases_environment": ("cases_environment", "cases_environment"),
     "cases_requests": ("cases_requests", "cases_requests"),
 }
+
+# The programs of the product, which are installed as they are linked statically.
+PRODUCT = ("modulecmd", "modcheck")
 
 # The tests outside the gate: a script, the program that it is given, and further words.
 SUITES = (
@@ -52,6 +60,7 @@ SUITES = (
     ("tcl/scripts.py", "cases_tcl"),
     ("tcl/commands.py", ""),
     ("tcl/memory.py", "cases_tcl"),
+    ("package.py", "modulecmd"),
     ("runs.py", ""),
 )
 
@@ -90,8 +99,32 @@ def gate():
     os.makedirs(BUILT, exist_ok=True)
     for name in PROGRAMS:
         if os.path.exists(left_by_the_gate(name)):
-            shutil.copy(left_by_the_gate(name), os.path.join(BUILT, name))
+            take(name)
     return counts
+
+
+def take(name):
+    """Puts a program that the gate left into build/bin."""
+    linked = left_by_the_gate(name)
+    if name not in PRODUCT:
+        shutil.copy(linked, os.path.join(BUILT, name))
+        return
+    kit = os.path.dirname(subprocess.check_output(["rt", "doc"], text=True).strip())
+    link.leave(kit, linked, object_of(kit, name), BUILT, name)
+
+
+def object_of(kit, name):
+    """The object that the gate linked a program from, or nothing. A gate that takes the program from an earlier one leaves
+    none; then it is the kept one, if its link is that program byte for byte."""
+    linked, kept = left_by_the_gate(name), os.path.join(OBJECTS, f"{name}.o")
+    with tempfile.TemporaryDirectory(prefix="modulecmd-link-") as room:
+        for made in (f"{linked}.o", kept):
+            if os.path.exists(made) and link.is_made_of(kit, linked, made, room):
+                os.makedirs(OBJECTS, exist_ok=True)
+                if made != kept:
+                    shutil.copy(made, kept)
+                return kept
+    return None
 
 
 def suite(script, program, words):
