@@ -45,6 +45,7 @@ need_for() {
         bench)
             need_for build
             need valgrind valgrind
+            need strace strace
             need rustc rustc
             need tcl tclsh
             need lua5.3 lua5.3
