@@ -20,7 +20,6 @@ from times import Sampler, children_seconds, table
 HERE = os.path.dirname(os.path.abspath(__file__))
 TOP = os.path.dirname(HERE)
 BUILT = os.path.join(TOP, "build", "bin")
-OBJECTS = os.path.join(TOP, "build", "objects")
 sys.path.append(os.path.join(TOP, "tools"))
 
 import link  # noqa: E402
@@ -34,9 +33,6 @@ PROGRAMS = {
     "cases_environment": ("cases_environment", "cases_environment"),
     "cases_requests": ("cases_requests", "cases_requests"),
 }
-
-# The programs of the product, which are installed as they are linked statically.
-PRODUCT = ("modulecmd", "modcheck")
 
 # The tests outside the gate: a script, the program that it is given, and further words.
 SUITES = (
@@ -106,7 +102,7 @@ def gate():
 def take(name):
     """Puts a program that the gate left into build/bin."""
     linked = left_by_the_gate(name)
-    if name not in PRODUCT:
+    if name not in link.PRODUCT:
         shutil.copy(linked, os.path.join(BUILT, name))
         return
     kit = os.path.dirname(subprocess.check_output(["rt", "doc"], text=True).strip())
@@ -114,17 +110,33 @@ def take(name):
 
 
 def object_of(kit, name):
-    """The object that the gate linked a program from, or nothing. A gate that takes the program from an earlier one leaves
-    none; then it is the kept one, if its link is that program byte for byte."""
-    linked, kept = left_by_the_gate(name), os.path.join(OBJECTS, f"{name}.o")
+    """The object that the gate linked a program from, or nothing: one whose link by the kit is that program byte for byte.
+    A gate that takes the program from an earlier one leaves none; then it is kept, or made anew."""
+    linked, kept = left_by_the_gate(name), link.kept_object(TOP, name)
     with tempfile.TemporaryDirectory(prefix="modulecmd-link-") as room:
         for made in (f"{linked}.o", kept):
             if os.path.exists(made) and link.is_made_of(kit, linked, made, room):
-                os.makedirs(OBJECTS, exist_ok=True)
-                if made != kept:
-                    shutil.copy(made, kept)
-                return kept
-    return None
+                break
+        else:
+            made = os.path.join(room, "made.o")
+            if not make_object(kit, name, made) or not link.is_made_of(kit, linked, made, room):
+                return None
+        if made != kept:
+            link.keep(made, TOP, name)
+    return kept
+
+
+def make_object(kit, name, made):
+    """Has the prover make a program's object anew over the gate's libraries, and gives whether it did."""
+    sys.path.append(os.path.join(kit, "bin"))
+    import rtlib  # (the kit's own module: it knows the words that a crate is proved with)
+
+    crate = next(it for it in rtlib.crates_below(TOP) if it.name == PROGRAMS[name][0])
+    words = [rtlib.RATTLE, "build", *crate.words(["--jobs", "1"], keeps=False)]
+    words += ["--toolchain", f"{kit}/toolchain", "--backend", "llvm", "-o", made]
+    print(f"== the gate left no object of {name}, so it is made anew", flush=True)
+    done = subprocess.run(words, cwd=crate.folder, stdin=subprocess.DEVNULL, capture_output=True, check=False)
+    return done.returncode == 0
 
 
 def suite(script, program, words):

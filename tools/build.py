@@ -243,8 +243,9 @@ class Schedule:
 def leave(work):
     """Puts a program that was built into build/bin: one of the product linked statically."""
     name, folder = NAMES.get(work.name, work.name), os.path.join(TOP, "build", "bin")
-    if work.name in PRODUCT:
+    if name in link.PRODUCT:
         link.leave(KIT, work.made, work.object_file(), folder, name)
+        link.keep(work.object_file(), TOP, name)
     else:
         os.makedirs(folder, exist_ok=True)
         shutil.copy(work.made, os.path.join(folder, name))

@@ -10,6 +10,9 @@ import shutil
 import struct
 import subprocess
 
+# The programs of the product, by the names that they are installed by.
+PRODUCT = ("modulecmd", "modcheck")
+
 # What stands behind the name of the dynamically linked program.
 DYNAMIC = "-dynamic"
 
@@ -73,8 +76,21 @@ def leave(kit, linked, made, folder, name):
     new = f"{place}.new"
     shutil.copy(linked, f"{place}{DYNAMIC}.new")
     os.replace(f"{place}{DYNAMIC}.new", f"{place}{DYNAMIC}")
-    why = link_statically(kit, made, new) if made else "its object isn't there"
+    why = link_statically(kit, made, new) if made and os.path.exists(made) else "its object isn't there"
     if why:
         shutil.copy(linked, new)
         print(f"{name} is linked dynamically: {why}", flush=True)
     os.replace(new, place)
+
+
+def kept_object(top, name):
+    """Where the object of a program is kept, out of reach of the gate, which empties the crates' folders out/."""
+    return os.path.join(top, "build", "objects", f"{name}.o")
+
+
+def keep(made, top, name):
+    """Keeps the object of a program."""
+    kept = kept_object(top, name)
+    os.makedirs(os.path.dirname(kept), exist_ok=True)
+    shutil.copy(made, f"{kept}.new")
+    os.replace(f"{kept}.new", kept)

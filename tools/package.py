@@ -21,7 +21,6 @@ from email.utils import formatdate
 import link
 
 TOP = os.path.dirname(os.path.dirname(os.path.abspath(__file__)))
-PROGRAMS = ("modulecmd", "modcheck")
 
 # What `tools/product.sh` reads, and what the archive has to be read.
 FOLDERS = ("init", "libexec", "completion", "man", "etc", "docs")
@@ -84,7 +83,7 @@ def maintainer():
 def strip_programs(folder):
     """Copies the programs to a new folder, without their symbols."""
     os.mkdir(folder)
-    for name in PROGRAMS:
+    for name in link.PRODUCT:
         built = os.path.join(TOP, "build", "bin", name)
         if not os.path.exists(built) or not link.is_static(built):
             sys.exit(f"build/bin/{name} isn't there, or not linked statically: `make deps build` sees to it")
@@ -179,7 +178,7 @@ def move_to_debian_s_places(root):
             pack(page, f"{root}/usr/share/man/{name}.gz")
     shutil.rmtree(f"{here}/share/man")
     # By its name Debian knows a program that is linked statically on purpose, as bash-static.
-    for name in PROGRAMS:
+    for name in link.PRODUCT:
         os.replace(f"{here}/bin/{name}", f"{here}/bin/{name}-static")
         os.symlink(f"{name}-static", f"{here}/bin/{name}")
     for place, aim in LINKS.items():
@@ -217,7 +216,7 @@ def add_control(root, version, who):
 def make_debian(folder, into, version, seconds):
     """Makes Debian's package of what was laid out, and gives its path."""
     root = os.path.join(os.path.dirname(folder), "debian")
-    install = ["sh", "tools/product.sh", "install", root, PREFIX, *(f"bin/{name}" for name in PROGRAMS)]
+    install = ["sh", "tools/product.sh", "install", root, PREFIX, *(f"bin/{name}" for name in link.PRODUCT)]
     subprocess.run(install, cwd=folder, stdout=subprocess.DEVNULL, check=True)
     move_to_debian_s_places(root)
     add_documents(root, version, seconds, maintainer())
