@@ -29,7 +29,7 @@ OWN = "/etc/modulecmd/modulespath"
 
 # What a machine has: shells, utilities for start-up files and for what is installed, and what zsh and fish read.
 SHELLS = ("dash", "bash", "zsh", "tcsh", "fish")
-UTILITIES = """awk basename cat chmod cmp cp cut date dirname env grep head id less ln ls mkdir mktemp mv od readlink rm
+UTILITIES = """awk basename cat chmod cmp cp cut date dirname env grep head id ln ls mkdir mktemp mv od readlink rm
     rmdir sed sort stty tail tee test touch tr uname uniq wc""".split()
 DATA = ("/usr/share/fish/*.fish", "/usr/share/fish/functions", "/usr/lib/*/zsh")
 FOLDERS = """usr/bin usr/lib usr/lib64 dev tmp root opt modules/foo etc/zsh etc/fish/conf.d var/lib/dpkg/info
@@ -133,6 +133,7 @@ class Packages:
 
 
 def make(into, version):
+    """Makes the packages of a version in a folder."""
     goes_well([sys.executable, "-B", os.path.join(TOP, "tools", "package.py"), into, version])
 
 
@@ -243,17 +244,21 @@ class Machine:
 
 PACKAGES, MACHINE = Packages(), Machine()
 
+# What some cases take.
+IS_ROOT = os.geteuid() == 0
+HAS_DPKG = shutil.which("dpkg") is not None and shutil.which("dpkg-deb") is not None
 
-def case_of_the_machine(function):
-    """Adds a case that takes root."""
-    return case(function) if os.geteuid() == 0 else function
+
+def case_where(*facts):
+    """Adds a case where all of this is so."""
+    return lambda function: case(function) if all(facts) else function
 
 
 @case
 def the_same_tree_gives_the_same_packages(folder):
     place = folder.path.decode()
     make(place, PACKAGES.version)
-    for path in (PACKAGES.archive(PACKAGES.version), PACKAGES.debian(PACKAGES.version)):
+    for path in (PACKAGES.archive(PACKAGES.version), *[PACKAGES.debian(PACKAGES.version)] * HAS_DPKG):
         true(read(path) == read(os.path.join(place, os.path.basename(path))), f"{os.path.basename(path)} is the same")
 
 
@@ -292,16 +297,13 @@ def shellcheck_has_nothing_to_say_of_install_sh(folder):
     same(run(["shellcheck", os.path.join(TOP, "package", "install.sh")]), ("", "", 0), "shellcheck")
 
 
-@case
+@case_where(HAS_DPKG, shutil.which("lintian"))
 def lintian_finds_no_errors(folder):
-    if not shutil.which("lintian"):
-        print("not run: lintian isn't installed")
-        return
     out, err, status = run(["lintian", "--allow-root", "--fail-on", "error", PACKAGES.debian(PACKAGES.version)])
     same(status, 0, f"lintian: {out}{err}")
 
 
-@case_of_the_machine
+@case_where(IS_ROOT)
 def the_program_runs_alone_in_an_empty_root(folder):
     alone = os.path.join(folder.path.decode(), "alone")
     os.makedirs(os.path.join(alone, "m/foo"))
@@ -315,7 +317,7 @@ def the_program_runs_alone_in_an_empty_root(folder):
     same([line for line in out.splitlines() if line.startswith(("FOO", "PATH"))], wanted, "what it prints")
 
 
-@case_of_the_machine
+@case_where(IS_ROOT)
 def shells_log_in_by_the_links_of_an_archive(folder):
     with MACHINE.is_as_before(), unpacked(PACKAGES.version) as archive:
         shutil.copytree(archive, f"{MACHINE.root}/tmp/archive")
@@ -332,7 +334,7 @@ def shells_log_in_by_the_links_of_an_archive(folder):
         shutil.rmtree(f"{MACHINE.root}/tmp/archive")
 
 
-@case_of_the_machine
+@case_where(IS_ROOT, HAS_DPKG)
 def shells_log_in_by_the_links_of_debian_s_package(folder):
     with MACHINE.has(PACKAGES.debian(PACKAGES.version)):
         MACHINE.log_in("sh", "bash", "tcsh", "fish")
@@ -343,7 +345,7 @@ def shells_log_in_by_the_links_of_debian_s_package(folder):
         true("foo/1.0: Plain" in out + err, f"modcheck: found {out}{err}")
 
 
-@case_of_the_machine
+@case_where(IS_ROOT, HAS_DPKG)
 def removing_debian_s_package_keeps_the_site_s_file_and_purging_takes_it(folder):
     env = {"PATH": "/usr/bin:/bin", "HOME": "/root"}
     before = MACHINE.listing()
@@ -375,7 +377,7 @@ def session(root, env):
         same(shell.stdout.read(), "", "what the session says at its end")
 
 
-@case_of_the_machine
+@case_where(IS_ROOT, HAS_DPKG)
 def an_upgrade_keeps_the_site_s_file_and_sessions_go_on(folder):
     with MACHINE.has(PACKAGES.debian(PACKAGES.version)):
         MACHINE.write(OWN, "# ours\n/modules\n")
@@ -388,7 +390,7 @@ def an_upgrade_keeps_the_site_s_file_and_sessions_go_on(folder):
         same(read(MACHINE.root + OWN), b"# ours\n/modules\n", "the site's file")
 
 
-@case_of_the_machine
+@case_where(IS_ROOT, HAS_DPKG)
 def the_variables_of_a_session_of_the_first_version_are_read(folder):
     env = {"PATH": "/opt/foo/bin:/usr/bin:/bin", "MODULEPATH": "/modules", "FOO": "on"}
     env.update(LOADEDMODULES="foo/1.0", _LMFILES_="/modules/foo/1.0")
@@ -398,14 +400,15 @@ def the_variables_of_a_session_of_the_first_version_are_read(folder):
 
 
 def main():
+    for fact, what in ((IS_ROOT, "root"), (HAS_DPKG, "dpkg"), (shutil.which("lintian"), "lintian")):
+        if not fact:
+            print(f"not run: what takes {what}")
     with tempfile.TemporaryDirectory(prefix="modulecmd-package-") as room:
         os.chmod(room, 0o755)
         try:
             PACKAGES.make(room)
-            if os.geteuid() == 0:
+            if IS_ROOT:
                 MACHINE.lay_out(os.path.join(room, "machine"))
-            else:
-                print("not run: what is installed in a root of its own, since that takes root")
         except Exception as found:
             print(f"FAILED: there are no packages, or no root to install them in: {found}")
             print("package: 0 passed, 1 failed")
