@@ -32,6 +32,11 @@ def the_crates_that_pages_name(_folder):
 
 
 @case
+def the_words_of_the_sources_that_pages_name(_folder):
+    named.check_words()
+
+
+@case
 def the_suites_that_pages_name(_folder):
     named.check_suites({script for script, *_ in SUITES})
 

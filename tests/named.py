@@ -27,6 +27,7 @@ HELPERS = {"environment": ("escapes", "fields")}
 FOLDERS = "bench|completion|crates|demo|docs|etc|init|libexec|man|tests|tools"
 PATH = re.compile(rf"(?:{FOLDERS})/|\w+/(?:src|specs|proofs|must-fail)/")
 FILE = re.compile(r"[\w./-]+\.(?:antt|c|edit|fish|md|py|rt|sh)")
+WORD = re.compile(r"[A-Za-z]+(?:_\w+|[a-z][A-Z]\w*)")
 LINK = re.compile(r"\]\(([^)#]+)\)")
 BLOCK = re.compile(r"^ *```.*?^ *```$", re.DOTALL | re.MULTILINE)
 
@@ -229,3 +230,15 @@ def check_suites(suites):
         for names in re.findall(r'ONLY="([^".]+)"', text):
             for name in names.split():
                 true(f"{name}.py" in suites, f"{page} names a suite that is there: {name}")
+
+
+def check_words():
+    """What pages name as code with an underscore or a capital within, as `call_of` and `LeadsBack`, stands somewhere in
+    the repository."""
+    words = set()
+    for path in files():
+        if path.endswith((".rt", ".antt", ".py", ".sh", "stdin", "Makefile")):
+            words |= set(re.findall(r"\w+", content(path)))
+    for page, text in pages().items():
+        for name in names_in(text):
+            true(name in words or not WORD.fullmatch(name), f"{page} names what is there: {name}")
