@@ -11,7 +11,7 @@ returns-then-left-eq0-clause-later g c = later_refl
 
 pub returns-in-Ok-clause-comes : goal.returns-in-Ok-clause-comes
 returns-in-Ok-clause-comes g c =
-    let h = rw (c.as_str.ensures.value, c.deref.ensures, c.deref-in-Ok.ensures) at c.file_commands.ensures.comes in
+    let h = rw (c.as_str-source.ensures.value, c.deref.ensures, c.deref-in-Ok.ensures) at c.file_commands.ensures.comes in
     rw c.in-Ok.ensures.tree (go_on (begin_on _ _ c.if-left-eq0.false) h)
 
 pub returns-in-Ok-clause-later : goal.returns-in-Ok-clause-later
