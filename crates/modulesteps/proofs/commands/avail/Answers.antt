@@ -6,14 +6,12 @@ use Rattle.modulelist.specs.declared.listings.Listing as code
 use Rattle.defaultfiles.specs.Leaves.{Leaves}
 use Rattle.requests.specs.Reports.{avail_text}
 use Rattle.requests.specs.Steps.{begun, reported, modulepath}
-use Rattle.filetree.specs.Agreement.{InEachPair}
+use Rattle.filetree.specs.Agreement.{InEachPair, is_device}
 use Rattle.std.proofs.lemmas.Result.{err_from_is_err_and}
 use Rattle.modulesearch.specs.Looked.{ListingLooksAt}
-use Rattle.modulefind.specs.Answers.{is_failure as not_searched}
 use Rattle.modulefind.proofs.FailureLemmas.{fails_then}
-use Rattle.modulesteps.specs.declared.refusal.Refusal.TheVariants.{Find}
-use Rattle.modulesteps.specs.Answers.{is_failure}
-use Rattle.modulesteps.proofs.FailureLemmas.{found_failure}
+use Rattle.modulesteps.specs.Answers.{is_failure, refused_read}
+use Rattle.modulesteps.proofs.FailureLemmas.{read_failure}
 use Rattle.modulesteps.proofs.commands.avail.Goals as goal
 
 pub returns-clause-told : goal.returns-clause-told
@@ -33,8 +31,8 @@ returns-in_err-listings-clause-failed g c =
     let leaves = Leaves c.args.terms.limits in
     let before = g.T.Tree.failed c.args.tree.now in
     let agrees = g.T.Tree.agrees c.available.new.tree in
-    rw (p.1, p.2) (fails_then (not_searched fault) (is_failure (Find fault)) before before (g.T.Tree.failed c.available.new.tree)
+    rw (p.1, p.2) (fails_then (is_device fault) (is_failure (refused_read fault)) before before (g.T.Tree.failed c.available.new.tree)
     (λ at. InEachPair agrees (λ files listings. ListingLooksAt leaves files listings c.modulepath.result.now at))
     (λ at. InEachPair agrees (λ files listings. ListingLooksAt leaves files listings (modulepath (g.V.Vars.vars c.args.env.now)) at))
-    refl (found_failure fault)
+    refl (read_failure fault)
     (λ at h files listings a. subst (λ (path : Text). ListingLooksAt leaves files listings path at) c.modulepath.ensures (h files listings a)) c.in_err-listings.ensures.failed)
