@@ -1,5 +1,5 @@
 -- Where a request failed.
-use Rattle.std.proofs.Common.{◌≡◌, Bool, true, false, List, ℕ, Result, Ok, Err, refl, sym, subst}
+use Rattle.std.proofs.Common.{◌≡◌, Bool, false, List, ℕ, Result, Ok, Err, refl, sym, subst}
 use Rattle.environment.specs.Texts.{Text}
 use Rattle.filetree.specs.Agreement.{Files, Listings, InEachPair, FailsAt, FailsIf, is_device}
 use Rattle.filetree.specs.Causes.{Cause, Applies, memory, device, because}

@@ -286,8 +286,8 @@ fn switch<T: Tree, V: Vars>(
         (asked.switch (option_map (λ x. x.now) old.entry) new.now)) }
     ensures failed { FailsAt is_failure (T.failed tree.old) (T.failed tree.new) result (λ at.
         InEachPair (T.agrees tree.new) (λ files listings.
-        SwitchLooksAt (site_of terms files listings) (steps.old_name (option_map (λ x. x.now) old.entry) new.now) new.now
-        (begun (V.vars env.old)) at)) }
+        SwitchLooksAt (site_of terms files listings) (steps.old_name (option_map (λ x. x.now) old.entry) new.now)
+        new.now (begun (V.vars env.old)) at)) }
 {
     let before = entries_of(alloc, env)?;
     let mut done = Done::new(alloc);

@@ -225,7 +225,8 @@ fn unload_entry<T: Tree, V: Vars>(
         (λ u. done_view done.new (V.vars env.new)) result
         (λ files listings. UnloadsEntry (site_of asking.entry.terms files listings) asking.entry.in_switch
         asking.entry.typed.now (done_view done.old (V.vars env.old)) (map entry_of entries.now) (entry_of entry.now)) }
-    ensures failed { FailsAt is_failure (T.failed tree.old) (T.failed tree.new) result (λ at. at ≡ (entry_of entry.now).path) }
+    ensures failed { FailsAt is_failure (T.failed tree.old) (T.failed tree.new) result (λ at.
+        at ≡ (entry_of entry.now).path) }
 {
     let text = script_at(alloc, tree, entry.path.as_str())?;
     let file = File {

@@ -1,4 +1,4 @@
-use Rattle.std.proofs.Common.{◌≡◌, ◌<◌, true, false, List, map, sym, ap, ◌∙◌, Ok, Err, None, refl}
+use Rattle.std.proofs.Common.{◌≡◌, ◌<◌, true, false, List, map, sym, ap, ◌∙◌, Err, None, refl}
 use Rattle.std.proofs.lemmas.Result.{err_from_is_err_and}
 use Rattle.environment.specs.Texts.{has}
 use Rattle.loadedlist.specs.Loaded.{names_of}
