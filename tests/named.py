@@ -26,7 +26,7 @@ HELPERS = {"environment": ("escapes", "fields")}
 # What begins like a path of the repository: a folder that stands at its top, or one of a crate.
 FOLDERS = "bench|completion|crates|demo|docs|etc|init|libexec|man|tests|tools"
 PATH = re.compile(rf"(?:{FOLDERS})/|\w+/(?:src|specs|proofs|must-fail)/")
-FILE = re.compile(r"[\w./-]+\.(?:antt|c|edit|fish|md|py|rt|sh)")
+FILE = re.compile(r"[\w.-][\w./-]*\.(?:antt|c|edit|fish|md|py|rt|sh)")
 WORD = re.compile(r"[A-Za-z]+(?:_\w+|[a-z][A-Z]\w*)")
 LINK = re.compile(r"\]\(([^)#]+)\)")
 BLOCK = re.compile(r"^ *```.*?^ *```$", re.DOTALL | re.MULTILINE)
@@ -193,6 +193,11 @@ def names_in(text):
     return [*" ".join(SPAN.findall(text)).split(), *LINK.findall(text)]
 
 
+def is_file_of_ours(name, blocks):
+    """It is spelled as a file or folder, stands for no other name, and is none that the page's own commands make."""
+    return (FILE.fullmatch(name) or PATH.match(name)) and "NAME" not in name and name not in blocks.split()
+
+
 def check_files():
     """Each file and folder that a page names is there: by its path, or by the end of it."""
     ends = set()
@@ -200,8 +205,9 @@ def check_files():
         parts = path.split(os.sep)
         ends |= {"/".join(parts[at:]) for at in range(len(parts))}
     for page, text in pages().items():
+        blocks = "\n".join(BLOCK.findall(text))
         for name in names_in(text):
-            if "NAME" not in name and (FILE.fullmatch(name) or PATH.match(name)):
+            if is_file_of_ours(name, blocks):
                 true(name.rstrip("/").removeprefix("../") in ends, f"{page} names a file that is there: {name}")
 
 
