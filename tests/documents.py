@@ -1,51 +1,35 @@
-"""What the pages name: functions, clauses, files, crates and suites.
+"""What the pages name is there: functions, clauses, words, files, crates and suites.
 
-    python3 -B tests/documents.py PROGRAM
+    python3 -B tests/documents.py
 """
 
 import sys
 
 import named
-from harness import case, run_all
+from harness import Failed
 from run import SUITES
 
-
-@case
-def the_tables_of_claims_name_what_is_there(_folder):
-    named.check_rows()
-    named.check_examples()
-
-
-@case
-def a_function_without_a_row_says_its_own_name(_folder):
-    named.check_rest()
-
-
-@case
-def the_files_that_pages_name(_folder):
-    named.check_files()
-
-
-@case
-def the_crates_that_pages_name(_folder):
-    named.check_crates()
-
-
-@case
-def the_words_of_the_sources_that_pages_name(_folder):
-    named.check_words()
-
-
-@case
-def the_suites_that_pages_name(_folder):
-    named.check_suites({script for script, *_ in SUITES})
+CHECKS = {
+    "the rows of CLAIMS have functions, clauses and definitions that are there": named.check_rows,
+    "the examples of CLAIMS are all of them": named.check_examples,
+    "a function without a row says the definition of its name": named.check_rest,
+    "the files that pages name are there": named.check_files,
+    "the crates that pages name are there": named.check_crates,
+    "the words of sources that pages name are there": named.check_words,
+    "the suites that pages name are there": lambda: named.check_suites({script for script, *_ in SUITES}),
+}
 
 
 def main():
-    if len(sys.argv) != 2:
-        sys.exit(f"{sys.argv[0]} PROGRAM")
-    passed, failed = run_all(sys.argv[1])
-    print(f"{passed} passed, {failed} failed")
+    failed = 0
+    for what, check in CHECKS.items():
+        try:
+            check()
+            print(f"ok: {what}")
+        except Failed as found:
+            failed += 1
+            print(f"FAILED: {what}: {found}")
+    print(f"{len(CHECKS) - failed} passed, {failed} failed")
     return 1 if failed else 0
 
 
