@@ -1,0 +1,146 @@
+"""The sessions that README and docs/USERS.md show, typed at a terminal over the installed product.
+
+    python3 -B tests/documents.py PROGRAM
+
+modcheck stands beside the program. A block `console` is a session: commands stand behind `$ `, and below each what the
+terminal shows. All blocks of a page are typed into one bash, in their order, with the modulefiles of tests/sites at the
+place that the pages name.
+"""
+
+import fcntl
+import os
+import pty
+import re
+import select
+import shutil
+import signal
+import struct
+import subprocess
+import sys
+import termios
+import time
+
+from harness import HERE, SECONDS, Failed, case, run_all, same, true
+
+TOP = os.path.dirname(HERE)
+ROWS, COLUMNS = 40, 80
+
+# What the shell writes in front of each prompt, which no command writes.
+MARK = b"\x02"
+
+# Where the pages have the product and the modulefiles.
+PRODUCT = "/opt/modulecmd"
+MODULES = "/opt/modulefiles"
+
+
+def content(*names):
+    with open(os.path.join(TOP, *names), encoding="utf-8") as file:
+        return file.read()
+
+
+def blocks(text, language):
+    return re.findall(rf"^```{language}\n(.*?)^```$", text, re.DOTALL | re.MULTILINE)
+
+
+class Typed:
+    """A bash at a terminal of its own, which has the functions of the product."""
+
+    def __init__(self, folder):
+        self.prefix = os.fsdecode(folder.path) + PRODUCT
+        self.modules = os.fsdecode(folder.path) + MODULES
+        install(self.prefix)
+        shutil.copytree(os.path.join(HERE, "sites"), self.modules)
+        home = os.fsdecode(folder.path) + "/home"
+        os.mkdir(home)
+        variables = {"MODULEPATH": self.modules, "PATH": "/usr/bin:/bin", "HOME": home, "TERM": "dumb", "LANG": "C.UTF-8"}
+        self.master, slave = pty.openpty()
+        fcntl.ioctl(slave, termios.TIOCSWINSZ, struct.pack("HHHH", ROWS, COLUMNS, 0, 0))
+        self.running = subprocess.Popen(
+            ["bash", "--norc", "--noprofile", "--noediting", "-i"],
+            env={**variables, "PS1": MARK.decode()},
+            cwd=home,
+            stdin=slave,
+            stdout=slave,
+            stderr=slave,
+            preexec_fn=lambda: (os.setsid(), fcntl.ioctl(0, termios.TIOCSCTTY, 0)),
+        )
+        os.close(slave)
+        self.seen = b""
+        self.shown()
+        same(self.types(f". '{PRODUCT}/init/bash'"), "", "what the init file shows")
+
+    def shown(self):
+        """What the terminal shows up to the next prompt."""
+        end = time.monotonic() + SECONDS / 2
+        while MARK not in self.seen:
+            ready, _, _ = select.select([self.master], [], [], max(0, end - time.monotonic()))
+            if not ready:
+                raise Failed(f"no prompt came; the terminal shows {self.seen[-1500:]!r}")
+            self.seen += os.read(self.master, 65536)
+        text, _, self.seen = self.seen.partition(MARK)
+        return text.replace(b"\r\n", b"\n").decode()
+
+    def types(self, command):
+        """What the terminal shows of a command, with the places that the pages name."""
+        real = command.replace(PRODUCT, self.prefix).replace(MODULES, self.modules)
+        os.write(self.master, real.encode() + b"\n")
+        text = self.shown().removeprefix(real + "\n")
+        return text.replace(self.prefix, PRODUCT).replace(self.modules, MODULES)
+
+    def close(self):
+        os.close(self.master)
+        try:
+            self.running.wait(5)
+        except subprocess.TimeoutExpired:
+            os.kill(self.running.pid, signal.SIGKILL)
+            self.running.wait()
+
+
+def install(prefix):
+    programs = [os.path.join(os.path.dirname(os.path.abspath(sys.argv[1])), name) for name in ("modulecmd", "modcheck")]
+    command = ["sh", os.path.join(TOP, "tools", "product.sh"), "install", "", prefix, *programs]
+    subprocess.run(command, stdout=subprocess.DEVNULL, check=True)
+
+
+def runs_as_shown(folder, *names):
+    """Each command of a page shows what stands below it."""
+    sessions = blocks(content(*names), "console")
+    true(sessions, f"{names} shows a session")
+    typed = Typed(folder)
+    try:
+        for block in sessions:
+            true(block.startswith("$ "), f"a session begins with a command: {block!r}")
+            for part in re.split(r"^\$ ", block, flags=re.MULTILINE)[1:]:
+                command, _, wanted = part.partition("\n")
+                same(typed.types(command), wanted, f"what {command!r} shows")
+    finally:
+        typed.close()
+
+
+@case
+def the_sessions_of_the_readme(folder):
+    runs_as_shown(folder, "README.md")
+
+
+@case
+def the_sessions_of_the_page_for_users(folder):
+    runs_as_shown(folder, "docs", "USERS.md")
+
+
+@case
+def the_pages_are_no_longer_than_they_may_be(folder):
+    for names, most in ((("README.md",), 9_000), (("docs", "SITES.md"), 12_000), (("docs", "USERS.md"), 4_000)):
+        length = len(content(*names).encode())
+        true(length <= most, f"{names} has {length} bytes, of {most}")
+
+
+def main():
+    if len(sys.argv) != 2:
+        sys.exit(f"{sys.argv[0]} PROGRAM")
+    passed, failed = run_all(sys.argv[1])
+    print(f"{passed} passed, {failed} failed")
+    return 1 if failed else 0
+
+
+if __name__ == "__main__":
+    sys.exit(main())
