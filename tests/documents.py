@@ -1,4 +1,5 @@
-"""The sessions that README and docs/USERS.md show, typed at a terminal over the installed product.
+"""The sessions that README and docs/USERS.md show, typed at a terminal over the installed product, and the commands by
+which docs/SITES.md looks at the modulefiles of a site.
 
     python3 -B tests/documents.py PROGRAM
 
@@ -28,6 +29,26 @@ ROWS, COLUMNS = 40, 80
 # What the shell writes in front of each prompt, which no command writes.
 MARK = b"\x02"
 
+# What stands in for Environment Modules: it makes what the program does, but another CC of gcc.
+OTHER = """
+catch {exec PROGRAM {*}$argv 2> /dev/null} text
+puts $text
+if {"gcc" in $argv} {puts "CC=other; export CC;"}
+"""
+
+COMPARED = "".join(f"# {names}\n1c1\n< CC=other\n---\n> CC=gcc\n" for names in ("gcc", "gcc openmpi hdf5"))
+
+# What the check of the page says of the folder sites, by name and then of what is loaded together.
+CHECKED = """
+greeting/1: Asked
+hdf5/1.14 refused: Missing one of 'openmpi'
+openmpi/4.1.6 refused: Missing one of 'gcc clang'
+plugins/2.3 refused: Stopped by the modulefile
+profile/1: Asked
+python/3.11.6: OneWay
+workdir/1: Asked
+"""
+
 # Where the pages have the product and the modulefiles.
 PRODUCT = "/opt/modulecmd"
 MODULES = "/opt/modulefiles"
@@ -52,12 +73,12 @@ class Typed:
         shutil.copytree(os.path.join(HERE, "sites"), self.modules)
         home = os.fsdecode(folder.path) + "/home"
         os.mkdir(home)
-        variables = {"MODULEPATH": self.modules, "PATH": "/usr/bin:/bin", "HOME": home, "TERM": "dumb", "LANG": "C.UTF-8"}
+        variables = {"MODULEPATH": self.modules, "PATH": "/usr/bin:/bin", "HOME": home, "LANG": "C.UTF-8"}
         self.master, slave = pty.openpty()
         fcntl.ioctl(slave, termios.TIOCSWINSZ, struct.pack("HHHH", ROWS, COLUMNS, 0, 0))
         self.running = subprocess.Popen(
             ["bash", "--norc", "--noprofile", "--noediting", "-i"],
-            env={**variables, "PS1": MARK.decode()},
+            env={**variables, "TERM": "dumb", "NO_COLOR": "1", "PS1": MARK.decode()},
             cwd=home,
             stdin=slave,
             stdout=slave,
@@ -125,6 +146,33 @@ def the_sessions_of_the_readme(folder):
 @case
 def the_sessions_of_the_page_for_users(folder):
     runs_as_shown(folder, "docs", "USERS.md")
+
+
+@case
+def the_commands_of_the_page_for_sites(folder):
+    home = os.fsdecode(folder.path) + "/home"
+    install(os.path.join(home, "modulecmd"))
+    shutil.copytree(os.path.join(HERE, "sites"), os.fsdecode(folder.modules), dirs_exist_ok=True)
+    _, lists, compare, compares, checks = blocks(content("docs", "SITES.md"), "sh")
+    for name, text in (("compare.sh", compare), ("other", OTHER.replace("PROGRAM", f"{home}/modulecmd/bin/modulecmd"))):
+        with open(os.path.join(home, name), "w") as file:
+            file.write(text)
+    env = folder.environment(HOME=home, PATH=os.environ["PATH"], MODULES_CMD=f"{home}/other")
+
+    def prints(commands):
+        run = ["sh", "-c", commands]
+        done = subprocess.run(run, env=env, cwd=home, capture_output=True, timeout=SECONDS, check=True)
+        same(done.stderr.decode(), "", f"what {commands!r} says")
+        return done.stdout.decode()
+
+    same(prints(lists), "", "what the lists print")
+    first = compares.split("\n")[0]
+    same(prints(f"bin=~/modulecmd/bin\n{first}"), COMPARED, "what the comparison prints")
+    found = prints(f"bin=~/modulecmd/bin\n{checks}").splitlines()
+    wanted = CHECKED.strip().split("\n")
+    same(found[: len(wanted)], wanted, "what the check prints of the modules")
+    short = [re.sub(r"^([a-z0-9]+)/[0-9.]+ refused", r"\1 refused", line) for line in wanted]
+    same(found[len(wanted) :], short, "what the check prints of names without versions")
 
 
 @case
