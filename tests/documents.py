@@ -19,6 +19,7 @@ import struct
 import subprocess
 import sys
 import termios
+import textwrap
 import time
 
 from harness import HERE, SECONDS, Failed, case, run_all, same, true
@@ -49,9 +50,10 @@ python/3.11.6: OneWay
 workdir/1: Asked
 """
 
-# Where the pages have the product and the modulefiles.
+# Where the pages have the product, the modulefiles, and the user.
 PRODUCT = "/opt/modulecmd"
 MODULES = "/opt/modulefiles"
+HOME = "/home/you"
 
 
 def content(*names):
@@ -60,26 +62,26 @@ def content(*names):
 
 
 def blocks(text, language):
-    return re.findall(rf"^```{language}\n(.*?)^```$", text, re.DOTALL | re.MULTILINE)
+    """The blocks of a language, also those that stand indented in a list."""
+    found = re.findall(rf"^( *)```{language}\n(.*?)^\1```$", text, re.DOTALL | re.MULTILINE)
+    return [textwrap.dedent(block) for _, block in found]
 
 
 class Typed:
     """A bash at a terminal of its own, which has the functions of the product."""
 
     def __init__(self, folder):
-        self.prefix = os.fsdecode(folder.path) + PRODUCT
-        self.modules = os.fsdecode(folder.path) + MODULES
-        install(self.prefix)
-        shutil.copytree(os.path.join(HERE, "sites"), self.modules)
-        home = os.fsdecode(folder.path) + "/home"
-        os.mkdir(home)
-        variables = {"MODULEPATH": self.modules, "PATH": "/usr/bin:/bin", "HOME": home, "LANG": "C.UTF-8"}
+        self.places = {place: os.fsdecode(folder.path) + place for place in (PRODUCT, MODULES, HOME)}
+        install(self.places[PRODUCT])
+        shutil.copytree(os.path.join(HERE, "sites"), self.places[MODULES])
+        os.makedirs(self.places[HOME] + "/modules")
+        variables = {"MODULEPATH": self.places[MODULES], "HOME": self.places[HOME], "PATH": "/usr/bin:/bin"}
         self.master, slave = pty.openpty()
         fcntl.ioctl(slave, termios.TIOCSWINSZ, struct.pack("HHHH", ROWS, COLUMNS, 0, 0))
         self.running = subprocess.Popen(
             ["bash", "--norc", "--noprofile", "--noediting", "-i"],
-            env={**variables, "TERM": "dumb", "NO_COLOR": "1", "PS1": MARK.decode()},
-            cwd=home,
+            env={**variables, "LANG": "C.UTF-8", "TERM": "dumb", "NO_COLOR": "1", "PS1": MARK.decode()},
+            cwd=self.places[HOME],
             stdin=slave,
             stdout=slave,
             stderr=slave,
@@ -103,10 +105,14 @@ class Typed:
 
     def types(self, command):
         """What the terminal shows of a command, with the places that the pages name."""
-        real = command.replace(PRODUCT, self.prefix).replace(MODULES, self.modules)
+        real = command
+        for place, found in self.places.items():
+            real = real.replace(place, found)
         os.write(self.master, real.encode() + b"\n")
         text = self.shown().removeprefix(real + "\n")
-        return text.replace(self.prefix, PRODUCT).replace(self.modules, MODULES)
+        for place, found in self.places.items():
+            text = text.replace(found, place)
+        return text
 
     def close(self):
         os.close(self.master)
