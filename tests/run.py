@@ -35,7 +35,7 @@ SUITES = (
     ("program.py", "modulecmd"),
     ("rows.py", "modulecmd"),
     ("sites.py", "modulecmd"),
-    ("documents.py", "modulecmd"),
+    ("pages.py", "modulecmd"),
     ("sentence.py", "modulecmd", "300", "0", "sh"),
     ("sentence.py", "modulecmd", "40", "0", "tcsh"),
     ("sentence.py", "modulecmd", "40", "0", "fish"),

@@ -1,7 +1,7 @@
 """The sessions that README and docs/USERS.md show, typed at a terminal over the installed product, and the commands by
 which docs/SITES.md looks at the modulefiles of a site.
 
-    python3 -B tests/documents.py PROGRAM
+    python3 -B tests/pages.py PROGRAM
 
 modcheck stands beside the program. A block `console` is a session: commands stand behind `$ `, and below each what the
 terminal shows. All blocks of a page are typed into one bash, in their order, with the modulefiles of tests/sites at the
