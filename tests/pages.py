@@ -160,7 +160,7 @@ def the_commands_of_the_page_for_sites(folder):
     install(os.path.join(home, "modulecmd"))
     shutil.copytree(os.path.join(HERE, "sites"), os.fsdecode(folder.modules), dirs_exist_ok=True)
     _, lists, compare, compares, checks = blocks(content("docs", "SITES.md"), "sh")
-    for name, text in (("compare.sh", compare), ("other", OTHER.replace("PROGRAM", f"{home}/modulecmd/bin/modulecmd"))):
+    for name, text in (("compare", compare), ("other", OTHER.replace("PROGRAM", f"{home}/modulecmd/bin/modulecmd"))):
         with open(os.path.join(home, name), "w") as file:
             file.write(text)
     env = folder.environment(HOME=home, PATH=os.environ["PATH"], MODULES_CMD=f"{home}/other")
