@@ -47,6 +47,7 @@ SUITES = (
     ("hostile.py", "modulecmd"),
     ("search.py", "cases_requests"),
     ("shells/run.py", "modulecmd"),
+    ("pages.py", "modulecmd"),
     ("allocations.py", "cases_environment"),
     ("tcl/compare.py", "cases_tcl"),
     ("tcl/values.py", "cases_tcl"),
