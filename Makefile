@@ -1,18 +1,20 @@
 # Builds, shows and tests the programs modulecmd and modcheck.
 #
-#   make build   proves the crates that the programs stand on, side by side, and leaves both in build/bin;
-#                JOBS=N says how many processors may be used
+#   make build   proves the crates that the programs stand on, side by side, and leaves both in build/bin, linked
+#                statically by the system's compiler where it is there; JOBS=N says how many processors may be used
 #   make check   proves every crate as `make build` does, without the gate; with CRATE=name that crate and those below;
 #                with ONLY=function besides, that function of the crate and what it calls
 #   make install PREFIX=/opt/modulecmd DESTDIR=
 #                lays out the programs, the init files, completion and the pages below a prefix, and `make uninstall`
 #                takes them away
+#   make package leaves in build/dist an archive with an install.sh for every Linux, and Debian's package
 #   make demo    installs them below build/demo, and shows loads, a switch, a check and unloads in a POSIX shell
 #   make test    the merge gate `rt ci`, the tests over real folders and real shells, and what each part took; with
 #                ONLY="NAME..." those suites alone, over the programs in build/bin
 #   make bench   a table of ratios beside a native program, Environment Modules and Lmod, and instructions where
 #                something grows (some minutes)
-#   make deps    installs by apt-get what demo, test and bench need; each of them does so where something is missing
+#   make deps    installs by apt-get what build, demo, test and bench need; each of them does so where something is
+#                missing
 
 PREFIX ?= /opt/modulecmd
 DESTDIR ?=
@@ -20,9 +22,10 @@ CRATE ?=
 ONLY ?=
 PROGRAMS = build/bin/modulecmd build/bin/modcheck
 
-.PHONY: build check deps install uninstall demo test bench clean
+.PHONY: build check deps install uninstall package demo test bench clean
 
 build:
+	sh tools/deps.sh build
 	python3 -B tools/build.py
 
 check:
@@ -39,6 +42,11 @@ install: $(PROGRAMS)
 
 uninstall:
 	sh tools/product.sh uninstall '$(DESTDIR)' '$(PREFIX)'
+
+package:
+	sh tools/deps.sh build
+	python3 -B tools/build.py
+	python3 -B tools/package.py
 
 demo:
 	sh tools/deps.sh demo

@@ -17,10 +17,11 @@ from tools import Tool
 COLLECTED = re.compile(rb"Collected *: *(\d+)")
 
 
-def instructions(folder, command, env):
-    """The instructions of a command, which has to end with status 0."""
+def instructions(folder, command, env, *flags):
+    """The instructions of a command, which has to end with status 0; with callgrind's flags those that it collects."""
+    out = "--callgrind-out-file=" + os.path.join(folder, "callgrind")
     done = subprocess.run(
-        ["valgrind", "--tool=callgrind", "--callgrind-out-file=" + os.path.join(folder, "callgrind"), *command],
+        ["valgrind", "--tool=callgrind", out, *flags, *command],
         env=env,
         stdin=subprocess.DEVNULL,
         capture_output=True,

@@ -4,11 +4,11 @@
 
 prints a table of ratios, all of one run: each number says how many times the processor time of the native program a
 command takes. The commands of a row take turns, and the least time of each counts. Behind it stand the instructions
-of a load, counted by callgrind, where something grows.
+of a load, counted by callgrind, where something grows, and what the start of the process is of them.
 
-    run.py PROGRAM instructions | times
+    run.py PROGRAM instructions | times | start
 
-prints one of the two.
+prints one of the three.
 """
 
 import os
@@ -18,6 +18,7 @@ import sys
 import tempfile
 
 from instructions import print_instructions
+from start import print_start
 from tools import HOW_TO_INSTALL, Null, find_tools
 
 HERE = os.path.dirname(os.path.abspath(__file__))
@@ -136,10 +137,12 @@ def main():
     try:
         null = os.path.join(folder, "null")
         subprocess.run(["rustc", "-O", "-o", null, os.path.join(HERE, "null.rs")], check=True)
-        if part != "instructions":
+        if part in ("", "times"):
             print_times([Null(null), *find_tools(program)], folder)
-        if part != "times":
+        if part in ("", "instructions"):
             print_instructions(folder, null, program)
+        if part in ("", "start"):
+            print_start(folder, null, program)
     finally:
         shutil.rmtree(folder)
 

@@ -14,6 +14,9 @@ HERE = os.path.dirname(os.path.abspath(__file__))
 NOBODY = 65534
 SECONDS = 60
 
+# What stands behind the name of a program that is linked dynamically (tools/link.py).
+DYNAMIC = "-dynamic"
+
 # How many runs after the last refusal of memory have to be as with ample memory.
 QUIET = 10
 
@@ -76,8 +79,14 @@ def refuses_each(shim, run, is_refused, what):
         true(refused > 0, f"{what}: no growth was refused")
 
 
+def dynamic(program):
+    """The program of the same object that is linked dynamically, if it stands beside."""
+    beside = f"{program}{DYNAMIC}"
+    return beside if os.path.isfile(beside) else program
+
+
 class Folder:
-    """A folder of modulefiles, with a copy of the program that any user may run."""
+    """A folder of modulefiles, with copies of the program that any user may run."""
 
     def __init__(self, program):
         if not os.path.isfile(program):
@@ -85,8 +94,10 @@ class Folder:
         self.path = os.fsencode(tempfile.mkdtemp(prefix="modulecmd-"))
         os.chmod(self.path, 0o755)
         self.program = os.path.join(self.path, b"modulecmd")
-        shutil.copy(program, self.program)
-        os.chmod(self.program, 0o755)
+        self.dynamic = os.path.join(self.path, b"modulecmd-dynamic")
+        for source, place in ((program, self.program), (dynamic(program), self.dynamic)):
+            shutil.copy(source, place)
+            os.chmod(place, 0o755)
         self.modules = os.path.join(self.path, b"m")
         os.mkdir(self.modules)
 
@@ -122,7 +133,8 @@ class Folder:
         close=(), most=None, user=None,
     ):  # fmt: skip
         """Runs the program, which reads what is given, if something is. `close` holds the numbers of the streams that
-        are closed before, and a file takes `most` bytes and then fails."""
+        are closed before, and a file takes `most` bytes and then fails. With a library that goes before the C library's
+        the dynamically linked program is run, since the other one has its C library in itself."""
 
         def prepare():
             for number in close:
@@ -132,11 +144,12 @@ class Folder:
                 resource.setrlimit(resource.RLIMIT_FSIZE, (most, most))
 
         options = {"stdin": stdin} if given is None else {"input": given}
+        env = self.environment() if env is None else env
         if user is not None and os.geteuid() == 0:
             options.update(user=user, group=user, extra_groups=[])
         done = subprocess.run(
-            [self.program, *[os.fsencode(word) for word in words]],
-            env=self.environment() if env is None else env,
+            [self.dynamic if b"LD_PRELOAD" in env else self.program, *[os.fsencode(word) for word in words]],
+            env=env,
             stdout=stdout,
             stderr=stderr,
             preexec_fn=prepare if close or most is not None else None,

@@ -13,12 +13,16 @@ import re
 import shutil
 import subprocess
 import sys
+import tempfile
 
 from times import Sampler, children_seconds, table
 
 HERE = os.path.dirname(os.path.abspath(__file__))
 TOP = os.path.dirname(HERE)
 BUILT = os.path.join(TOP, "build", "bin")
+sys.path.append(os.path.join(TOP, "tools"))
+
+import link  # noqa: E402
 COUNTS = re.compile(r"(\d+) passed, (\d+) failed")
 
 # What the gate leaves in the folder out/ of a crate, by the name that the tests outside it know it by.
@@ -54,6 +58,7 @@ SUITES = (
     ("tcl/scripts.py", "cases_tcl"),
     ("tcl/commands.py", ""),
     ("tcl/memory.py", "cases_tcl"),
+    ("package.py", "modulecmd"),
     ("runs.py", ""),
 )
 
@@ -92,8 +97,48 @@ def gate():
     os.makedirs(BUILT, exist_ok=True)
     for name in PROGRAMS:
         if os.path.exists(left_by_the_gate(name)):
-            shutil.copy(left_by_the_gate(name), os.path.join(BUILT, name))
+            take(name)
     return counts
+
+
+def take(name):
+    """Puts a program that the gate left into build/bin."""
+    linked = left_by_the_gate(name)
+    if name not in link.PRODUCT:
+        shutil.copy(linked, os.path.join(BUILT, name))
+        return
+    kit = os.path.dirname(subprocess.check_output(["rt", "doc"], text=True).strip())
+    link.leave(kit, linked, object_of(kit, name), BUILT, name)
+
+
+def object_of(kit, name):
+    """The object that the gate linked a program from, or nothing: one whose link by the kit is that program byte for byte.
+    A gate that takes the program from an earlier one leaves none; then it is kept, or made anew."""
+    linked, kept = left_by_the_gate(name), link.kept_object(TOP, name)
+    with tempfile.TemporaryDirectory(prefix="modulecmd-link-") as room:
+        for made in (f"{linked}.o", kept):
+            if os.path.exists(made) and link.is_made_of(kit, linked, made, room):
+                break
+        else:
+            made = os.path.join(room, "made.o")
+            if not make_object(kit, name, made) or not link.is_made_of(kit, linked, made, room):
+                return None
+        if made != kept:
+            link.keep(made, TOP, name)
+    return kept
+
+
+def make_object(kit, name, made):
+    """Has the prover make a program's object anew over the gate's libraries, and gives whether it did."""
+    sys.path.append(os.path.join(kit, "bin"))
+    import rtlib  # (the kit's own module: it knows the words that a crate is proved with)
+
+    crate = next(it for it in rtlib.crates_below(TOP) if it.name == PROGRAMS[name][0])
+    words = [rtlib.RATTLE, "build", *crate.words(["--jobs", "1"], keeps=False)]
+    words += ["--toolchain", f"{kit}/toolchain", "--backend", "llvm", "-o", made]
+    print(f"== the gate left no object of {name}, so it is made anew", flush=True)
+    done = subprocess.run(words, cwd=crate.folder, stdin=subprocess.DEVNULL, capture_output=True, check=False)
+    return done.returncode == 0
 
 
 def suite(script, program, words):

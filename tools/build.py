@@ -26,6 +26,7 @@ TOP = os.path.dirname(os.path.dirname(os.path.abspath(__file__)))
 KIT = os.path.dirname(subprocess.run(["rt", "doc"], stdout=subprocess.PIPE, text=True, check=True).stdout.strip())
 sys.path.insert(0, os.path.join(KIT, "bin"))
 
+import link  # noqa: E402
 import rtlib  # noqa: E402  (the kit's own module: it knows the words that a crate is proved with)
 
 # The crates of the product's programs, and the programs whose name is not that of their crate.
@@ -113,12 +114,12 @@ class Work:
         """The words for the prover. The crates above a library load its statements and not its proofs."""
         words = [rtlib.RATTLE, "build", *self.crate.words(["--jobs", str(jobs)], keeps=False)]
         if self.crate.is_program:
-            return [*words, "--toolchain", f"{KIT}/toolchain", "--backend", "llvm", "-o", f"{self.made}.o"]
+            return [*words, "--toolchain", f"{KIT}/toolchain", "--backend", "llvm", "-o", self.object_file()]
         return [*words, "--statements", "-o", self.made]
 
-    def link(self):
-        words = [f"{KIT}/bin/rattle-link", "--target", "x86_64-unknown-linux-gnu", "--toolchain", f"{KIT}/toolchain"]
-        return [*words, "-o", self.made, f"{self.made}.o", f"{KIT}/c/libos_c.a", f"{KIT}/c/liblibc_c.a"]
+    def object_file(self):
+        """The object of a program, which is linked."""
+        return f"{self.made}.o"
 
     def run(self, words):
         """Runs a command behind the log, and gives its status."""
@@ -141,7 +142,7 @@ class Work:
             # most likely for want of memory
             status = self.run(self.words(1))
         is_proved = status == 0 and re.search(r"^logic=proved ", rtlib.text_of(self.file("log")), re.M)
-        if not is_proved or (self.crate.is_program and self.run(self.link())):
+        if not is_proved or (self.crate.is_program and self.run(link.kit_link(KIT, self.object_file(), self.made))):
             return False
         # A text that changed in the meantime is proved again the next time.
         if self.source == self.source_sum():
@@ -240,10 +241,14 @@ class Schedule:
 
 
 def leave(work):
-    """Puts a program that was built into build/bin."""
-    name = NAMES.get(work.name, work.name)
-    os.makedirs(os.path.join(TOP, "build", "bin"), exist_ok=True)
-    shutil.copy(work.made, os.path.join(TOP, "build", "bin", name))
+    """Puts a program that was built into build/bin: one of the product linked statically."""
+    name, folder = NAMES.get(work.name, work.name), os.path.join(TOP, "build", "bin")
+    if name in link.PRODUCT:
+        link.leave(KIT, work.made, work.object_file(), folder, name)
+        link.keep(work.object_file(), TOP, name)
+    else:
+        os.makedirs(folder, exist_ok=True)
+        shutil.copy(work.made, os.path.join(folder, name))
     print(f"built build/bin/{name}")
 
 

@@ -1,6 +1,6 @@
 #!/bin/sh
-# Installs, by apt-get, what the example (`demo`), the tests (`test`) or the measurements (`bench`) need, where it is
-# missing, and says so. Without a word: what all three need.
+# Installs, by apt-get, what the static link (`build`), the example (`demo`), the tests (`test`) or the measurements
+# (`bench`) need, where it is missing, and says so. Without a word: what all of them need.
 set -eu
 cd "$(dirname "$0")/.."
 
@@ -21,11 +21,16 @@ need() {
 
 need_for() {
     case $1 in
-        demo)
+        build)
             need python3 python3
+            need gcc cc
+            need libc6-dev /usr/lib/*/libc.a /usr/lib64/libc.a
+            ;;
+        demo)
+            need_for build
             ;;
         test)
-            need python3 python3
+            need_for build
             need dash dash
             need bash bash
             need ksh93u+m ksh93
@@ -36,12 +41,11 @@ need_for() {
             need mandoc mandoc
             need shellcheck shellcheck
             need tcl tclsh
-            need gcc cc
-            need libc6-dev /usr/include/stdlib.h
             ;;
         bench)
-            need python3 python3
+            need_for build
             need valgrind valgrind
+            need strace strace
             need rustc rustc
             need tcl tclsh
             need lua5.3 lua5.3
@@ -61,7 +65,7 @@ need_for() {
             fi
             ;;
         *)
-            echo "deps.sh: $1 is none of demo, test, bench" >&2
+            echo "deps.sh: $1 is none of build, demo, test, bench" >&2
             exit 2
             ;;
     esac
@@ -71,7 +75,6 @@ missing=
 unpacked=
 for part in "${@:-all}"; do
     if test "$part" = all; then
-        need_for demo
         need_for test
         need_for bench
     else

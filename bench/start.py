@@ -1,0 +1,54 @@
+"""What the start of a process costs: instructions in front of `main` and in it, system calls and page faults.
+
+The program that is installed has its C library in itself. The one that stands beside it is made of the same object, and
+the system's loader brings the C library to it, as it does for the native program that reads one file.
+"""
+
+import os
+import re
+import subprocess
+import sys
+
+from instructions import environment, instructions, module
+
+# What stands in front of a line of strace that isn't a call.
+NO_CALL = re.compile(r"^\d+ +(\+\+\+|---)")
+
+
+def system_calls(folder, command, env):
+    """How many calls of the system a command makes."""
+    traced = os.path.join(folder, "traced")
+    words = ["strace", "-f", "-o", traced, *command]
+    subprocess.run(words, env=env, stdin=subprocess.DEVNULL, capture_output=True, check=True)
+    with open(traced, encoding="utf-8", errors="replace") as lines:
+        return sum(not NO_CALL.match(line) for line in lines)
+
+
+def page_faults(command, env):
+    """The least count of pages that the system had to bring, of some runs."""
+    quiet = os.open(os.devnull, os.O_RDWR)
+    counts = []
+    for _ in range(5):
+        actions = [(os.POSIX_SPAWN_DUP2, quiet, place) for place in range(3)]
+        _, status, usage = os.wait4(os.posix_spawn(command[0], command, env, file_actions=actions), 0)
+        if status != 0:
+            sys.exit(f"{command} ended with status {status}")
+        counts.append(usage.ru_minflt)
+    os.close(quiet)
+    return min(counts)
+
+
+def print_start(folder, null, program):
+    """Prints the table, a line for each program."""
+    foo = module(folder, "start/1.0", "setenv FOO on\nprepend-path PATH /opt/foo/bin\n")
+    env, words = environment(folder), ["sh", "load", "start/1.0"]
+    commands = [("native, reads one file", [null, foo]), ("installed: load 1", [program, *words])]
+    if os.path.exists(f"{program}-dynamic"):
+        commands.append(("linked dynamically: load 1", [f"{program}-dynamic", *words]))
+    print("\nThe start of a process:\n")
+    print(f"{'':30}{'before main':>14}{'in main':>12}{'system calls':>14}{'page faults':>13}")
+    for title, command in commands:
+        total = instructions(folder, command, env)
+        within = instructions(folder, command, env, "--toggle-collect=main")
+        calls, faults = system_calls(folder, command, env), page_faults(command, env)
+        print(f"{title:30}{total - within:14,}{within:12,}{calls:14,}{faults:13,}", flush=True)

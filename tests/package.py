@@ -1,0 +1,417 @@
+"""The packages, installed as on a machine without the toolchain.
+
+    package.py PROGRAM
+
+makes the packages over the programs that stand beside PROGRAM. What takes root runs by chroot in a folder of copies of
+shells and utilities, which is also the root that dpkg is told: nothing outside of the folder is touched. Without root
+these cases aren't run.
+"""
+
+import contextlib
+import glob
+import os
+import re
+import shutil
+import stat
+import subprocess
+import sys
+import tempfile
+
+from harness import SECONDS, case, run_all, same, true
+
+HERE = os.path.dirname(os.path.abspath(__file__))
+TOP = os.path.dirname(HERE)
+
+# Where the product stands: of an archive, and of Debian's package, with its site's file.
+PREFIX = "/opt/modulecmd"
+DEBIAN = "/usr/lib/modulecmd"
+OWN = "/etc/modulecmd/modulespath"
+
+# What a machine has: shells, utilities for start-up files and for what is installed, and what zsh and fish read.
+SHELLS = ("dash", "bash", "zsh", "tcsh", "fish")
+UTILITIES = """awk basename cat chmod cmp cp cut date dirname env grep head id less ln ls mkdir mktemp mv od readlink rm
+    rmdir sed sort stty tail tee test touch tr uname uniq wc""".split()
+DATA = ("/usr/share/fish/*.fish", "/usr/share/fish/functions", "/usr/lib/*/zsh")
+FOLDERS = """usr/bin usr/lib usr/lib64 dev tmp root opt modules/foo etc/zsh etc/fish/conf.d var/lib/dpkg/info
+    var/lib/dpkg/updates""".split()
+
+# Folders that other packages have, so that dpkg doesn't remove them.
+OF_OTHERS = ("etc/profile.d", "etc/csh/cshrc.d", "usr/share/fish/vendor_conf.d", "usr/share/doc", "usr/share/man/man1")
+LIBRARY = re.compile(r"(/\S+) \(0x")
+
+# The utilities that install.sh and the init files take.
+FEW = "cat chmod cmp cp dirname mkdir mv rm rmdir sed sh".split()
+
+# What shells read at a login: Debian's, without what the owner of this machine added.
+PROFILE = """PATH=/usr/bin:/bin
+for i in /etc/profile.d/*.sh; do
+  if [ -r $i ]; then
+    . $i
+  fi
+done
+unset i
+"""
+CSHRC = """set dir=/etc/csh/cshrc.d
+if (-e $dir && `/bin/ls $dir` != "") then
+  foreach FILE (`/bin/ls $dir/*`)
+    source $FILE;
+  end;
+endif
+"""
+
+# The links of a site that installs an archive, and the file that each leads to.
+LINKS = {
+    "/etc/profile.d/modulecmd.sh": "profile.sh",
+    "/etc/csh/cshrc.d/modulecmd.csh": "profile.csh",
+    "/etc/fish/conf.d/modulecmd.fish": "fish",
+}
+
+# The only modulefile, and what a shell shows of a load and an unload of it, and how it shows it.
+FOO = "#%Module\nsetenv FOO on\nprepend-path PATH /opt/foo/bin\n"
+SHOWN = "on /opt/foo/bin:/usr/bin:/bin\n/usr/bin:/bin gone\n"
+IN_SH = "module load foo; echo $FOO $PATH; module unload foo; echo $PATH ${FOO-gone}"
+IN_TCSH = "module load foo; echo $FOO $PATH; module unload foo; if (! $?FOO) echo $PATH gone"
+IN_FISH = """module load foo; echo $FOO (string join : $PATH)
+    module unload foo; set -q FOO; or echo (string join : $PATH) gone"""
+
+# How a shell logs in to run it.
+LOGINS = {
+    "sh": ["sh", "-l", "-c", IN_SH],
+    "bash": ["bash", "--login", "-c", IN_SH],
+    "zsh": ["zsh", "--login", "-i", "-c", IN_SH],
+    "tcsh": ["tcsh", "-c", IN_TCSH],
+    "fish": ["fish", "--login", "-c", IN_FISH],
+}
+
+
+def write(path, text):
+    with open(path, "w", encoding="utf-8") as file:
+        file.write(text)
+
+
+def read(path):
+    with open(path, "rb") as file:
+        return file.read()
+
+
+def run(words, root=None, **how):
+    """Runs a command, in a root where one is named, and gives what it wrote and its status."""
+
+    def enter():
+        os.chroot(root)
+        os.chdir("/")
+
+    how = {"capture_output": True, "text": True, "timeout": SECONDS, "check": False, **how}
+    if "input" not in how:
+        how["stdin"] = subprocess.DEVNULL
+    done = subprocess.run(words, preexec_fn=enter if root else None, **how)
+    return done.stdout, done.stderr, done.returncode
+
+
+def goes_well(words, **how):
+    """Runs a command, which says nothing on standard error and ends with status 0."""
+    out, err, status = run(words, **how)
+    same((err, status), ("", 0), " ".join(words))
+    return out
+
+
+class Packages:
+    """The packages of this version, and of one that comes after it."""
+
+    def make(self, room):
+        self.room = room
+        self.version = read(os.path.join(TOP, "VERSION")).decode().strip()
+        self.later = f"{self.version}.1"
+        for version in (self.version, self.later):
+            make(room, version)
+
+    def archive(self, version):
+        return os.path.join(self.room, f"modulecmd-{version}-x86_64-linux.tar.gz")
+
+    def debian(self, version):
+        return os.path.join(self.room, f"modulecmd_{version}_amd64.deb")
+
+
+def make(into, version):
+    goes_well([sys.executable, "-B", os.path.join(TOP, "tools", "package.py"), into, version])
+
+
+@contextlib.contextmanager
+def unpacked(version):
+    """The folder that an archive holds."""
+    with tempfile.TemporaryDirectory(prefix="modulecmd-archive-") as room:
+        goes_well(["tar", "-xzf", PACKAGES.archive(version), "-C", room])
+        (name,) = os.listdir(room)
+        yield os.path.join(room, name)
+
+
+def copy(path, root):
+    """Copies a file of this machine to its place below a root, with the libraries that it names."""
+    libraries, _, _ = run(["ldd", path])
+    for source in [path, *LIBRARY.findall(libraries)]:
+        aim = root + source
+        os.makedirs(os.path.dirname(aim), exist_ok=True)
+        if not os.path.exists(aim):
+            shutil.copy(os.path.realpath(source), aim)
+
+
+class Machine:
+    """A folder that is a root: shells, utilities, start-up files of a system and a modulefile, and nothing else."""
+
+    def lay_out(self, root):
+        self.root = root
+        for name in FOLDERS:
+            os.makedirs(os.path.join(root, name))
+        for name in OF_OTHERS:
+            os.makedirs(os.path.join(root, name))
+            self.write(f"/{name}/.of-others", "")
+        for name in ("bin", "lib", "lib64"):
+            os.symlink(f"usr/{name}", os.path.join(root, name))
+        self.add_files()
+        self.add_programs()
+
+    def add_files(self):
+        self.write("/etc/passwd", "root:x:0:0:root:/root:/bin/bash\n")
+        self.write("/etc/profile", PROFILE)
+        self.write("/etc/csh.cshrc", CSHRC)
+        self.write("/modules/foo/1.0", FOO)
+        self.write("/var/lib/dpkg/status", "")
+        self.write("/var/lib/dpkg/available", "")
+        # (where no device can be made, a file takes what is thrown away)
+        with contextlib.suppress(PermissionError):
+            os.mknod(f"{self.root}/dev/null", stat.S_IFCHR | 0o666, os.makedev(1, 3))
+
+    def add_programs(self):
+        for name in (*SHELLS, *UTILITIES):
+            found = shutil.which(name, path="/usr/bin:/bin")
+            true(found, f"{name} isn't there: `make deps` brings it")
+            path = f"/usr/bin/{os.path.basename(os.path.realpath(found))}"
+            copy(path, self.root)
+            if not os.path.exists(f"{self.root}/usr/bin/{name}"):
+                os.symlink(path, f"{self.root}/usr/bin/{name}")
+        os.symlink("dash", f"{self.root}/usr/bin/sh")
+        for path in [path for pattern in DATA for path in glob.glob(pattern)]:
+            if os.path.isdir(path):
+                shutil.copytree(path, self.root + path)
+            else:
+                copy(path, self.root)
+        for path in glob.glob("/usr/lib/*/zsh/**/*.so", recursive=True):
+            copy(path, self.root)
+
+    def write(self, path, text):
+        write(self.root + path, text)
+
+    def run(self, words, **how):
+        """Runs a command in the machine, in an environment as a login has it."""
+        env = {"PATH": "/usr/bin:/bin", "HOME": "/root", "TERM": "dumb", "MODULEPATH": "/modules"}
+        return run(words, self.root, **{"env": env, **how})
+
+    def dpkg(self, *words):
+        """Has dpkg do something with the machine's packages, and with none of those outside."""
+        command = ["dpkg", f"--root={self.root}", f"--log={self.root}/var/log", *words]
+        _, err, status = run(command)
+        same(status, 0, f"dpkg {' '.join(words)}: {err}")
+
+    def log_in(self, *shells):
+        for shell in shells:
+            same(self.run(LOGINS[shell]), (SHOWN, "", 0), f"a login of {shell}")
+
+    def listing(self):
+        """Every path, but for what dpkg knows, and what shells write of their own."""
+        found = set()
+        for at, folders, files in os.walk(self.root):
+            found |= {os.path.join(at, name)[len(self.root) :] for name in [*folders, *files]}
+        return {path for path in found if not path.startswith(("/var/", "/root/"))}
+
+    @contextlib.contextmanager
+    def is_as_before(self):
+        """What is done within leaves nothing behind."""
+        before = self.listing()
+        yield
+        same(sorted(self.listing() ^ before), [], "what is left, or was taken away")
+
+
+PACKAGES, MACHINE = Packages(), Machine()
+
+
+def case_of_the_machine(function):
+    """Adds a case that takes root."""
+    return case(function) if os.geteuid() == 0 else function
+
+
+@case
+def the_same_tree_gives_the_same_packages(folder):
+    place = folder.path.decode()
+    make(place, PACKAGES.version)
+    for path in (PACKAGES.archive(PACKAGES.version), PACKAGES.debian(PACKAGES.version)):
+        true(read(path) == read(os.path.join(place, os.path.basename(path))), f"{os.path.basename(path)} is the same")
+
+
+@case
+def an_archive_is_installed_by_a_shell_and_few_utilities(folder):
+    place = folder.path.decode()
+    tools, prefix = os.path.join(place, "bin"), os.path.join(place, "a place")
+    os.mkdir(tools)
+    for name in FEW:
+        os.symlink(shutil.which(name), os.path.join(tools, name))
+    own, env = os.path.join(prefix, "etc/modulespath"), {"PATH": tools, "MODULEPATH": os.path.join(place, "m")}
+    folder.module("foo/1.0", "setenv FOO on\n")
+    line = f". '{prefix}/init/sh'; module load foo; echo $FOO; module unload foo; echo ${{FOO-gone}}"
+    with unpacked(PACKAGES.version) as archive:
+        install = ["/bin/sh", os.path.join(archive, "install.sh")]
+        goes_well([*install, prefix], env=env)
+        same(goes_well(["/bin/sh", "-c", line], env=env), "on\ngone\n", "a load and an unload")
+        write(own, "/site\n")
+        goes_well([*install, prefix], env=env)
+        same(read(own), b"/site\n", "the site's file after an upgrade")
+        goes_well([*install, "--uninstall", prefix], env=env)
+    left = [os.path.join(at, name) for at, _, names in os.walk(prefix) for name in names]
+    same(left, [own], "what uninstalling leaves")
+
+
+@case
+def install_sh_refuses_what_it_cannot_do(folder):
+    with unpacked(PACKAGES.version) as archive:
+        for words in (["relative"], ["/a'b"], ["/"], [""], ["--nope"], ["/a", "/b"]):
+            out, err, status = run(["/bin/sh", os.path.join(archive, "install.sh"), *words])
+            true(status != 0 and err and not out, f"install.sh {words}: found {(out, err, status)}")
+
+
+@case
+def shellcheck_has_nothing_to_say_of_install_sh(folder):
+    same(run(["shellcheck", os.path.join(TOP, "package", "install.sh")]), ("", "", 0), "shellcheck")
+
+
+@case
+def lintian_finds_no_errors(folder):
+    if not shutil.which("lintian"):
+        print("not run: lintian isn't installed")
+        return
+    out, err, status = run(["lintian", "--allow-root", "--fail-on", "error", PACKAGES.debian(PACKAGES.version)])
+    same(status, 0, f"lintian: {out}{err}")
+
+
+@case_of_the_machine
+def the_program_runs_alone_in_an_empty_root(folder):
+    alone = os.path.join(folder.path.decode(), "alone")
+    os.makedirs(os.path.join(alone, "m/foo"))
+    write(os.path.join(alone, "m/foo/1.0"), FOO)
+    with unpacked(PACKAGES.version) as archive:
+        shutil.copy(os.path.join(archive, "bin/modulecmd"), alone)
+    env = {"MODULEPATH": "/m", "PATH": "/usr/bin:/bin"}
+    out, err, status = run(["/modulecmd", "sh", "load", "foo"], alone, env=env)
+    same((err, status), ("", 0), "a load")
+    wanted = ["FOO='on'; export FOO;", "PATH='/opt/foo/bin:/usr/bin:/bin'; export PATH;"]
+    same([line for line in out.splitlines() if line.startswith(("FOO", "PATH"))], wanted, "what it prints")
+
+
+@case_of_the_machine
+def shells_log_in_by_the_links_of_an_archive(folder):
+    with MACHINE.is_as_before(), unpacked(PACKAGES.version) as archive:
+        shutil.copytree(archive, f"{MACHINE.root}/tmp/archive")
+        _, err, status = MACHINE.run(["sh", "/tmp/archive/install.sh", PREFIX])
+        same((err, status), ("", 0), "install.sh")
+        for place, aim in LINKS.items():
+            os.symlink(f"{PREFIX}/init/{aim}", MACHINE.root + place)
+        MACHINE.write("/etc/zsh/zshrc", f". {PREFIX}/init/zsh\n")
+        MACHINE.log_in(*LOGINS)
+        for place in (*LINKS, "/etc/zsh/zshrc"):
+            os.remove(MACHINE.root + place)
+        _, err, status = MACHINE.run(["sh", "/tmp/archive/install.sh", "--uninstall", PREFIX])
+        same((err, status), ("", 0), "install.sh --uninstall")
+        shutil.rmtree(f"{MACHINE.root}/tmp/archive")
+
+
+@case_of_the_machine
+def shells_log_in_by_the_links_of_debian_s_package(folder):
+    with MACHINE.is_as_before():
+        MACHINE.dpkg("-i", PACKAGES.debian(PACKAGES.version))
+        MACHINE.log_in("sh", "bash", "tcsh", "fish")
+        MACHINE.write("/etc/zsh/zshrc", f". {DEBIAN}/init/zsh\n")
+        MACHINE.log_in("zsh")
+        os.remove(f"{MACHINE.root}/etc/zsh/zshrc")
+        out, err, _ = MACHINE.run(["modcheck", "sh"], input="load foo\nunload foo\n")
+        true("foo/1.0: Plain" in out + err, f"modcheck: found {out}{err}")
+        MACHINE.dpkg("-P", "modulecmd")
+
+
+@case_of_the_machine
+def removing_debian_s_package_keeps_the_site_s_file_and_purging_takes_it(folder):
+    env = {"PATH": "/usr/bin:/bin", "HOME": "/root"}
+    with MACHINE.is_as_before():
+        before = MACHINE.listing()
+        MACHINE.dpkg("-i", PACKAGES.debian(PACKAGES.version))
+        MACHINE.write(OWN, "/modules\n")
+        same(MACHINE.run(LOGINS["bash"], env=env), (SHOWN, "", 0), "a login by the site's directories")
+        MACHINE.dpkg("-r", "modulecmd")
+        same(MACHINE.listing() - before, {os.path.dirname(OWN), OWN}, "what removing leaves")
+        MACHINE.dpkg("-P", "modulecmd")
+
+
+@contextlib.contextmanager
+def session(root, env):
+    """A bash that has logged in, and takes a line at a time."""
+
+    def enter():
+        os.chroot(root)
+        os.chdir("/")
+
+    streams = {"stdin": subprocess.PIPE, "stdout": subprocess.PIPE, "stderr": subprocess.STDOUT}
+    with subprocess.Popen(["bash", "--login"], env=env, preexec_fn=enter, text=True, **streams) as shell:
+
+        def answer(line):
+            shell.stdin.write(f"{line}\n")
+            shell.stdin.flush()
+            return shell.stdout.readline()
+
+        yield answer
+        shell.stdin.close()
+        same(shell.stdout.read(), "", "what the session says at its end")
+
+
+@case_of_the_machine
+def an_upgrade_keeps_the_site_s_file_and_sessions_go_on(folder):
+    with MACHINE.is_as_before():
+        MACHINE.dpkg("-i", PACKAGES.debian(PACKAGES.version))
+        MACHINE.write(OWN, "# ours\n/modules\n")
+        with session(MACHINE.root, {"PATH": "/usr/bin:/bin", "HOME": "/root"}) as answer:
+            same(answer("module load foo; echo $FOO $PATH"), "on /opt/foo/bin:/usr/bin:/bin\n", "a load")
+            MACHINE.dpkg("-i", PACKAGES.debian(PACKAGES.later))
+            true(PACKAGES.later in answer("module --version"), "the later version is there")
+            same(answer("module unload foo; echo $PATH ${FOO-gone}"), "/usr/bin:/bin gone\n", "an unload")
+            same(answer("module load foo; echo $FOO"), "on\n", "another load")
+        same(read(MACHINE.root + OWN), b"# ours\n/modules\n", "the site's file")
+        MACHINE.dpkg("-P", "modulecmd")
+
+
+@case_of_the_machine
+def the_variables_of_a_session_of_the_first_version_are_read(folder):
+    env = {"PATH": "/opt/foo/bin:/usr/bin:/bin", "MODULEPATH": "/modules", "FOO": "on"}
+    env.update(LOADEDMODULES="foo/1.0", _LMFILES_="/modules/foo/1.0")
+    line = f". {DEBIAN}/init/bash; module unload foo; echo $PATH ${{FOO-gone}} ${{LOADEDMODULES-none}}"
+    with MACHINE.is_as_before():
+        MACHINE.dpkg("-i", PACKAGES.debian(PACKAGES.later))
+        same(MACHINE.run(["bash", "-c", line], env=env), ("/usr/bin:/bin gone none\n", "", 0), "an unload")
+        MACHINE.dpkg("-P", "modulecmd")
+
+
+def main():
+    with tempfile.TemporaryDirectory(prefix="modulecmd-package-") as room:
+        os.chmod(room, 0o755)
+        try:
+            PACKAGES.make(room)
+            if os.geteuid() == 0:
+                MACHINE.lay_out(os.path.join(room, "machine"))
+            else:
+                print("not run: what is installed in a root of its own, since that takes root")
+        except Exception as found:
+            print(f"FAILED: there are no packages, or no root to install them in: {found}")
+            print("package: 0 passed, 1 failed")
+            return 1
+        passed, failed = run_all(sys.argv[1])
+    print(f"package: {passed} passed, {failed} failed")
+    return 1 if failed else 0
+
+
+if __name__ == "__main__":
+    sys.exit(main())

@@ -1,0 +1,96 @@
+"""Links programs of the product, and leaves them in a folder.
+
+The prover's build gives an object. Linked statically by the system's compiler it starts in a third of the instructions,
+and asks the machine where it runs for no C library. The kit's own link of the same object, which is dynamic, is left
+beside it for the tests that put a library before the C library's.
+"""
+
+import os
+import shutil
+import struct
+import subprocess
+
+# The programs of the product, by the names that they are installed by.
+PRODUCT = ("modulecmd", "modcheck")
+
+# What stands behind the name of the dynamically linked program.
+DYNAMIC = "-dynamic"
+
+# The kind of an ELF segment that names a loader.
+PT_INTERP = 3
+
+
+def is_static(program):
+    """Whether a program is an ELF file that names no loader."""
+    with open(program, "rb") as file:
+        head = file.read(64)
+        if len(head) < 64 or head[:5] != b"\x7fELF\x02":
+            return False
+        (start,), (size, count) = struct.unpack_from("<Q", head, 32), struct.unpack_from("<HH", head, 54)
+        file.seek(start)
+        table = file.read(size * count)
+    return all(struct.unpack_from("<I", table, size * place)[0] != PT_INTERP for place in range(count))
+
+
+def kit_link(kit, made, program):
+    """The words that link an object as the kit does."""
+    words = [f"{kit}/bin/rattle-link", "--target", "x86_64-unknown-linux-gnu", "--toolchain", f"{kit}/toolchain"]
+    return [*words, "-o", program, made, *libraries(kit)]
+
+
+def libraries(kit):
+    """The kit's own C, which any program of Rattle stands on."""
+    return [f"{kit}/c/libos_c.a", f"{kit}/c/liblibc_c.a"]
+
+
+def link_statically(kit, made, program):
+    """Links an object by the system's compiler and C library, and gives what is in the way, or nothing."""
+    if not shutil.which("cc"):
+        return "there is no cc"
+    flags = ["-static", "-Wl,--gc-sections", "-Wl,-z,relro,-z,now,-z,noexecstack"]
+    words = ["cc", *flags, "-o", program, made, *libraries(kit)]
+    done = subprocess.run(words, stdin=subprocess.DEVNULL, capture_output=True, text=True, check=False)
+    if done.returncode:
+        return (done.stderr.strip().splitlines() or ["cc failed"])[-1]
+    return None if is_static(program) else "cc doesn't link statically"
+
+
+def is_made_of(kit, linked, made, room):
+    """Whether the kit's link of this object is that program, byte for byte."""
+    again = os.path.join(room, "again")
+    words = kit_link(kit, made, again)
+    done = subprocess.run(words, stdin=subprocess.DEVNULL, capture_output=True, check=False)
+    if done.returncode:
+        return False
+    with open(again, "rb") as one, open(linked, "rb") as other:
+        is_same = one.read() == other.read()
+    os.remove(again)
+    return is_same
+
+
+def leave(kit, linked, made, folder, name):
+    """Puts a program into a folder: linked statically, and the kit's link of the same object beside it. Where one can't
+    be linked so, or there is no object, the kit's link takes its place, and a line says why."""
+    os.makedirs(folder, exist_ok=True)
+    place = os.path.join(folder, name)
+    new = f"{place}.new"
+    shutil.copy(linked, f"{place}{DYNAMIC}.new")
+    os.replace(f"{place}{DYNAMIC}.new", f"{place}{DYNAMIC}")
+    why = link_statically(kit, made, new) if made and os.path.exists(made) else "its object isn't there"
+    if why:
+        shutil.copy(linked, new)
+        print(f"{name} is linked dynamically: {why}", flush=True)
+    os.replace(new, place)
+
+
+def kept_object(top, name):
+    """Where the object of a program is kept, out of reach of the gate, which empties the crates' folders out/."""
+    return os.path.join(top, "build", "objects", f"{name}.o")
+
+
+def keep(made, top, name):
+    """Keeps the object of a program."""
+    kept = kept_object(top, name)
+    os.makedirs(os.path.dirname(kept), exist_ok=True)
+    shutil.copy(made, f"{kept}.new")
+    os.replace(f"{kept}.new", kept)
