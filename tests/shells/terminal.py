@@ -175,7 +175,7 @@ def add(shell, prefixes):
             (
                 ("module avail", b"No module is in the directories of MODULEPATH: " + folder.modules),
                 ("module avail 'gcc*'", b'"avail" takes the beginnings of names'),
-                ("ml avail --terse", b"no patterns and no options."),
+                ("ml avail --terse z", b"capitals as they are; no patterns."),
                 (f"{unset}; module avail", b"No MODULEPATH is set."),
                 ("module avail x", b"No MODULEPATH is set."),
             )
