@@ -69,6 +69,7 @@ def main():
             ways.add(shell, prefixes)
             added.add(shell, prefixes)
             terminal.add(shell, prefixes)
+            terminal.add_added(shell, prefixes)
         if len(sys.argv) > 2:
             CASES[:] = [function for function in CASES if sys.argv[2] in function.__name__]
         passed, failed = run_all(sys.argv[1])
