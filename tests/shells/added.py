@@ -2,11 +2,12 @@
 
 import glob
 import os
+import re
 import resource
 import signal
 import subprocess
 
-from harness import NOBODY, SECONDS, case, encoded, same
+from harness import NOBODY, SECONDS, case, encoded, same, true
 from sessions import LINES, MARKS, changed, same_environment
 from shells import OWN, content
 from texts import text, word
@@ -304,6 +305,14 @@ class Changes:
         return path
 
 
+# What the programs of libexec are made of.
+SCRIPTS = ("changes", "report", "suggest")
+
+
+def content_of(here, name):
+    return content(os.path.join(here.prefix, "libexec", name)).decode()
+
+
 # What no collection is, and what is said of it.
 NO_COLLECTIONS = (
     ("module purge\n", "line 1: it is neither `module use' nor `module load' with words"),
@@ -487,6 +496,29 @@ def add_changes(prefixes):
         here.answers(["savelist"], err="c\ndefault\n")
         here.answers(["saverm", "c"])
         here.answers(["avail", "-L"], err=f"{start}:\nfoo/1\n", program="report")
+
+    @case
+    def variables_of_the_user_stay_what_they_are(folder):
+        """Whatever name a variable of the scripts has, that of the user is what the program and modulefiles see."""
+        here = Changes(folder, prefixes)
+        names = sorted(set(re.findall(r"\b([a-z_]+)=", "".join(content_of(here, name) for name in SCRIPTS))))
+        names = [name for name in names if not name.startswith("_module_")]
+        true(len(names) > 20, f"the variables {names}")
+        lines = "".join(f"append-path {name} /m/{name}\n" for name in names)
+        folder.module("foo/1", lines + f'module-whatis "$env({names[0]}) $env({names[-1]}) [getenv report] [getenv names]"\n')
+        here.file("c", "module load foo\n")
+        here.env.update({name.encode(): b"/user" for name in names})
+        wanted = {name: f"/user:/m/{name}" for name in names}
+        path = folder.modules.decode() + "/foo/1"
+        lists = {"LOADEDMODULES": "foo/1", "_LMFILES_": path}
+        here.answers(["restore", "c"], out=text("sh", {**wanted, **lists}).decode())
+        said = "foo/1: /user /user /user /user\n"
+        here.answers(["whatis"], err=said, program="report")
+        here.answers(["keyword", "USER"], err=said, program="report")
+        here.answers(["whatis", "foo"], err=said, program="report")
+        here.env.update({name.encode(): value.encode() for name, value in {**wanted, **lists}.items()})
+        here.answers(["reload"], out=text("sh", {**dict.fromkeys(names, "/user"), **dict.fromkeys(lists)}).decode()
+                     + text("sh", {**wanted, **lists}).decode())
 
     @case
     def a_heading_of_several_lines_names_no_module(folder):
