@@ -1,4 +1,4 @@
-"""What the function adds to the program: directories of MODULEPATH, collections, reload, and reports made of reports."""
+"""What the function adds to the program: directories of MODULEPATH, collections, reload, reports of reports."""
 
 import glob
 import os
@@ -148,7 +148,7 @@ def add(shell, prefixes):
         file = os.path.join(here.home, ".config/modulecmd/default")
         shown = f"module use --append {start}\nmodule load foo/1.0\nmodule load bar/1\n"
         # What bar says, it says in a load and in an unload.
-        said = "a bar\ndefault\n" + other + "\na bar\na bar\na bar\na bar\na bar\na bar\ndefault\n" + f"{file}:\n{shown}"
+        said = "a bar\ndefault\n" + other + "\n" + 6 * "a bar\n" + "default\n" + f"{file}:\n{shown}"
         kept = here.keeps([*lines, "module saveshow", "status"], said)
         same(kept.statuses, ["0"] * 6, "the statuses")
         before, first, second, again, other_one, last = kept.shown
@@ -201,7 +201,8 @@ def add(shell, prefixes):
         here.module("b/1", "prereq a\nprepend-path MODULEPATH /b\n")
         with open(os.path.join(here.top, "later"), "w") as file:
             file.write("#%Module\nsetenv A 2\n")
-        lines = ["show", *step("module reload"), *step("module load a b"), f"/bin/cp {here.top}/later {here.paths['a/1']}"]
+        later = f"/bin/cp {here.top}/later {here.paths['a/1']}"
+        lines = ["show", *step("module reload"), *step("module load a b"), later]
         kept = here.keeps([*lines, *step("module reload"), *step("ml reload")])
         same(kept.statuses, ["0"] * 4, "the statuses")
         before, nothing, loaded, first, second = kept.shown
@@ -225,7 +226,8 @@ def add(shell, prefixes):
         ]  # fmt: skip
         lines = [text for line, _ in asked for text in (f"module {line}", "status")]
         kept = here.keeps(lines, "ERROR: Bad arguments\n")
-        same(list(zip([line for line, _ in asked], kept.statuses)), [(it, str(wanted)) for it, wanted in asked], "asked")
+        answers = list(zip([line for line, _ in asked], kept.statuses))
+        same(answers, [(line, str(wanted)) for line, wanted in asked], "the statuses")
 
     @named("reports on standard error away from a terminal")
     def reports(folder):
@@ -239,10 +241,12 @@ def add(shell, prefixes):
         names = [name.replace("(default)", "") for name in all_of_it.split("\n")[1:-1]]
         whatis = "".join(f"{name}: the {name} tool\n" for name in names)
         kept = here.keeps(
-            ["module avail -t", "module avail --default", "module avail -L foo sub", "module avail -d -t foo/1",
-             "module avail -x", "status", "module avail -- -x", "module whatis", "module keyword 'OO/1'", "module apropos BAR/A",
-             "module keyword nope", "status", "module keyword", "status", "module use", "module list --terse",
-             "module load foo", "module list -t", "status"],
+            [
+                "module avail -t", "module avail --default", "module avail -L foo sub", "module avail -d -t foo/1",
+                "module avail -x", "status", "module avail -- -x", "module whatis", "module keyword 'OO/1'",
+                "module apropos BAR/A", "module keyword nope", "status", "module keyword", "status", "module use",
+                "module list --terse", "module load foo", "module list -t", "status",
+            ],
             f"{start}:\n{all_of_it}"
             f"{start}:\nbad/1\nbar/b\nfoo/2(default)\nsub/x/2\ntop\n"
             f"{start}:\nfoo/10\nsub/x/2\n"
@@ -505,7 +509,8 @@ def add_changes(prefixes):
         names = [name for name in names if not name.startswith("_module_")]
         true(len(names) > 20, f"the variables {names}")
         lines = "".join(f"append-path {name} /m/{name}\n" for name in names)
-        folder.module("foo/1", lines + f'module-whatis "$env({names[0]}) $env({names[-1]}) [getenv report] [getenv names]"\n')
+        asked = f"$env({names[0]}) $env({names[-1]}) [getenv report] [getenv names]"
+        folder.module("foo/1", lines + f'module-whatis "{asked}"\n')
         here.file("c", "module load foo\n")
         here.env.update({name.encode(): b"/user" for name in names})
         wanted = {name: f"/user:/m/{name}" for name in names}

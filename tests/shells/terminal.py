@@ -369,7 +369,8 @@ def add_added(shell, prefixes):
         shows(at, "module avail", b"\x1b[1m" + folder.modules + heading, row + b"\r\n")
         shows(at, "module avail -L top", b"\r\ntop\r\n")
         shows(at, "module avail -t mpi", folder.modules + b":\r\nmpi/1\r\n")
-        shows(at, "module load mpi top; module list", b"\x1b[1mCurrently Loaded Modulefiles" + heading, b"mpi/1  top\r\n")
+        title = b"\x1b[1mCurrently Loaded Modulefiles" + heading
+        shows(at, "module load mpi top; module list", title, b"mpi/1  top\r\n")
         plain = b"".join(cell.replace(mark, b"(default)").ljust(17) for cell in cells).rstrip()
         shows(at, sets("NO_COLOR", "1") + "; module avail", folder.modules + b":\r\n" + plain + b"\r\n")
         at.settle(0.1)
@@ -420,7 +421,8 @@ def add_added(shell, prefixes):
         both = ">&" if shell.family == "csh" else "2>"
         at.send(f"module load mp {both} '{place}/said'; echo done > '{place}/done'\n")
         at.until(lambda: content(os.path.join(place, "done")) == b"done\n", "the end of the load")
-        same(content(os.path.join(place, "said")), b"ERROR: Unable to locate a modulefile for 'mp'\n", "what a file has")
+        error = b"ERROR: Unable to locate a modulefile for 'mp'\n"
+        same(content(os.path.join(place, "said")), error, "what a file has")
         at.close()
 
     @named("pipes what is added")
