@@ -33,15 +33,15 @@ need_for() {
             need zsh zsh
             need tcsh tcsh
             need csh bsd-csh
-            need fish fish
-            need mandoc mandoc
-            need shellcheck shellcheck
             need less less
-            need tcl tclsh
             # What the function adds is tried beside it.
             if test ! -e /usr/share/modules/init/sh && test ! -e build/bench/environment-modules; then
                 unpacked=environment-modules
             fi
+            need fish fish
+            need mandoc mandoc
+            need shellcheck shellcheck
+            need tcl tclsh
             need gcc cc
             need libc6-dev /usr/include/stdlib.h
             ;;

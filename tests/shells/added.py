@@ -464,6 +464,9 @@ def add_changes(prefixes):
                 else:
                     wanted = (text(family, {"MODULEPATH": path}), b"", 0)
                 same(found, wanted, f"what use writes for {shell}")
+            relative = "a\\b:'q:!r\\:'\\s!:\\:!'"
+            found = here.run(shell, "use", "/", env={"MODULEPATH": relative})
+            same(found, (text(family, {"MODULEPATH": f"/:{relative}"}), b"", 0), f"what use writes for {shell}")
 
     @case
     def directories_that_no_modulepath_can_hold_are_refused(folder):
