@@ -444,3 +444,47 @@ def add_added(shell, prefixes):
             same(content(kept), wanted, f"what `{line}` pipes")
             at.settle(0.1)
         at.close()
+
+    if shell.title not in COMPLETES:
+        return
+
+    @named("completes what is added")
+    def completes_added(folder):
+        config = os.path.join(folder.path, b"home/.config/modulecmd").decode()
+        os.makedirs(config)
+        for name in ("first", "other"):
+            with open(os.path.join(config, name), "w"):
+                pass
+        at, place = start(folder, HOME=os.path.dirname(os.path.dirname(config)))
+        for line in STARTS.get(shell.title, []):
+            at.send(line + "\n")
+            at.settle()
+        os.mkdir(os.path.join(place, "only"))
+        # What is typed, with a tabulator at its end, and the words that the function is given.
+        typed = [
+            ("module savesh\tfir\t", f"{config}/first:"),
+            ("module is-av\tmp\t nothing", "is-avail mpi/1 nothing"),
+            (f"module unuse {folder.modules.decode()[:-1]}\t nothing", f"unuse {folder.modules.decode()} nothing"),
+            *([("module use on\t nothing", "use only nothing")] if shell.title != "tcsh" else []),
+        ]
+        echo = {"sh": "module() {{ echo \"$@\" > {0}; }}", "csh": "alias module 'echo \\!* > {0}'"}
+        echo["fish"] = "function module; echo $argv > {0}; end"
+        for number, (keys, wanted) in enumerate(typed):
+            kept = os.path.join(place, f"typed.{number}")
+            if number > 0:
+                at.send(echo[shell.family].format(kept) + "\n")
+                at.settle(0.2)
+            for part in keys.split("\t")[:-1]:
+                at.send(part)
+                at.settle(0.1)
+                at.send("\t")
+                at.settle(0.3)
+            at.send(keys.split("\t")[-1] + "\n")
+            if number == 0:
+                at.until(lambda wanted=wanted: wanted.encode() in at.seen, f"what {keys!r} shows")
+                continue
+            at.until(lambda kept=kept: content(kept).endswith(b"\n"), f"the words of {keys!r}")
+            # zsh takes the slash of a directory away where a blank follows.
+            words = content(kept).decode().replace("only/", "only").split()
+            same(" ".join(words), wanted, f"the words of {keys!r}")
+        at.close()
