@@ -230,6 +230,16 @@ class Machine:
         yield
         same(sorted(self.listing() ^ before), [], "what is left, or was taken away")
 
+    @contextlib.contextmanager
+    def has(self, package):
+        """A package of Debian's is installed within, and purged at the end."""
+        with self.is_as_before():
+            self.dpkg("-i", package)
+            try:
+                yield
+            finally:
+                self.dpkg("-P", "modulecmd")
+
 
 PACKAGES, MACHINE = Packages(), Machine()
 
@@ -324,28 +334,24 @@ def shells_log_in_by_the_links_of_an_archive(folder):
 
 @case_of_the_machine
 def shells_log_in_by_the_links_of_debian_s_package(folder):
-    with MACHINE.is_as_before():
-        MACHINE.dpkg("-i", PACKAGES.debian(PACKAGES.version))
+    with MACHINE.has(PACKAGES.debian(PACKAGES.version)):
         MACHINE.log_in("sh", "bash", "tcsh", "fish")
         MACHINE.write("/etc/zsh/zshrc", f". {DEBIAN}/init/zsh\n")
         MACHINE.log_in("zsh")
         os.remove(f"{MACHINE.root}/etc/zsh/zshrc")
         out, err, _ = MACHINE.run(["modcheck", "sh"], input="load foo\nunload foo\n")
         true("foo/1.0: Plain" in out + err, f"modcheck: found {out}{err}")
-        MACHINE.dpkg("-P", "modulecmd")
 
 
 @case_of_the_machine
 def removing_debian_s_package_keeps_the_site_s_file_and_purging_takes_it(folder):
     env = {"PATH": "/usr/bin:/bin", "HOME": "/root"}
-    with MACHINE.is_as_before():
-        before = MACHINE.listing()
-        MACHINE.dpkg("-i", PACKAGES.debian(PACKAGES.version))
+    before = MACHINE.listing()
+    with MACHINE.has(PACKAGES.debian(PACKAGES.version)):
         MACHINE.write(OWN, "/modules\n")
         same(MACHINE.run(LOGINS["bash"], env=env), (SHOWN, "", 0), "a login by the site's directories")
         MACHINE.dpkg("-r", "modulecmd")
         same(MACHINE.listing() - before, {os.path.dirname(OWN), OWN}, "what removing leaves")
-        MACHINE.dpkg("-P", "modulecmd")
 
 
 @contextlib.contextmanager
@@ -371,8 +377,7 @@ def session(root, env):
 
 @case_of_the_machine
 def an_upgrade_keeps_the_site_s_file_and_sessions_go_on(folder):
-    with MACHINE.is_as_before():
-        MACHINE.dpkg("-i", PACKAGES.debian(PACKAGES.version))
+    with MACHINE.has(PACKAGES.debian(PACKAGES.version)):
         MACHINE.write(OWN, "# ours\n/modules\n")
         with session(MACHINE.root, {"PATH": "/usr/bin:/bin", "HOME": "/root"}) as answer:
             same(answer("module load foo; echo $FOO $PATH"), "on /opt/foo/bin:/usr/bin:/bin\n", "a load")
@@ -381,7 +386,6 @@ def an_upgrade_keeps_the_site_s_file_and_sessions_go_on(folder):
             same(answer("module unload foo; echo $PATH ${FOO-gone}"), "/usr/bin:/bin gone\n", "an unload")
             same(answer("module load foo; echo $FOO"), "on\n", "another load")
         same(read(MACHINE.root + OWN), b"# ours\n/modules\n", "the site's file")
-        MACHINE.dpkg("-P", "modulecmd")
 
 
 @case_of_the_machine
@@ -389,10 +393,8 @@ def the_variables_of_a_session_of_the_first_version_are_read(folder):
     env = {"PATH": "/opt/foo/bin:/usr/bin:/bin", "MODULEPATH": "/modules", "FOO": "on"}
     env.update(LOADEDMODULES="foo/1.0", _LMFILES_="/modules/foo/1.0")
     line = f". {DEBIAN}/init/bash; module unload foo; echo $PATH ${{FOO-gone}} ${{LOADEDMODULES-none}}"
-    with MACHINE.is_as_before():
-        MACHINE.dpkg("-i", PACKAGES.debian(PACKAGES.later))
+    with MACHINE.has(PACKAGES.debian(PACKAGES.later)):
         same(MACHINE.run(["bash", "-c", line], env=env), ("/usr/bin:/bin gone none\n", "", 0), "an unload")
-        MACHINE.dpkg("-P", "modulecmd")
 
 
 def main():

@@ -4,7 +4,7 @@
 
 leaves two files in the folder (build/dist): modulecmd-VERSION-x86_64-linux.tar.gz, whose install.sh lays the product out
 below any prefix, and modulecmd_VERSION_amd64.deb, where there is a dpkg-deb. The same tree gives the same bytes: names
-are sorted, owners are root, and times are SOURCE_DATE_EPOCH, or the last commit's.
+are sorted, owners are root, and times are SOURCE_DATE_EPOCH, or the last commit's, or VERSION's.
 """
 
 import gzip
@@ -71,7 +71,9 @@ def epoch():
         return int(given)
     words = ["git", "-C", TOP, "log", "-1", "--format=%ct"]
     done = subprocess.run(words, capture_output=True, text=True, check=False)
-    return int(done.stdout) if done.returncode == 0 and done.stdout.strip() else 0
+    if done.returncode == 0 and done.stdout.strip():
+        return int(done.stdout)
+    return int(os.stat(os.path.join(TOP, "VERSION")).st_mtime)
 
 
 def maintainer():
