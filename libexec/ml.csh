@@ -6,20 +6,32 @@ if ( $#_module_words == 1 ) set _module_words = ( $_module_words:q list )
 
 switch ( "x$_module_words[2]" )
 case xadd:
+case xapropos:
 case xavail:
 case xdel:
 case xdisplay:
 case xhelp:
 case x--help:
+case xis-avail:
+case xis-loaded:
+case xkeyword:
 case xlist:
 case xload:
 case xpurge:
+case xreload:
 case xremove:
+case xrestore:
 case xrm:
+case xsave:
+case xsavelist:
+case xsaverm:
+case xsaveshow:
 case xshow:
 case xswap:
 case xswitch:
 case xunload:
+case xunuse:
+case xuse:
 case x--version:
 case xwhatis:
     source "@prefix@/libexec/module.csh"

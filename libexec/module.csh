@@ -24,11 +24,28 @@ case xdel:
 case xremove:
     set _module_words[2] = unload
     breaksw
+case xuse:
+    set _module_way = added
+    if ( $#_module_words == 2 ) set _module_way = report
+    breaksw
+case xunuse:
+case xsave:
+case xsaverm:
+case xrestore:
+case xreload:
+    set _module_way = added
+    breaksw
 case xlist:
 case xavail:
 case xshow:
 case xdisplay:
 case xwhatis:
+case xkeyword:
+case xapropos:
+case xsavelist:
+case xsaveshow:
+case xis-loaded:
+case xis-avail:
     set _module_way = report
     breaksw
 endsw
@@ -42,17 +59,23 @@ case report:
     "@prefix@/libexec/report" $_module_words:q
     set _module_status = $status
     breaksw
-case change:
+default:
+    set _module_program = "@prefix@/bin/modulecmd"
+    if ( $_module_way == added ) set _module_program = "@prefix@/libexec/changes"
     # The words are put in by the shell that runs the command, and the double quotes keep every blank of its text.
-    set _module_run = '"@prefix@/bin/modulecmd" $_module_words:q'
+    set _module_run = '$_module_program:q $_module_words:q'
     set _module_text = ( "`$_module_run`" )
     set _module_status = $status
     # The whole text is captured first, and evaluated only where the program accepted.
-    if ( $_module_status == 0 ) eval "$_module_text"
+    if ( $_module_status == 0 ) then
+        eval "$_module_text"
+    else
+        "@prefix@/libexec/suggest" $_module_status $_module_program:q $_module_words:q
+    endif
     breaksw
 endsw
 
-unset _module_words _module_way _module_run _module_text
+unset _module_words _module_way _module_program _module_run _module_text
 if ( $?_module_backslash_quote ) then
     set backslash_quote
     unset _module_backslash_quote

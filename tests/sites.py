@@ -1,18 +1,22 @@
-"""Modulefiles in the styles that sites write them in (the folder sites), loaded, shown and unloaded by the built program.
+"""Modulefiles in the styles of sites (the folder sites), and in the forms of the generators of Spack and EasyBuild (the
+folder generated), loaded, shown and unloaded by the built program.
 
     python3 -B tests/sites.py PROGRAM
 
-The expected values are typed by hand from modulefile(5) and the rules of the program. What a command prints is evaluated by
-sh, and the next command starts from there.
+The expected values are typed by hand from modulefile(5) and the rules of the program; those of the generated forms are
+what Environment Modules 5.2 makes of the same loads. What a command prints is evaluated by sh, and the next command
+starts from there. The verdicts are those of modcheck, which stands beside the program.
 """
 
 import os
+import re
 import shutil
 import subprocess
 import sys
 
 from harness import HERE, SECONDS, case, run_all, same
 
+TOP = os.path.dirname(HERE)
 SH = shutil.which("dash") or "/bin/sh"
 ENV = shutil.which("env")
 OWN = (b"PWD", b"OLDPWD", b"_")
@@ -31,11 +35,11 @@ GCC = {
 
 
 class Site:
-    """The modulefiles of the sites, and an environment that commands change."""
+    """A folder of modulefiles, and an environment that commands change."""
 
-    def __init__(self, folder, **variables):
+    def __init__(self, folder, of="sites", **variables):
         self.folder = folder
-        shutil.copytree(os.path.join(HERE, "sites"), os.fsdecode(folder.modules), dirs_exist_ok=True)
+        shutil.copytree(os.path.join(HERE, of), os.fsdecode(folder.modules), dirs_exist_ok=True)
         self.env = folder.environment(PATH="/usr/bin:/bin", **variables)
         self.start = dict(self.env)
 
@@ -94,6 +98,17 @@ class Site:
     def describes(self, name, *lines):
         report = b"".join(f"{name}: {line}\n".encode() for line in lines)
         self.folder.answers(["sh", "whatis", name], b"", report, 0, env=self.env)
+
+    def judges(self, *names):
+        """What modcheck says of these modules, loaded one after another."""
+        checker = os.path.join(os.path.dirname(os.path.abspath(sys.argv[1])), "modcheck")
+        lines = "".join(f"load {name}\n" for name in names).encode()
+        done = subprocess.run(
+            [checker, "sh"], env=self.env, input=lines, capture_output=True, timeout=SECONDS, check=False
+        )
+        said = done.stderr.decode().splitlines()
+        same(said[: len(names)], [f"{number} accepted" for number in range(1, len(names) + 1)], f"the loads of {names}")
+        return dict(line.split(": ", 1) for line in said[len(names) :])
 
 
 @case
@@ -318,6 +333,150 @@ def plugins_for_the_compiler_that_is_loaded(folder):
     site.unloads("plugins")
     site.unloads("gcc")
     site.is_back()
+
+
+# Files in the forms of generators. The full names are long, so these stand for them.
+
+RUNTIME, ZLIB, OPENMPI, HDF5 = SPACK = (
+    "gcc-runtime/12.3.0-gcc-12.3.0-5qazqnv",
+    "zlib-ng/2.1.6-gcc-12.3.0-7gdnbm2",
+    "openmpi/4.1.6-gcc-12.3.0-lsu5pzp",
+    "hdf5/1.14.3-gcc-12.3.0-ckfkwtv",
+)
+STACK = "/opt/spack/linux-debian12-x86_64_v3/gcc-12.3.0"
+
+
+def loads_all(site, *names):
+    for name in names:
+        site.env = site.accepts(f"load {name}", "")
+
+
+@case
+def files_of_spack_that_name_what_they_need(folder):
+    site = Site(folder, of="generated/spack")
+    site.refuses("load hdf5", f"Missing one of '{RUNTIME}'")
+    loads_all(site, RUNTIME, ZLIB)
+    effects = {
+        "PATH": f"{STACK}/openmpi-4.1.6-lsu5pzp/bin:/usr/bin:/bin",
+        "MANPATH": f"{STACK}/openmpi-4.1.6-lsu5pzp/share/man:",
+        "PKG_CONFIG_PATH": f"{STACK}/openmpi-4.1.6-lsu5pzp/lib/pkgconfig:{STACK}/zlib-ng-2.1.6-7gdnbm2/lib/pkgconfig",
+        "CMAKE_PREFIX_PATH": f"{STACK}/openmpi-4.1.6-lsu5pzp/.:{STACK}/zlib-ng-2.1.6-7gdnbm2/.:"
+        f"{STACK}/gcc-runtime-12.3.0-5qazqnv/.",
+        "OPENMPI_ROOT": f"{STACK}/openmpi-4.1.6-lsu5pzp",
+        "__MODULES_LMCONFLICT": f"{RUNTIME}&gcc-runtime:{ZLIB}&zlib-ng:{OPENMPI}&openmpi",
+        "__MODULES_LMPREREQ": f"{ZLIB}&{RUNTIME}:{OPENMPI}&{RUNTIME}&{ZLIB}",
+    }
+    programs = {"MPICC": "mpicc", "MPICXX": "mpic++", "MPIF77": "mpif77", "MPIF90": "mpif90"}
+    effects.update({name: f"{STACK}/openmpi-4.1.6-lsu5pzp/bin/{end}" for name, end in programs.items()})
+    site.loads(OPENMPI, **effects)
+    loads_all(site, "hdf5")
+    site.refuses("unload openmpi", f"Still needed by '{HDF5}'")
+    site.describes(HDF5, "Files of arrays and tables in folders of their own, written from many processes.")
+    site.env = site.accepts("purge", "")
+    site.is_back()
+    same(site.judges(*SPACK), dict.fromkeys(SPACK, "Plain"), "the verdicts")
+
+
+@case
+def files_of_spack_that_load_others(folder):
+    """The default of Spack is refused; an older form is accepted where what it needs is there."""
+    site = Site(folder, of="generated/spack")
+    loads_all(site, *SPACK)
+    site.refuses("load fftw", "'module' is left out")
+    loads_all(site, "netcdf-c")
+    same(site.env[b"NETCDF_C_ROOT"], f"{STACK}/netcdf-c-4.7.4-d3bgb4w".encode(), "a value of netcdf-c")
+    site.env = site.accepts("purge", "")
+    site.is_back()
+    site.refuses("load netcdf-c", "'module' is left out")
+
+
+@case
+def files_of_spack_that_hide_a_version(folder):
+    site = Site(folder, of="generated/spack")
+    path = folder.file("zlib-ng/.modulerc", f"#%Module4.7\nmodule-hide --soft --hidden-loaded {ZLIB}\n")
+    loads_all(site, RUNTIME)
+    site.refuses("load zlib-ng", f"Bad default file '{os.fsdecode(path)}'")
+    loads_all(site, ZLIB)
+
+
+CORE = "GCCcore/12.3.0"
+ZLIB_OF_CORE = "zlib/1.2.13-GCCcore-12.3.0"
+BINUTILS = "binutils/2.40-GCCcore-12.3.0"
+
+
+@case
+def files_of_easybuild_that_load_what_is_not_there(folder):
+    """They are accepted while what they need is loaded, at the load and at the unload."""
+    site = Site(folder, of="generated/easybuild")
+    site.refuses("load zlib", "'module' is left out")
+    folder.module("zlib/9", "")
+    folder.file("zlib/.version", f"#%Module\nset ModulesVersion {ZLIB_OF_CORE.removeprefix('zlib/')}\n")
+    loads_all(site, "GCCcore", "zlib", "binutils")
+    same(site.env[b"LOADEDMODULES"].decode(), f"{CORE}:{ZLIB_OF_CORE}:{BINUTILS}", "the loaded modules")
+    for name, value in (
+        ("PATH", f"/apps/software/{BINUTILS}/bin:/apps/software/{CORE}/bin:/usr/bin:/bin"),
+        ("CMAKE_LIBRARY_PATH", f"/apps/software/{CORE}/lib64"),
+        ("EBVERSIONBINUTILS", "2.40"),
+        ("EBDEVELBINUTILS", f"/apps/software/{BINUTILS}/easybuild/binutils-2.40-GCCcore-12.3.0-easybuild-devel"),
+    ):
+        same(site.env[name.encode()].decode(), value, name)
+    site.unloads("GCCcore")
+    site.refuses("purge", "'module' is left out")
+    loads_all(site, "GCCcore")
+    site.unloads("binutils zlib GCCcore")
+    site.is_back()
+    site.loads(
+        "EasyBuild/4.9.0",
+        said="EasyBuild 4.9.0 is loaded\n",
+        PATH="/apps/software/EasyBuild/4.9.0/bin:/usr/bin:/bin",
+        PYTHONPATH="/apps/software/EasyBuild/4.9.0/lib/python3.11/site-packages",
+        EBROOTEASYBUILD="/apps/software/EasyBuild/4.9.0",
+        EBVERSIONEASYBUILD="4.9.0",
+        EBDEVELEASYBUILD="/apps/software/EasyBuild/4.9.0/easybuild/EasyBuild-4.9.0-easybuild-devel",
+        EB_PYTHON="python3",
+        __MODULES_LMCONFLICT="EasyBuild/4.9.0&EasyBuild",
+    )
+    site.unloads("EasyBuild")
+    site.is_back()
+
+
+@case
+def files_of_easybuild_that_always_load(folder):
+    site = Site(folder, of="generated/easybuild")
+    loads_all(site, "GCCcore")
+    site.refuses("load bzip2", "'depends-on' is left out")
+    loads_all(site, "XZ")
+    site.refuses("unload XZ", "'module' is left out")
+
+
+def hook_of_the_guide():
+    """The function of docs/SITES.md by which EasyBuild writes other files."""
+    with open(os.path.join(TOP, "docs", "SITES.md"), encoding="utf-8") as file:
+        block = re.search(r"```python\n(.*?)```", file.read(), re.DOTALL)[1]
+    made = {}
+    exec(block, made)  # noqa: S102
+    return made["module_write_hook"]
+
+
+@case
+def files_of_easybuild_through_the_hook_of_the_guide(folder):
+    site = Site(folder, of="generated/easybuild")
+    hook = hook_of_the_guide()
+    bzip2 = "bzip2/1.0.8-GCCcore-12.3.0"
+    for name in (CORE, ZLIB_OF_CORE, BINUTILS, bzip2):
+        path = os.fsdecode(folder.at(name))
+        with open(path, encoding="utf-8") as file:
+            text = file.read()
+        folder.file(name, hook(None, path, text))
+    site.refuses("load binutils", f"Missing one of '{CORE}'")
+    loads_all(site, "GCCcore", "zlib", "binutils", "bzip2")
+    needs = f"{ZLIB_OF_CORE}&{CORE}:{BINUTILS}&{CORE}&{ZLIB_OF_CORE}:{bzip2}&{CORE}"
+    same(site.env[b"__MODULES_LMPREREQ"].decode(), needs, "the needs")
+    site.refuses("unload zlib", f"Still needed by '{BINUTILS}'")
+    site.env = site.accepts("purge", "")
+    site.is_back()
+    names = (CORE, ZLIB_OF_CORE, BINUTILS, bzip2)
+    same(site.judges(*names), dict.fromkeys(names, "Plain"), "the verdicts")
 
 
 def main():

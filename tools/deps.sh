@@ -37,6 +37,12 @@ need_for() {
             need mksh mksh
             need zsh zsh
             need tcsh tcsh
+            need csh bsd-csh
+            need less less
+            # What the function adds is tried beside it.
+            if test ! -e /usr/share/modules/init/sh && test ! -e build/bench/environment-modules; then
+                unpacked=environment-modules
+            fi
             need fish fish
             need mandoc mandoc
             need shellcheck shellcheck

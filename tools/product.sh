@@ -29,10 +29,10 @@ esac
 
 # The files that are put in place with the prefix, and those that can be run.
 files='init/sh init/bash init/ksh init/zsh init/csh init/tcsh init/fish init/profile.sh
-    init/profile.csh libexec/module.csh libexec/ml.csh
+    init/profile.csh libexec/module.csh libexec/ml.csh libexec/collection.awk libexec/listing.awk
     completion/bash completion/_module completion/fish completion/tcsh
     share/man/man1/module.1 share/man/man1/modcheck.1 share/man/man5/modulefile.5 etc/modulespath.example'
-runs='libexec/usage libexec/modulespath libexec/names libexec/report'
+runs='libexec/usage libexec/modulespath libexec/names libexec/report libexec/changes libexec/suggest'
 programs='bin/modulecmd bin/modcheck'
 folders='bin init libexec completion etc share/man/man1 share/man/man5 share/man share'
 

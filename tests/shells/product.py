@@ -25,11 +25,15 @@ FILES = [
     "etc/modulespath",
     "etc/modulespath.example",
     *(f"init/{name}" for name in INIT),
+    "libexec/changes",
+    "libexec/collection.awk",
+    "libexec/listing.awk",
     "libexec/ml.csh",
     "libexec/module.csh",
     "libexec/modulespath",
     "libexec/names",
     "libexec/report",
+    "libexec/suggest",
     "libexec/usage",
     "share/man/man1/modcheck.1",
     "share/man/man1/module.1",
@@ -45,15 +49,21 @@ SCRIPTS = (
     "libexec/names",
     "libexec/modulespath",
     "libexec/report",
+    "libexec/changes",
+    "libexec/suggest",
     "demo/demo.sh",
     ".ci/run",
 )
 
-SUBCOMMAND = re.compile(r"^  ([a-z][a-z, ]*?)(?: [A-Z\[]|  |$)", re.MULTILINE)
+SUBCOMMAND = re.compile(r"^  ([a-z][a-z, -]*?)(?: [A-Z\[]|  |$)", re.MULTILINE)
 SUBCOMMANDS = ("load", "add", "unload", "rm", "switch", "swap", "purge", "list", "avail", "show", "display", "whatis")
 
-# The words that the functions of the shells replace.
+# What the functions of the shells replace, and what they add.
 OF_FUNCTIONS = ("del", "remove", "help")
+ADDED = (
+    "use", "unuse", "save", "restore", "savelist", "saverm", "saveshow", "reload", "is-loaded", "is-avail", "keyword",
+    "apropos",
+)  # fmt: skip
 
 
 def make(*words):
@@ -132,11 +142,11 @@ def the_usage_tells_what_the_program_does(folder):
     usage = ["sh", os.path.join(TOP, "libexec", "usage")]
     text = subprocess.run(usage, capture_output=True, check=True).stdout.decode()
     names = [name for found in SUBCOMMAND.findall(text.split("Subcommands:\n")[1]) for name in found.split(", ")]
-    same(sorted(names), sorted([*SUBCOMMANDS, "del", "remove"]), "the names of the usage")
+    same(sorted(set(names)), sorted([*SUBCOMMANDS, "del", "remove", *ADDED]), "the names of the usage")
     for name in SUBCOMMANDS:
         done = folder.run("sh", name, "a b")
         true(b"Unknown subcommand" not in done.stderr, f"the program knows {name}")
-    for name in OF_FUNCTIONS:
+    for name in (*OF_FUNCTIONS, *ADDED):
         folder.refuses(["sh", name], f"Unknown subcommand '{name}'")
 
 
@@ -145,7 +155,7 @@ def completion_offers_what_the_program_does(folder):
     names = subprocess.run(
         ["sh", os.path.join(TOP, "libexec", "names"), "subcommands"], capture_output=True, check=True
     )
-    same(names.stdout.decode().split(), sorted([*SUBCOMMANDS, *OF_FUNCTIONS]), "the names for completion")
+    same(names.stdout.decode().split(), sorted([*SUBCOMMANDS, *OF_FUNCTIONS, *ADDED]), "the names for completion")
 
 
 @case
@@ -166,7 +176,7 @@ def the_pages_are_well_formed(folder):
 def the_page_has_each_sub_command(folder):
     page = content(os.path.join(TOP, "man", "module.1")).decode()
     there = page.split(".Sh DESCRIPTION")[1].split(".Ss Names and versions")[0]
-    for name in (*SUBCOMMANDS, *OF_FUNCTIONS):
+    for name in (*SUBCOMMANDS, *OF_FUNCTIONS, *ADDED):
         true(re.search(rf"Cm {name}\b", there), f"the page has {name}")
 
 
@@ -326,7 +336,12 @@ def add_names(prefixes):
         for name in ("foo/1.0", "foo/2.0", "bar/1"):
             folder.module(name, "")
         folder.file("foo/.version", "#%Module\nset ModulesVersion 1.0\n")
-        env = loaded(folder, "foo/1.0", "baz/3", PATH=os.environ["PATH"])
+        home = os.path.join(folder.path, b"home")
+        env = loaded(folder, "foo/1.0", "baz/3", PATH=os.environ["PATH"], HOME=home)
+        os.makedirs(os.path.join(home, b".config/modulecmd"))
+        for name in (b"a b", b"default"):
+            with open(os.path.join(home, b".config/modulecmd", name), "wb"):
+                pass
 
         def names(*words, line=""):
             command = ["sh", os.path.join(prefixes.program, "libexec", "names"), *words]
@@ -350,6 +365,12 @@ def add_names(prefixes):
             ("module avail fo", ["foo/1.0", "foo/2.0"]),
             ("module help ba", ["bar/1"]),
             ("module purge ", []),
+            ("module is-avail fo", ["foo/1.0", "foo/2.0"]),
+            ("module is-loaded f", ["foo/1.0", "baz/3"]),
+            ("module restore ", ["a b", "default"]),
+            ("module saverm d", ["a b", "default"]),
+            ("module unuse ", [folder.modules.decode()]),
+            ("module reload ", []),
             ("ml -b", ["-foo/1.0", "-baz/3"]),
         ):
             same(names("line", line=line), wanted, f"what can stand at the end of {line!r}")

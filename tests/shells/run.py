@@ -16,6 +16,7 @@ HERE = os.path.dirname(os.path.abspath(__file__))
 TOP = os.path.dirname(os.path.dirname(HERE))
 sys.path.insert(0, os.path.dirname(HERE))
 
+import added  # noqa: E402
 import product  # noqa: E402
 import sessions  # noqa: E402
 import terminal  # noqa: E402
@@ -55,6 +56,8 @@ def main():
     try:
         prefixes = Prefixes(place)
         product.add(prefixes)
+        added.add_changes(prefixes)
+        added.add_original(prefixes)
         for shell in SHELLS:
             if not shell.is_there() and shell.title not in ALWAYS:
                 print(f"not run: {shell.title} is not installed")
@@ -64,7 +67,9 @@ def main():
             sessions.add(shell, prefixes, True)
             sessions.add(shell, prefixes, False)
             ways.add(shell, prefixes)
+            added.add(shell, prefixes)
             terminal.add(shell, prefixes)
+            terminal.add_added(shell, prefixes)
         if len(sys.argv) > 2:
             CASES[:] = [function for function in CASES if sys.argv[2] in function.__name__]
         passed, failed = run_all(sys.argv[1])

@@ -4,6 +4,7 @@ import fcntl
 import os
 import pty
 import select
+import shutil
 import subprocess
 import termios
 import time
@@ -175,7 +176,7 @@ def add(shell, prefixes):
             (
                 ("module avail", b"No module is in the directories of MODULEPATH: " + folder.modules),
                 ("module avail 'gcc*'", b'"avail" takes the beginnings of names'),
-                ("ml avail --terse", b"no patterns and no options."),
+                ("ml avail --terse z", b"capitals as they are; no patterns."),
                 (f"{unset}; module avail", b"No MODULEPATH is set."),
                 ("module avail x", b"No MODULEPATH is set."),
             )
@@ -314,4 +315,176 @@ def add(shell, prefixes):
         at.until(lambda: here.stand_in.words(), "the command")
         same(here.stand_in.words(), [[shell.init, "load"]], "the words")
         true(b"ERROR" not in at.seen and b"modulecmd" not in at.seen, f"nothing is said: {at.seen!r}")
+        at.close()
+
+
+def add_added(shell, prefixes):
+    """Adds the cases of what the function adds at a terminal, over the program."""
+    if shell.title not in AT_TERMINAL:
+        return
+    sets = {"sh": "export {}='{}'", "csh": "setenv {} '{}'", "fish": "set -gx {} '{}'"}[shell.family].format
+
+    def start(folder, **variables):
+        """A shell at a terminal of 200 columns that has sourced its init file, with modules."""
+        here = Session(shell, folder, prefixes, {}, True, {"TERM": "vt100", **variables})
+        os.remove(os.path.join(folder.modules, b"foo", b"1.0"))
+        for name in ("gcc/9", "gcc/10", "gcc/11", "gcc/12", "mpi/1", "sub/x/1", "top"):
+            folder.module(name, "")
+        folder.file("gcc/.version", "#%Module\nset ModulesVersion 10\n")
+        place = os.path.join(folder.path, b"place").decode()
+        os.mkdir(place)
+        at = Terminal(AT_TERMINAL[shell.title], here.env, place)
+        for line in (shell.source(here.prefix), f"/usr/bin/touch '{place}/ready'"):
+            at.settle()
+            at.send(line + "\n")
+        at.until(lambda: os.path.exists(os.path.join(place, "ready")), "the init file's end")
+        at.settle()
+        return at, place
+
+    def named(name):
+        def keep(function):
+            function.__name__ = f"{shell.title} at a terminal {name}"
+            case(function)
+            return function
+
+        return keep
+
+    def shows(at, line, *wanted):
+        """What a line shows."""
+        at.settle(0.1)
+        at.seen = b""
+        at.send(line + "\n")
+        for text in wanted:
+            at.until(lambda text=text: text in at.seen, f"what `{line}` shows, {text!r},")
+
+    heading = b":\x1b[0m\r\n"
+
+    @named("shows reports in columns")
+    def columns(folder):
+        at, place = start(folder)
+        mark = b"\x1b[32m(default)\x1b[0m"
+        cells = (b"gcc/9", b"gcc/10" + mark, b"gcc/11", b"gcc/12", b"mpi/1", b"sub/x/1", b"top")
+        wide = [17 + (len(mark) - 9 if mark in cell else 0) for cell in cells]
+        row = b"".join(cell.ljust(width) for cell, width in zip(cells, wide)).rstrip()
+        shows(at, "module avail", b"\x1b[1m" + folder.modules + heading, row + b"\r\n")
+        shows(at, "module avail -L top", b"\r\ntop\r\n")
+        shows(at, "module avail -t mpi", folder.modules + b":\r\nmpi/1\r\n")
+        title = b"\x1b[1mCurrently Loaded Modulefiles" + heading
+        shows(at, "module load mpi top; module list", title, b"mpi/1  top\r\n")
+        plain = b"".join(cell.replace(mark, b"(default)").ljust(17) for cell in cells).rstrip()
+        shows(at, sets("NO_COLOR", "1") + "; module avail", folder.modules + b":\r\n" + plain + b"\r\n")
+        at.settle(0.1)
+        lines = folder.modules + b":\n" + b"\n".join(cell.replace(mark, b"(default)") for cell in cells) + b"\n"
+        for number, line in enumerate(("module avail", "module avail -t")):
+            kept = os.path.join(place, f"piped.{number}")
+            at.send(f"{line} | /bin/cat > '{kept}'\n")
+            at.until(lambda kept=kept: content(kept) == lines, f"what `{line}` pipes")
+            at.settle(0.1)
+        at.close()
+
+    @named("shows more than a screen by a pager")
+    def pages_reports(folder):
+        at, place = start(folder, NO_COLOR="1", PAGER="/bin/sed -e s/^/paged:/")
+        shows(at, "/bin/stty rows 5 columns 34", b"\n")
+        text = b"paged:gcc/9            mpi/1\r\npaged:gcc/10(default)  sub/x/1\r\npaged:gcc/11           top\r\n"
+        shows(at, "module avail", b"paged:" + folder.modules + b":\r\n" + text)
+        shows(at, "module avail top", folder.modules + b":\r\ntop\r\n")
+        if shutil.which("less"):
+            unset = {"sh": "unset {}", "csh": "unsetenv {}", "fish": "set -e {}"}[shell.family].format
+            shows(at, f"{unset('PAGER')}; module avail", b"gcc/11           top")
+            at.settle()
+            true(b"gcc/12" not in at.seen, "the last line waits")
+            at.send("q")
+        at.settle(0.2)
+        at.close()
+
+    @named("says which names are like one that isn't found")
+    def suggests(folder):
+        at, place = start(folder)
+        error = "ERROR: Unable to locate a modulefile for '{}'\r\n{}\r\n"
+        for line, name, said in (
+            ("module load GCC", "GCC", "Did you mean gcc/9, gcc/10, gcc/11?"),
+            ("ml mpi gxc", "gxc", "Did you mean gcc?"),
+            ("module show gcc/13", "gcc/13", "Did you mean gcc/10, gcc/11, gcc/12?"),
+            ("module whatis tops", "tops", "Did you mean top?"),
+            ("module switch gcc mp/1", "mp/1", "Did you mean mpi/1?"),
+        ):
+            shows(at, line, error.format(name, said).encode())
+        at.settle(0.1)
+        at.seen = b""
+        word = "$?" if shell.family == "sh" else "$status"
+        at.send(f"module load nothing; echo {word} > '{place}/status'\n")
+        at.until(lambda: content(os.path.join(place, "status")) == b"1\n", "the status")
+        at.settle(0.1)
+        true(b"Did you mean" not in at.seen, "nothing is said where no name is like it")
+        at.seen = b""
+        both = ">&" if shell.family == "csh" else "2>"
+        at.send(f"module load mp {both} '{place}/said'; echo done > '{place}/done'\n")
+        at.until(lambda: content(os.path.join(place, "done")) == b"done\n", "the end of the load")
+        error = b"ERROR: Unable to locate a modulefile for 'mp'\n"
+        same(content(os.path.join(place, "said")), error, "what a file has")
+        at.close()
+
+    @named("pipes what is added")
+    def pipes_added(folder):
+        at, place = start(folder)
+        status = "$?" if shell.family == "sh" else "$status"
+        lines = [
+            (f"module use {place}", b""),
+            ("module save first", b""),
+            ("module use | /bin/cat > {}", place.encode() + b"\n" + folder.modules + b"\n"),
+            ("module savelist | /bin/cat > {}", b"first\n"),
+            ("module whatis mpi | /bin/cat > {}", b""),
+            (f"module is-avail mpi; echo {status} > {{}}", b"0\n"),
+        ]
+        for number, (line, wanted) in enumerate(lines):
+            kept = os.path.join(place, f"kept.{number}")
+            at.send(line.format(kept) + f"; echo > {kept}.end\n")
+            at.until(lambda kept=kept: os.path.exists(f"{kept}.end"), f"the end of `{line}`")
+            same(content(kept), wanted, f"what `{line}` pipes")
+            at.settle(0.1)
+        at.close()
+
+    if shell.title not in COMPLETES:
+        return
+
+    @named("completes what is added")
+    def completes_added(folder):
+        config = os.path.join(folder.path, b"home/.config/modulecmd").decode()
+        os.makedirs(config)
+        for name in ("first", "other"):
+            with open(os.path.join(config, name), "w"):
+                pass
+        at, place = start(folder, HOME=os.path.dirname(os.path.dirname(config)))
+        for line in STARTS.get(shell.title, []):
+            at.send(line + "\n")
+            at.settle()
+        os.mkdir(os.path.join(place, "only"))
+        # What is typed, with a tabulator at its end, and the words that the function is given.
+        typed = [
+            ("module savesh\tfir\t", f"{config}/first:"),
+            ("module is-av\tmp\t nothing", "is-avail mpi/1 nothing"),
+            (f"module unuse {folder.modules.decode()[:-1]}\t nothing", f"unuse {folder.modules.decode()} nothing"),
+            *([("module use on\t nothing", "use only nothing")] if shell.title != "tcsh" else []),
+        ]
+        echo = {"sh": "module() {{ echo \"$@\" > {0}; }}", "csh": "alias module 'echo \\!* > {0}'"}
+        echo["fish"] = "function module; echo $argv > {0}; end"
+        for number, (keys, wanted) in enumerate(typed):
+            kept = os.path.join(place, f"typed.{number}")
+            if number > 0:
+                at.send(echo[shell.family].format(kept) + "\n")
+                at.settle(0.2)
+            for part in keys.split("\t")[:-1]:
+                at.send(part)
+                at.settle(0.1)
+                at.send("\t")
+                at.settle(0.3)
+            at.send(keys.split("\t")[-1] + "\n")
+            if number == 0:
+                at.until(lambda wanted=wanted: wanted.encode() in at.seen, f"what {keys!r} shows")
+                continue
+            at.until(lambda kept=kept: content(kept).endswith(b"\n"), f"the words of {keys!r}")
+            # zsh takes the slash of a directory away where a blank follows.
+            words = content(kept).decode().replace("only/", "only").split()
+            same(" ".join(words), wanted, f"the words of {keys!r}")
         at.close()

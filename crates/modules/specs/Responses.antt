@@ -1,5 +1,5 @@
 -- What the outcomes of a session say, as the definitions see them.
-use Rattle.std.specs.Prelude.{◌≡◌, ℕ, ◌+◌, List, [], ◌∷◌, ◌++◌, Result, Ok, Err}
+use Rattle.std.specs.Prelude.{◌≡◌, ℕ, Bool, false, ◌+◌, List, [], ◌∷◌, ◌++◌, Result, Ok, Err}
 use Rattle.environment.specs.Texts.{Text}
 use Rattle.environment.specs.Environment.{Environment}
 use Rattle.modulerecords.specs.Moves.{made}
@@ -12,7 +12,7 @@ use Rattle.requests.specs.Sessions.{Response, accepted, refused, given_up, env_a
 use Rattle.requests.specs.Returning.{AreNew, AreFitting}
 use Rattle.requests.specs.Reasons.{RequestReason}
 use Rattle.filetree.specs.Causes.{Cause, memory, device, because}
-use Rattle.modulesteps.specs.Answers.{cause_of}
+use Rattle.modulesteps.specs.Answers.{cause_of, is_failure}
 use Rattle.modulesteps.specs.Messages.{number_of}
 use Rattle.modulesteps.specs.MoveViews.{moves_of}
 use Rattle.modulesteps.specs.Views.{done_view}
@@ -43,6 +43,11 @@ response_of e (Refused refusal) = by_cause (number_of refusal) (cause_of refusal
 abbrev pub responses : Environment → List Outcome → List Response
 responses e [] = []
 responses e (o ∷ os) = response_of e o ∷ responses (env_after e (response_of e o)) os
+
+-- it was refused since the device failed
+abbrev pub has_failed : Outcome → Bool
+has_failed (Accepted done) = false
+has_failed (Refused refusal) = is_failure refusal
 
 -- how many were refused since the device failed
 abbrev pub count_cause : Cause RequestReason → ℕ

@@ -1,10 +1,11 @@
 //! One request over an environment that stays as it is.
 ghost use Rattle.std.specs.Prelude.{◌<◌, ◌≤◌, IfOk, IfErr};
 ghost use Rattle.environment.specs.Changes.{AreChanges, new_values_in};
-ghost use Rattle.filetree.specs.Agreement.{Narrows};
+ghost use Rattle.filetree.specs.Agreement.{FailsAt, InEachPair, Narrows};
 ghost use Rattle.requests.specs.RequestViews.{asked_view};
 ghost use Rattle.requests.specs.Steps.{RequestStep};
-ghost use Rattle.modulesteps.specs.Answers.{Tells};
+ghost use Rattle.requests.specs.Looked.{RequestLooksAt};
+ghost use Rattle.modulesteps.specs.Answers.{Tells, is_failure};
 ghost use Rattle.modulesteps.specs.Messages.{WantsAmong, memory_numbers};
 ghost use Rattle.modules.specs.Replies.{left_by, changed_view, reply_view, site_in};
 
@@ -19,8 +20,9 @@ use tclrules::Limits;
 /// Runs a request over an environment, which stays as it is, and a tree of modulefiles, and answers what the request
 /// changes. It costs what the request touches, whatever else is set.
 ///
-/// It is refused as the request's step over the tree is; or by 43 where the device failed in this call; or for want of
-/// memory: 31, 41 where files are searched for or read, 11 where they are evaluated. Then there is no change.
+/// It is refused as the request's step over the tree is; or by 43 where the device failed in this call, at a path that
+/// the request looks at; or for want of memory: 31, 41 where files are searched for or read, 11 where they are
+/// evaluated. Then there is no change.
 pub fn run_changes<T: Tree>(
     alloc: Global,
     request: &Request,
@@ -36,6 +38,10 @@ pub fn run_changes<T: Tree>(
     ensures wanting { IfErr result (WantsAmong (memory_numbers (asked_view request.now.action))) }
     ensures exact { IfOk result (λ changed.
         AreChanges env.now (left_by env.now changed) (new_values_in changed.changes)) }
+    ensures failed { FailsAt is_failure (T.failed tree.old) (T.failed tree.new) result (λ at.
+        InEachPair (T.agrees tree.new) (λ files listings.
+        RequestLooksAt (site_in limits request.now.shell files listings) env.now
+        (asked_view request.now.action) at)) }
 {
     environment::laws::changes();
     let mut working = Working::over(env);
@@ -65,6 +71,10 @@ pub fn run<T: Tree>(
         (λ files listings. RequestStep (site_in limits request.now.shell files listings) env.now
         (asked_view request.now.action)) }
     ensures wanting { IfErr result (WantsAmong (memory_numbers (asked_view request.now.action))) }
+    ensures failed { FailsAt is_failure (T.failed tree.old) (T.failed tree.new) result (λ at.
+        InEachPair (T.agrees tree.new) (λ files listings.
+        RequestLooksAt (site_in limits request.now.shell files listings) env.now
+        (asked_view request.now.action) at)) }
 {
     let changed = run_changes(alloc, request, env, tree, limits)?;
     let mut after = env.copy()?;

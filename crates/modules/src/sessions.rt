@@ -1,15 +1,16 @@
 //! Requests one after another.
 ghost use Rattle.std.specs.Prelude.{◌≡◌, ◌<◌, ◌≤◌, ◌+◌, [], ◌∷◌, map, IfOk, IfErr, OnErr};
-ghost use Rattle.filetree.specs.Agreement.{Narrows, InEachPair};
+ghost use Rattle.filetree.specs.Agreement.{FailsAt, FailsIf, InEachPair, Narrows};
 ghost use Rattle.shells.specs.declared.shell.Shell.{Shell};
 ghost use Rattle.requests.specs.RequestViews.{asked_view, request_view};
 ghost use Rattle.requests.specs.Sessions.{Session, IsResponse, env_after, left_by};
 ghost use Rattle.requests.specs.Steps.{RequestStep};
-ghost use Rattle.modulesteps.specs.Answers.{Tells};
+ghost use Rattle.requests.specs.Looked.{RequestLooksAt};
+ghost use Rattle.modulesteps.specs.Answers.{Tells, is_failure};
 ghost use Rattle.modulesteps.specs.Views.{done_view};
 ghost use Rattle.modulesteps.specs.declared.refusal.Refusal.TheVariants as refusals;
 ghost use Rattle.modules.specs.Replies.{site_in};
-ghost use Rattle.modules.specs.Responses.{response_of, responses, count_failed, Returns};
+ghost use Rattle.modules.specs.Responses.{response_of, responses, has_failed, count_failed, Returns};
 
 use crate::running::run_changes;
 use environment::{Env, Vars};
@@ -43,6 +44,10 @@ fn change<T: Tree>(
         (λ files listings. RequestStep (site_in limits request.now.shell files listings) env.old
         (asked_view request.now.action)) }
     ensures kept { OnErr result (env.new ≡ env.old) }
+    ensures failed { FailsAt is_failure (T.failed tree.old) (T.failed tree.new) result (λ at.
+        InEachPair (T.agrees tree.new) (λ files listings.
+        RequestLooksAt (site_in limits request.now.shell files listings) env.old
+        (asked_view request.now.action) at)) }
 {
     let changed = run_changes(alloc, request, env, tree, limits)?;
     env.apply(changed.changes)?;
@@ -56,7 +61,8 @@ fn change<T: Tree>(
 
 /// What comes of a request, whose changes are made where it is accepted. Where it is refused the environment stays.
 ///
-/// In each pair of maps that agrees with the tree it is a response to the request in the environment as it was.
+/// In each pair of maps that agrees with the tree it is a response to the request in the environment as it was. It is
+/// refused by 43 only where the device failed in this call, at a path that the request looks at.
 pub fn respond<T: Tree>(
     alloc: Global,
     request: &Request,
@@ -71,6 +77,10 @@ pub fn respond<T: Tree>(
         (response_of env.old result)) }
     ensures left { InEachPair (T.agrees tree.new) (λ files listings.
         env.new ≡ env_after env.old (response_of env.old result)) }
+    ensures failed { FailsIf (has_failed result) (T.failed tree.old) (T.failed tree.new) (λ at.
+        InEachPair (T.agrees tree.new) (λ files listings.
+        RequestLooksAt (site_in limits request.now.shell files listings) env.old
+        (asked_view request.now.action) at)) }
 {
     requests::outcomes();
     match change(alloc, request, env, tree, limits) {

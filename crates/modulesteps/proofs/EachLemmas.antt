@@ -1,5 +1,5 @@
 -- Names in turn, and whole commands, by what their parts answered.
-use Rattle.std.proofs.Common.{◌≡◌, ◌≤◌, ◌-◌, ◌<◌, ℕ, suc, Bor, Bool, true, false, nat_eq, List, [], ◌∷◌, ◌++◌, length, get_or, map, take, drop, string_bytes, String, Option, Some, None, MatchOption, Result, Ok, Err, refl, sym, ap, ◌∙◌, subst, arith, lit<}
+use Rattle.std.proofs.Common.{◌≡◌, ◌≤◌, ◌-◌, ◌<◌, ℕ, suc, Bor, Bool, true, false, nat_eq, List, [], ◌∷◌, ◌++◌, length, get_or, map, take, drop, string_bytes, String, Option, Some, None, MatchOption, Result, Ok, Err, inl, inr, refl, sym, ap, ◌∙◌, subst, arith, lit<}
 use Rattle.std.specs.Prelude.{◌==◌}
 use Rattle.std.specs.List.{slice_split, onto_first}
 use Rattle.std.specs.declared.alloc.Global.{Global}
@@ -14,6 +14,7 @@ use Rattle.modulerecords.specs.Effects.{Mode}
 use Rattle.modulerecords.specs.Records.{Record}
 use Rattle.modulesearch.specs.Found.{FoundModule}
 use Rattle.requests.specs.Reasons.{RequestReason}
+use Rattle.requests.specs.Looked.{EachLooksAt}
 use Rattle.requests.specs.Steps.{Site, Done, begun, Each, Named, ShowsName, ShowsNames, first_part}
 
 split_first : {X : Type 0} (view : X → Text) (x : X) (rest : List X) → 1 ≤ length rest → x ≡ get_or rest 0 x
@@ -28,6 +29,14 @@ module _ {X : Type 0} (view : X → Text) (Does : Text → Done → Result Done 
 
   pub each_on : (mid : Done) → Does (view x) d (Ok mid) → (o : Result Done RequestReason) → Each Does (map view (take (length rest - 1) (drop 1 rest))) mid o → Each Does (map view rest) d o
   each_on mid h o k = subst (λ names. Each Does names d o) (sym (split_first view x rest some is)) (Ok mid, h, k)
+
+  -- and where they look
+  module _ (Looks : Text → Done → Text → Type 0) (at : Text) where
+    pub looks_first : Looks (view x) d at → EachLooksAt Does Looks (map view rest) d at
+    looks_first h = subst (λ names. EachLooksAt Does Looks names d at) (sym (split_first view x rest some is)) (inl h)
+
+    pub looks_on : (mid : Done) → Does (view x) d (Ok mid) → EachLooksAt Does Looks (map view (take (length rest - 1) (drop 1 rest))) mid at → EachLooksAt Does Looks (map view rest) d at
+    looks_on mid h k = subst (λ names. EachLooksAt Does Looks names d at) (sym (split_first view x rest some is)) (inr (mid, h, k))
 
 -- a request with names
 pub named_some : (names : List (String Global)) (b : Bool) → b ≡ nat_eq (length names) 0 → b ≡ false → (Comes : Result Done RequestReason → Type 0) (o : Result Done RequestReason) → Comes o

@@ -7,3 +7,4 @@ pub mod EachLemmas
 pub mod ReportLemmas
 pub mod VerdictLemmas
 pub mod WantLemmas
+pub mod FailureLemmas

@@ -1,5 +1,5 @@
 -- How the answers of a request show what the definitions say.
-use Rattle.std.specs.Prelude.{Option, Some, None, Result, Ok, Err, string_bytes}
+use Rattle.std.specs.Prelude.{Bool, true, false, Option, Some, None, Result, Ok, Err, string_bytes}
 use Rattle.environment.specs.Texts.{texts_in}
 use Rattle.environment.specs.Reasons.{reason_of}
 use Rattle.filetree.specs.Agreement.{Files, Listings}
@@ -40,6 +40,16 @@ cause_of (refusals.PrereqMissing missing) = because (prereq_missing (texts_in mi
 cause_of (refusals.StillNeededBy name) = because (still_needed_by (string_bytes name))
 cause_of (refusals.FileGone path) = because (file_gone (string_bytes path))
 cause_of (refusals.NotAModulefile path) = because (not_a_modulefile (string_bytes path))
+
+-- it is a device that failed
+abbrev pub is_of_device : Cause RequestReason → Bool
+is_of_device memory = false
+is_of_device device = true
+is_of_device (because r) = false
+
+-- the refusal by 43
+abbrev pub is_failure : Refusal → Bool
+is_failure refusal = is_of_device (cause_of refusal)
 
 -- A call without a tree: what it gives, seen by view, is what it comes to; or its refusal has a cause.
 abbrev pub GivesOrRefuses : {X Y : Type 0} → (X → Y) → Result X Refusal → (Result Y RequestReason → Type 0)

@@ -20,6 +20,7 @@ use Rattle.requests.specs.Reasons.{RequestReason, conflict_with, prereq_missing,
 use Rattle.requests.specs.Refusals.{refused_as, unless, RefusedAs}
 use Rattle.requests.specs.Conditions.{recorded_conflict, own_conflict, missing_group, load_objection}
 use Rattle.requests.specs.Steps.{Site, Done, went, module_of, reported, shown_text, described_text, LoadsName, UnloadsName, ShowsName}
+use Rattle.requests.specs.Looked.{LoadLooksAt, UnloadLooksAt, ShowLooksAt, EachLooksAt}
 use Rattle.modulesteps.specs.declared.files.Asking.{Asking}
 use Rattle.modulesteps.specs.declared.files.Topic.{Topic}
 use Rattle.modulesteps.specs.declared.files.Topic.TheVariants.{Commands, Whatis}
@@ -86,3 +87,12 @@ abbrev pub DoesForName : Doing → Site → Text → Done → Result Done Reques
 DoesForName Load s = LoadsName s false
 DoesForName Unload s = UnloadsName s false
 DoesForName (Report topic) s = ShowsName s (topic_mode topic) (topic_text topic)
+
+-- where it looks for a name, and for each name in turn
+abbrev pub LooksForName : Doing → Site → Text → Done → Text → Type 0
+LooksForName Load s = LoadLooksAt s
+LooksForName Unload s = UnloadLooksAt
+LooksForName (Report topic) s = ShowLooksAt s
+
+abbrev pub LooksForEach : Doing → Site → List Text → Done → Text → Type 0
+LooksForEach doing s = EachLooksAt (DoesForName doing s) (LooksForName doing s)

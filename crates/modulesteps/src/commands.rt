@@ -6,16 +6,20 @@ ghost use Rattle.environment.specs.Texts.{texts_in};
 ghost use Rattle.loadedlist.specs.Loaded.{names_of};
 ghost use Rattle.loadedlist.specs.LoadedEntries.{entry_of};
 ghost use Rattle.relations.specs.Relations.{Then};
-ghost use Rattle.filetree.specs.Agreement.{Narrows};
+ghost use Rattle.filetree.specs.Agreement.{FailsAt, InEachPair, Narrows};
+ghost use Rattle.defaultfiles.specs.Leaves.{Leaves};
+ghost use Rattle.modulesearch.specs.Looked.{ListingLooksAt};
 ghost use Rattle.modulename.specs.ModuleName.{parts};
 ghost use Rattle.requests.specs.Requests as asked;
 ghost use Rattle.requests.specs.RequestViews.{asked_view};
 ghost use Rattle.requests.specs.Steps as steps;
 ghost use Rattle.requests.specs.Steps.{begun, Each, EndsRequest, Named, Changes, ShowsNames, ListsLoaded, ListsAll, RequestStep};
+ghost use Rattle.requests.specs.Looked.{PurgeLooksAt, SwitchLooksAt, RequestLooksAt};
 ghost use Rattle.modulesteps.specs.Views.{site_of, done_view};
-ghost use Rattle.modulesteps.specs.Answers.{GivesOrRefuses, Tells};
+ghost use Rattle.modulesteps.specs.Answers.{GivesOrRefuses, Tells, is_failure};
 ghost use Rattle.modulesteps.specs.Messages.{WantsAmong, memory_numbers};
-ghost use Rattle.modulesteps.specs.Parts.{DoesForName, topic_mode, topic_text};
+ghost use Rattle.modulesteps.specs.declared.commands.Doing.TheVariants.{Report};
+ghost use Rattle.modulesteps.specs.Parts.{DoesForName, LooksForName, LooksForEach, topic_mode, topic_text};
 
 use crate::conditions::first_lost;
 use crate::done::{Done, Terms};
@@ -58,6 +62,9 @@ fn do_name<T: Tree, V: Vars>(
         (λ u. done_view done.new (V.vars env.new)) result
         (λ files listings. DoesForName doing (site_of terms files listings) typed.now
         (done_view done.old (V.vars env.old))) }
+    ensures failed { FailsAt is_failure (T.failed tree.old) (T.failed tree.new) result (λ at.
+        InEachPair (T.agrees tree.new) (λ files listings.
+        LooksForName doing (site_of terms files listings) typed.now (done_view done.old (V.vars env.old)) at)) }
 {
     let asking = Asking {
         terms,
@@ -88,6 +95,10 @@ fn do_each<T: Tree, V: Vars>(
         (λ u. done_view done.new (V.vars env.new)) result
         (λ files listings. Each (DoesForName doing (site_of terms files listings)) (map string_bytes names.now)
         (done_view done.old (V.vars env.old))) }
+    ensures failed { FailsAt is_failure (T.failed tree.old) (T.failed tree.new) result (λ at.
+        InEachPair (T.agrees tree.new) (λ files listings.
+        LooksForEach doing (site_of terms files listings) (map string_bytes names.now)
+        (done_view done.old (V.vars env.old)) at)) }
 {
     let mut rest = names;
     while let [name, after @ ..] = rest {
@@ -126,6 +137,9 @@ fn change_each<T: Tree, V: Vars>(
         (λ done. done_view done (V.vars env.new)) result
         (λ files listings. Then (Each (DoesForName doing (site_of terms files listings)) (map string_bytes names.now)
         (begun (V.vars env.old))) (EndsRequest (map entry_of before.now))) }
+    ensures failed { FailsAt is_failure (T.failed tree.old) (T.failed tree.new) result (λ at.
+        InEachPair (T.agrees tree.new) (λ files listings.
+        LooksForEach doing (site_of terms files listings) (map string_bytes names.now) (begun (V.vars env.old)) at)) }
 {
     let mut done = Done::new(alloc);
     do_each(alloc, terms, doing, names, env, tree, &mut done)?;
@@ -149,6 +163,9 @@ fn change_names<T: Tree, V: Vars>(
         (λ done. done_view done (V.vars env.new)) result
         (λ files listings. Named (map string_bytes names.now) (Changes (V.vars env.old)
         (λ before. Each (DoesForName doing (site_of terms files listings)) (map string_bytes names.now)))) }
+    ensures failed { FailsAt is_failure (T.failed tree.old) (T.failed tree.new) result (λ at.
+        InEachPair (T.agrees tree.new) (λ files listings.
+        LooksForEach doing (site_of terms files listings) (map string_bytes names.now) (begun (V.vars env.old)) at)) }
 {
     if names.is_empty() {
         return Err(Refusal::BadArguments);
@@ -179,6 +196,9 @@ fn purge<T: Tree, V: Vars>(
     ensures told { Tells (T.agrees tree.new) (T.failures tree.old < T.failures tree.new)
         (λ done. done_view done (V.vars env.new)) result
         (λ files listings. RequestStep (site_of terms files listings) (V.vars env.old) asked.purge) }
+    ensures failed { FailsAt is_failure (T.failed tree.old) (T.failed tree.new) result (λ at.
+        InEachPair (T.agrees tree.new) (λ files listings.
+        PurgeLooksAt (site_of terms files listings) (V.vars env.old) at)) }
 {
     let before = entries_of(alloc, env)?;
     let names = names_back(alloc, before.as_slice())?;
@@ -230,6 +250,9 @@ fn switch_names<T: Tree, V: Vars>(
         (λ u. done_view done.new (V.vars env.new)) result
         (λ files listings. steps.Switches (site_of terms files listings) (Some old.now) new.now
         (done_view done.old (V.vars env.old))) }
+    ensures failed { FailsAt is_failure (T.failed tree.old) (T.failed tree.new) result (λ at.
+        InEachPair (T.agrees tree.new) (λ files listings.
+        SwitchLooksAt (site_of terms files listings) old.now new.now (done_view done.old (V.vars env.old)) at)) }
 {
     let unloading = Asking {
         terms,
@@ -261,6 +284,10 @@ fn switch<T: Tree, V: Vars>(
         (λ done. done_view done (V.vars env.new)) result
         (λ files listings. RequestStep (site_of terms files listings) (V.vars env.old)
         (asked.switch (option_map (λ x. x.now) old.entry) new.now)) }
+    ensures failed { FailsAt is_failure (T.failed tree.old) (T.failed tree.new) result (λ at.
+        InEachPair (T.agrees tree.new) (λ files listings.
+        SwitchLooksAt (site_of terms files listings) (steps.old_name (option_map (λ x. x.now) old.entry) new.now)
+        new.now (begun (V.vars env.old)) at)) }
 {
     let before = entries_of(alloc, env)?;
     let mut done = Done::new(alloc);
@@ -286,6 +313,10 @@ fn report_names<T: Tree, V: Vars>(
         (λ files listings. Named (map string_bytes names.now)
         (ShowsNames (site_of terms files listings) (topic_mode topic)
         (topic_text topic) (V.vars env.old) (map string_bytes names.now))) }
+    ensures failed { FailsAt is_failure (T.failed tree.old) (T.failed tree.new) result (λ at.
+        InEachPair (T.agrees tree.new) (λ files listings.
+        LooksForEach (Report topic) (site_of terms files listings) (map string_bytes names.now)
+        (begun (V.vars env.old)) at)) }
 {
     if names.is_empty() {
         return Err(Refusal::BadArguments);
@@ -337,6 +368,9 @@ fn avail<T: Tree, V: Vars>(
         (λ done. done_view done (V.vars env.now)) result
         (λ files listings. ListsAll (site_of terms files listings) (V.vars env.now) (map string_bytes texts.now)) }
     ensures wanting { IfErr result (WantsAmong (31 ∷ 41 ∷ [])) }
+    ensures failed { FailsAt is_failure (T.failed tree.old) (T.failed tree.new) result (λ at.
+        InEachPair (T.agrees tree.new) (λ files listings.
+        ListingLooksAt (Leaves terms.limits) files listings (steps.modulepath (V.vars env.now)) at)) }
 {
     let default_files = Evaluated {
         limits: terms.limits,
@@ -349,7 +383,7 @@ fn avail<T: Tree, V: Vars>(
 /// Makes of the variables what the request makes of them, over a tree of modulefiles, and answers what it did besides.
 ///
 /// It is refused as the request's step over the tree is, for want of memory, or by 43 where the device failed in this
-/// call. Then the variables may be anything: hand in a copy to keep them.
+/// call, at a path that the request looks at. Then the variables may be anything: hand in a copy to keep them.
 pub fn step<T: Tree, V: Vars>(
     alloc: Global,
     request: &Request,
@@ -369,6 +403,14 @@ pub fn step<T: Tree, V: Vars>(
           shell = request.now.shell;
         }) (V.vars env.old) (asked_view request.now.action)) }
     ensures wanting { IfErr result (WantsAmong (memory_numbers (asked_view request.now.action))) }
+    ensures failed { FailsAt is_failure (T.failed tree.old) (T.failed tree.new) result (λ at.
+        InEachPair (T.agrees tree.new) (λ files listings.
+        RequestLooksAt (record {
+          files = files;
+          listings = listings;
+          limits = limits;
+          shell = request.now.shell;
+        }) (V.vars env.old) (asked_view request.now.action) at)) }
 {
     let terms = Terms {
         limits,

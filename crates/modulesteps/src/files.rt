@@ -1,7 +1,7 @@
 //! The files of modules, evaluated for the names of a request.
 ghost use Rattle.std.specs.Prelude.{◌≡◌, ◌<◌, ◌≤◌, IfOk, map, string_bytes};
 ghost use Rattle.loadedlist.specs.LoadedEntries.{entry_of};
-ghost use Rattle.filetree.specs.Agreement.{Files, Listings, Narrows};
+ghost use Rattle.filetree.specs.Agreement.{Files, Listings, FailsAt, InEachPair, Narrows};
 ghost use Rattle.filetree.specs.Search.{modulefile};
 ghost use Rattle.relations.specs.Relations.{Is};
 ghost use Rattle.modulefile.specs.RecordViews.{mode_view, record_view};
@@ -11,8 +11,9 @@ ghost use Rattle.modulerun.specs.Running.{ran_view};
 ghost use Rattle.requests.specs.Reasons.{stopped};
 ghost use Rattle.requests.specs.Refusals.{RefusedAs};
 ghost use Rattle.requests.specs.Steps.{Finds, LoadsFound, LoadsName, UnloadsEntry, UnloadsName, ShowsName, script_at};
+ghost use Rattle.requests.specs.Looked.{SearchLooksAt, LoadLooksAt, UnloadLooksAt, ShowLooksAt};
 ghost use Rattle.modulesteps.specs.Views.{site_of, done_view};
-ghost use Rattle.modulesteps.specs.Answers.{GivesOrRefuses, Tells};
+ghost use Rattle.modulesteps.specs.Answers.{GivesOrRefuses, Tells, is_failure};
 ghost use Rattle.modulesteps.specs.Parts.{file_context, UnloadsBy, ReportsFound, topic_mode, topic_text};
 
 use crate::conditions::{is_loaded, last_meant};
@@ -65,6 +66,9 @@ pub(crate) fn find_module<T: Tree, V: Vars>(
     ensures later { T.failures tree.old ≤ T.failures tree.new }
     ensures told { Tells (T.agrees tree.new) (T.failures tree.old < T.failures tree.new) found_view result
         (λ files listings. Finds (site_of asking.entry.terms files listings) (V.vars env.now) asking.entry.typed.now) }
+    ensures failed { FailsAt is_failure (T.failed tree.old) (T.failed tree.new) result (λ at.
+        InEachPair (T.agrees tree.new) (λ files listings.
+        SearchLooksAt (site_of asking.entry.terms files listings) (V.vars env.now) asking.entry.typed.now at)) }
 {
     let default_files = Evaluated {
         limits: asking.terms.limits,
@@ -147,6 +151,10 @@ pub(crate) fn load_name<T: Tree, V: Vars>(
         (λ u. done_view done.new (V.vars env.new)) result
         (λ files listings. LoadsName (site_of asking.entry.terms files listings) asking.entry.in_switch
         asking.entry.typed.now (done_view done.old (V.vars env.old))) }
+    ensures failed { FailsAt is_failure (T.failed tree.old) (T.failed tree.new) result (λ at.
+        InEachPair (T.agrees tree.new) (λ files listings.
+        LoadLooksAt (site_of asking.entry.terms files listings) asking.entry.typed.now
+        (done_view done.old (V.vars env.old)) at)) }
 {
     let entries = entries_of(alloc, env)?;
     if is_loaded(entries.as_slice(), asking.typed) {
@@ -163,6 +171,7 @@ fn script_at<T: Tree>(alloc: Global, tree: &mut T, path: &str) -> Result<String,
     ensures later { T.failures tree.old ≤ T.failures tree.new }
     ensures told { Tells (T.agrees tree.new) (T.failures tree.old < T.failures tree.new) (λ text. string_bytes text)
         result (λ files listings. Is (script_at path.now (modulefile (files path.now)))) }
+    ensures failed { FailsAt is_failure (T.failed tree.old) (T.failed tree.new) result (λ at. at ≡ path.now) }
 {
     match read_modulefile(tree, path)? {
         Modulefile::Script(text) => Ok(text),
@@ -216,6 +225,8 @@ fn unload_entry<T: Tree, V: Vars>(
         (λ u. done_view done.new (V.vars env.new)) result
         (λ files listings. UnloadsEntry (site_of asking.entry.terms files listings) asking.entry.in_switch
         asking.entry.typed.now (done_view done.old (V.vars env.old)) (map entry_of entries.now) (entry_of entry.now)) }
+    ensures failed { FailsAt is_failure (T.failed tree.old) (T.failed tree.new) result (λ at.
+        at ≡ (entry_of entry.now).path) }
 {
     let text = script_at(alloc, tree, entry.path.as_str())?;
     let file = File {
@@ -241,6 +252,8 @@ pub(crate) fn unload_name<T: Tree, V: Vars>(
         (λ u. done_view done.new (V.vars env.new)) result
         (λ files listings. UnloadsName (site_of asking.entry.terms files listings) asking.entry.in_switch
         asking.entry.typed.now (done_view done.old (V.vars env.old))) }
+    ensures failed { FailsAt is_failure (T.failed tree.old) (T.failed tree.new) result
+        (UnloadLooksAt asking.entry.typed.now (done_view done.old (V.vars env.old))) }
 {
     let entries = entries_of(alloc, env)?;
     if !is_module_name(asking.typed) {
@@ -317,6 +330,9 @@ pub(crate) fn report_name<T: Tree, V: Vars>(
         (λ u. done_view done.new (V.vars env.new)) result
         (λ files listings. ShowsName (site_of terms files listings) (topic_mode topic) (topic_text topic) typed.now
         (done_view done.old (V.vars env.old))) }
+    ensures failed { FailsAt is_failure (T.failed tree.old) (T.failed tree.new) result (λ at.
+        InEachPair (T.agrees tree.new) (λ files listings.
+        ShowLooksAt (site_of terms files listings) typed.now (done_view done.old (V.vars env.old)) at)) }
 {
     let asking = Asking {
         terms,

@@ -1,8 +1,9 @@
 //! The verdict on the module that a name means.
 ghost use Rattle.std.specs.Prelude.{◌<◌, ◌≤◌, IfOk};
-ghost use Rattle.filetree.specs.Agreement.{Narrows, InEachPair};
+ghost use Rattle.filetree.specs.Agreement.{FailsAt, InEachPair, Narrows};
+ghost use Rattle.requests.specs.Looked.{SearchLooksAt};
 ghost use Rattle.requests.specs.Verdicts.{Judged};
-ghost use Rattle.modulesteps.specs.Answers.{Tells};
+ghost use Rattle.modulesteps.specs.Answers.{Tells, is_failure};
 ghost use Rattle.modulesteps.specs.Verdicts.{verdict_view, in_sh, PlainMeans};
 
 use crate::done::Terms;
@@ -29,6 +30,9 @@ fn judge<T: Tree, V: Vars>(
     ensures later { T.failures tree.old ≤ T.failures tree.new }
     ensures told { Tells (T.agrees tree.new) (T.failures tree.old < T.failures tree.new) verdict_view result
         (λ files listings. Judged (in_sh limits files listings) (V.vars env.old) typed.now) }
+    ensures failed { FailsAt is_failure (T.failed tree.old) (T.failed tree.new) result (λ at.
+        InEachPair (T.agrees tree.new) (λ files listings.
+        SearchLooksAt (in_sh limits files listings) (V.vars env.old) typed.now at)) }
 {
     let terms = Terms {
         limits,
@@ -57,7 +61,8 @@ fn judge<T: Tree, V: Vars>(
 /// unloading undoes each of them.
 ///
 /// Errors: loaded lists that are inconsistent (35); what the search for the name answers (42, 44, 45, 46, and 43 where
-/// the device failed in this call); what the file's evaluation is refused by; want of memory.
+/// the device failed in this call, at a path that the search looks at); what the file's evaluation is refused by; want
+/// of memory.
 pub fn verdict<T: Tree>(
     alloc: Global,
     name: &str,
@@ -71,6 +76,9 @@ pub fn verdict<T: Tree>(
         (λ files listings. Judged (in_sh limits files listings) env.now name.now) }
     ensures plain { IfOk result (λ verdict. InEachPair (T.agrees tree.new) (λ files listings.
         PlainMeans (in_sh limits files listings) env.now name.now verdict)) }
+    ensures failed { FailsAt is_failure (T.failed tree.old) (T.failed tree.new) result (λ at.
+        InEachPair (T.agrees tree.new) (λ files listings.
+        SearchLooksAt (in_sh limits files listings) env.now name.now at)) }
 {
     requests::verdicts();
     judge(alloc, name, &mut Working::over(env), tree, limits)

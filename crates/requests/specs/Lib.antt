@@ -5,6 +5,7 @@ pub mod Refusals
 pub mod Conditions
 pub mod Reports
 pub mod Steps
+pub mod Looked
 pub mod Sessions
 pub mod Verdicts
 pub mod Returning

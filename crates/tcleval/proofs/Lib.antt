@@ -1,4 +1,1 @@
-pub mod Running
-pub mod LiteralWords
-pub mod Conditions
 pub mod Whole

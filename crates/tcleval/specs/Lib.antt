@@ -1,3 +1,1 @@
-pub mod Runs
-pub mod Later
 pub mod Files

@@ -13,72 +13,71 @@ ghost use Rattle.tclrules.specs.Promise.{Evaluates, ReportsFault, texts_of};
 ghost use Rattle.tclsteps.specs.Machine.{shown, bounds};
 ghost use Rattle.tclsteps.specs.Stops.{after, halt_of};
 ghost use Rattle.tclkept.specs.Kept.{BeginWith};
-ghost use Rattle.tcleval.specs.Later.{Later};
-ghost use Rattle.tcleval.specs.Runs.{finish, ran};
+ghost use Rattle.tclevaluator.specs.Later.{Later};
+ghost use Rattle.tclendings.specs.Runs.{finish, ran};
 ghost use Rattle.tcleval.specs.Files.{after_file, ReportsCut, AnswersFile};
 
-use crate::evaluator::Evaluator;
 use std::alloc::Global;
 use std::mem;
 use tclcommands::started;
+use tclevaluator::Evaluator;
 use tclkept::Kept;
 use tclrules::{Ending, EvalFault, Host, Limits};
 use tclscript::{ByteRange, Script};
 use tclsteps::{Halt, Stop};
 use tclvariables::Variables;
 
-impl Evaluator {
-    /// The commands of a file, of each of which the place is kept.
-    #[tactic(none)]
-    fn file_commands<H: Host>(
-        &mut self,
-        host: &mut H,
-        limits: Limits,
-        left: u32,
-        source: &str,
-        script: &Script<ByteRange>,
-    ) -> Result<String, Stop>
-        ensures comes { Leads limits.commands (rule limits.value_bytes)
-            (rules.file_commands (bounds limits.value_bytes left) (script_view (shown source.now) script.now) []
-            self.old.variables)
-            (point (H.oracle host.old) (H.told host.old) self.old.used)
-            (after result (λ t s. finish (string_bytes t) s) self.new.variables)
-            (point (H.oracle host.new) (H.told host.new) self.new.used) }
-        ensures later { Later self.old self.new }
-    {
-        let mut last = String::new(self.alloc);
-        for command in &script.commands {
-            self.variables.at_place(command.place);
-            last = self.command(host, limits, left, source, command, true)?;
-        }
-        Ok(last)
+/// The commands of a file, of each of which the place is kept.
+#[tactic(none)]
+fn file_commands<H: Host>(
+    evaluator: &mut Evaluator,
+    host: &mut H,
+    limits: Limits,
+    left: u32,
+    source: &str,
+    script: &Script<ByteRange>,
+) -> Result<String, Stop>
+    ensures comes { Leads limits.commands (rule limits.value_bytes)
+        (rules.file_commands (bounds limits.value_bytes left) (script_view (shown source.now) script.now) []
+        evaluator.old.variables)
+        (point (H.oracle host.old) (H.told host.old) evaluator.old.used)
+        (after result (λ t s. finish (string_bytes t) s) evaluator.new.variables)
+        (point (H.oracle host.new) (H.told host.new) evaluator.new.used) }
+    ensures later { Later evaluator.old evaluator.new }
+{
+    let mut last = String::new(evaluator.alloc);
+    for command in &script.commands {
+        evaluator.variables.at_place(command.place);
+        last = evaluator.command(host, limits, left, source, command, true)?;
     }
+    Ok(last)
+}
 
-    /// A text evaluated as a file.
-    #[tactic(none)]
-    fn file<H: Host>(
-        &mut self,
-        host: &mut H,
-        limits: Limits,
-        left: u32,
-        text: &str,
-    ) -> Result<String, Stop>
-        ensures comes { Leads limits.commands (rule limits.value_bytes)
-            (rule limits.value_bytes (plans.File left text.now self.old.variables))
-            (point (H.oracle host.old) (H.told host.old) self.old.used)
-            (after result (λ t s. finish (string_bytes t) s) self.new.variables)
-            (point (H.oracle host.new) (H.told host.new) self.new.used) }
-        ensures later { Later self.old self.new }
-    {
-        if left == 0 {
-            return Err(Stop::Halted(Halt::TooDeep));
+/// A text evaluated as a file.
+#[tactic(none)]
+fn run_file<H: Host>(
+    evaluator: &mut Evaluator,
+    host: &mut H,
+    limits: Limits,
+    left: u32,
+    text: &str,
+) -> Result<String, Stop>
+    ensures comes { Leads limits.commands (rule limits.value_bytes)
+        (rule limits.value_bytes (plans.File left text.now evaluator.old.variables))
+        (point (H.oracle host.old) (H.told host.old) evaluator.old.used)
+        (after result (λ t s. finish (string_bytes t) s) evaluator.new.variables)
+        (point (H.oracle host.new) (H.told host.new) evaluator.new.used) }
+    ensures later { Later evaluator.old evaluator.new }
+{
+    if left == 0 {
+        return Err(Stop::Halted(Halt::TooDeep));
+    }
+    match evaluator.kept.script_tree(text) {
+        Ok(tree) => {
+            let source = tree.text.as_str();
+            file_commands(evaluator, host, limits, left - 1, source, &tree.script)
         }
-        match self.kept.script_tree(text) {
-            Ok(tree) => {
-                self.file_commands(host, limits, left - 1, tree.text.as_str(), &tree.script)
-            }
-            Err(fault) => Err(Stop::of_text(fault)),
-        }
+        Err(fault) => Err(Stop::of_text(fault)),
     }
 }
 
@@ -215,7 +214,7 @@ pub fn evaluate_with<H: Host>(
         variables,
         used: 0,
     };
-    let outcome = evaluator.file(host, limits, depth_of(limits), script);
+    let outcome = run_file(&mut evaluator, host, limits, depth_of(limits), script);
     let Evaluator {
         alloc: _,
         kept: trees,

@@ -28,3 +28,9 @@ pub returns-in_err-changes-clause-wanting : goal.returns-in_err-changes-clause-w
 returns-in_err-changes-clause-wanting g c =
     let p = err_from_is_err_and c.from_residual-in_err-changes.result c.from_residual-in_err-changes.ensures.1 in
     rw (p.1, p.2) (own_number (asked_view c.args.request.now.action))
+
+pub returns-in_err-done-clause-failed : goal.returns-in_err-done-clause-failed
+returns-in_err-done-clause-failed g c =
+    let p = err_from_is_err_and c.from_residual.result c.from_residual.ensures.1 in
+    let failed = rw c.over-working.ensures.new at c.in_err-done.ensures.failed in
+    rw (p.1, p.2) failed

@@ -1,11 +1,17 @@
-use Rattle.std.proofs.Common.{[], List, map, string_bytes, Ok, ap, ◌∙◌, subst}
+use Rattle.std.proofs.Common.{[], List, map, string_bytes, Ok, ap, ◌∙◌, subst, refl}
 use Rattle.environment.specs.Texts.{Text}
 use Rattle.modulesearch.specs.Listed.{Listed}
 use Rattle.modulelist.specs.Listings.{listing_view}
 use Rattle.modulelist.specs.declared.listings.Listing as code
 use Rattle.defaultfiles.specs.Leaves.{Leaves}
 use Rattle.requests.specs.Reports.{avail_text}
-use Rattle.requests.specs.Steps.{begun, reported}
+use Rattle.requests.specs.Steps.{begun, reported, modulepath}
+use Rattle.filetree.specs.Agreement.{InEachPair, is_device}
+use Rattle.std.proofs.lemmas.Result.{err_from_is_err_and}
+use Rattle.modulesearch.specs.Looked.{ListingLooksAt}
+use Rattle.modulefind.proofs.FailureLemmas.{fails_then}
+use Rattle.modulesteps.specs.Answers.{is_failure, refused_read}
+use Rattle.modulesteps.proofs.FailureLemmas.{read_failure}
 use Rattle.modulesteps.proofs.commands.avail.Goals as goal
 
 pub returns-clause-told : goal.returns-clause-told
@@ -17,3 +23,16 @@ returns-clause-told g c = λ files listings a.
       subst (λ (path : Text). Listed (Leaves c.args.terms.limits) files listings path ls) c.modulepath.ensures (c.in_ok-listings.ensures.listed files listings a),
       ap Ok (c.in_ok-reporting.ensures e ∙ ap (λ (t : Text). reported (begun e) [] t) (c.as_str.ensures.value ∙ (c.in_ok-text.ensures ∙ ap (λ (vs : List code.Listing). avail_text texts (map listing_view vs)) c.as_slice.ensures.value))),
     )
+
+pub returns-in_err-listings-clause-failed : goal.returns-in_err-listings-clause-failed
+returns-in_err-listings-clause-failed g c =
+    let p = err_from_is_err_and c.from_residual.result c.from_residual.ensures.1 in
+    let fault = c.in_err-listings.field-0.0 in
+    let leaves = Leaves c.args.terms.limits in
+    let before = g.T.Tree.failed c.args.tree.now in
+    let agrees = g.T.Tree.agrees c.available.new.tree in
+    rw (p.1, p.2) (fails_then (is_device fault) (is_failure (refused_read fault)) before before (g.T.Tree.failed c.available.new.tree)
+    (λ at. InEachPair agrees (λ files listings. ListingLooksAt leaves files listings c.modulepath.result.now at))
+    (λ at. InEachPair agrees (λ files listings. ListingLooksAt leaves files listings (modulepath (g.V.Vars.vars c.args.env.now)) at))
+    refl (read_failure fault)
+    (λ at h files listings a. subst (λ (path : Text). ListingLooksAt leaves files listings path at) c.modulepath.ensures (h files listings a)) c.in_err-listings.ensures.failed)

@@ -6,8 +6,12 @@ use Rattle.relations.specs.Relations.{Then}
 use Rattle.requests.specs.Steps.{begun, Each, EndsRequest}
 use Rattle.modulesteps.specs.declared.done.Done.{Done}
 use Rattle.modulesteps.specs.Views.{site_of, done_view}
-use Rattle.modulesteps.specs.Parts.{DoesForName}
+use Rattle.modulesteps.specs.Parts.{DoesForName, LooksForEach}
 use Rattle.modulesteps.proofs.StepLemmas.{tells_refused, gives_refused}
+use Rattle.filetree.specs.Agreement.{InEachPair}
+use Rattle.modulefind.proofs.FailureLemmas.{fails_then}
+use Rattle.modulesteps.specs.Answers.{is_failure}
+use Rattle.modulesteps.proofs.FailureLemmas.{unfailed}
 use Rattle.modulesteps.proofs.commands.change_each.Goals as goal
 
 pub returns-in_err-do_each-clause-told : goal.returns-in_err-do_each-clause-told
@@ -42,3 +46,25 @@ returns-clause-told g c = λ files listings a.
     let names = map (λ (s : String Global). string_bytes s) c.args.names.now in
     let d = done_view c.do_each.new.done (g.V.Vars.vars c.do_each.new.env) in
     (Ok d, subst (λ x. Each (DoesForName c.args.doing (site_of c.args.terms files listings)) names x (Ok d)) (c.new-done.ensures e) (c.in_ok-do_each.ensures.told files listings a), c.in_ok-end.ensures)
+
+pub returns-in_err-do_each-clause-failed : goal.returns-in_err-do_each-clause-failed
+returns-in_err-do_each-clause-failed g c =
+    let p = err_from_is_err_and c.from_residual.result c.from_residual.ensures.1 in
+    let e = g.V.Vars.vars c.args.env.now in
+    let names = map (λ (s : String Global). string_bytes s) c.args.names.now in
+    let d = done_view c.new-done.result e in
+    let before = g.T.Tree.failed c.args.tree.now in
+    let agrees = g.T.Tree.agrees c.do_each.new.tree in
+    let fails = is_failure c.in_err-do_each.field-0.0 in
+    rw (p.1, p.2) (fails_then fails fails before before (g.T.Tree.failed c.do_each.new.tree)
+    (λ at. InEachPair agrees (λ files listings. LooksForEach c.args.doing (site_of c.args.terms files listings) names d at))
+    (λ at. InEachPair agrees (λ files listings. LooksForEach c.args.doing (site_of c.args.terms files listings) names (begun e) at)) refl refl
+    (λ at h files listings a. subst (λ x. LooksForEach c.args.doing (site_of c.args.terms files listings) names x at) (c.new-done.ensures e) (h files listings a))
+    c.in_err-do_each.ensures.failed)
+
+pub returns-in_err-end-clause-failed : goal.returns-in_err-end-clause-failed
+returns-in_err-end-clause-failed g c =
+    let p = err_from_is_err_and c.from_residual-in_err-end.result c.from_residual-in_err-end.ensures.1 in
+    let d = done_view c.do_each.new.done (g.V.Vars.vars c.do_each.new.env) in
+    rw (p.1, p.2) (unfailed c.in_err-end.field-0.0 (λ r. EndsRequest (map entry_of c.args.before.now) d (Err r))
+    (g.T.Tree.failed c.args.tree.now) (g.T.Tree.failed c.do_each.new.tree) _ c.in_err-end.ensures c.in_ok-do_each.ensures.failed)

@@ -9,6 +9,7 @@ use Rattle.modulesteps.specs.Views.{site_of, done_view}
 use Rattle.modulesteps.specs.Parts.{DoesForName, entries_view}
 use Rattle.modulesteps.proofs.StepLemmas.{tells_same, gives_refused}
 use Rattle.modulesteps.proofs.EachLemmas.{named_some}
+use Rattle.modulesteps.proofs.FailureLemmas.{unfailed}
 use Rattle.modulesteps.proofs.commands.change_names.Goals as goal
 
 pub returns-in_err-before-clause-told : goal.returns-in_err-before-clause-told
@@ -33,3 +34,9 @@ returns-clause-told g c =
     (λ files listings. Named names (Changes e (λ before. Each (DoesForName c.args.doing (site_of c.args.terms files listings)) names))) (λ q. q)
     (λ files listings o a h. named_some c.args.names.now c.is_empty.result c.is_empty.ensures c.if-is_empty.false (Changes e (λ before. Each (DoesForName c.args.doing (site_of c.args.terms files listings)) names)) o (Ok xs, c.in_ok-before.ensures.given, h))
     told
+
+pub returns-in_err-before-clause-failed : goal.returns-in_err-before-clause-failed
+returns-in_err-before-clause-failed g c =
+    let p = err_from_is_err_and c.from_residual.result c.from_residual.ensures.1 in
+    let failed = g.T.Tree.failed c.args.tree.now in
+    rw (p.1, p.2) (unfailed c.in_err-before.field-0.0 (λ r. Is (entries_of (g.V.Vars.vars c.args.env.now)) (Err r)) failed failed _ c.in_err-before.ensures.given refl)

@@ -1,10 +1,10 @@
-use Rattle.std.proofs.Common.{◌≡◌, ◌≤◌, Result, length, map, string_bytes}
+use Rattle.std.proofs.Common.{◌≡◌, ◌≤◌, List, ℕ, Result, length, map, string_bytes}
 use Rattle.filetree.specs.Agreement.{InEachPair, Narrows}
 use Rattle.requests.specs.Reasons.{RequestReason}
 use Rattle.requests.specs.Steps as steps
 use Rattle.requests.specs.Steps.{Each}
 use Rattle.modulesteps.specs.Views.{site_of, done_view}
-use Rattle.modulesteps.specs.Parts.{DoesForName}
+use Rattle.modulesteps.specs.Parts.{DoesForName, LooksForEach}
 use Rattle.modulesteps.proofs.commands.do_each.Given as goal
 
 abbrev pub invariant-loop-rest : goal.invariant-loop-rest
@@ -15,6 +15,10 @@ invariant-loop-rest g l = record {
       → Each (DoesForName l.doing (site_of l.terms files listings)) (map string_bytes l.names) (done_view l.initial.done (g.V.Vars.vars l.initial.env)) o);
   later : g.T.Tree.failures l.initial.tree ≤ g.T.Tree.failures l.tree;
   under : g.V.Vars.under l.env ≡ g.V.Vars.under l.initial.env;
+  unfailed : g.T.Tree.failed l.tree ≡ g.T.Tree.failed l.initial.tree;
+  looked : InEachPair (g.T.Tree.agrees l.tree) (λ files listings. (at : List ℕ)
+      → LooksForEach l.doing (site_of l.terms files listings) (map string_bytes l.rest) (done_view l.done (g.V.Vars.vars l.env)) at
+      → LooksForEach l.doing (site_of l.terms files listings) (map string_bytes l.names) (done_view l.initial.done (g.V.Vars.vars l.initial.env)) at);
 }
 
 abbrev pub decreases-loop-rest : goal.decreases-loop-rest

@@ -1,9 +1,14 @@
-use Rattle.std.proofs.Common.{◌<◌}
+use Rattle.std.proofs.Common.{◌<◌, refl}
 use Rattle.modulesteps.specs.declared.commands.Doing.{Doing}
 use Rattle.modulesteps.specs.declared.commands.Doing.TheVariants.{Load, Unload, Report}
 use Rattle.modulesteps.specs.Views.{site_of, done_view}
-use Rattle.modulesteps.specs.Parts.{DoesForName}
+use Rattle.modulesteps.specs.Parts.{DoesForName, LooksForName}
 use Rattle.modulesteps.proofs.StepLemmas.{tells_of}
+use Rattle.filetree.specs.Agreement.{InEachPair}
+use Rattle.modulefind.proofs.FailureLemmas.{fails_last}
+use Rattle.requests.specs.Looked.{UnloadLooksAt}
+use Rattle.modulesteps.specs.Answers.{is_failure}
+use Rattle.modulesteps.proofs.FailureLemmas.{fails_of}
 use Rattle.modulesteps.proofs.commands.do_name.Goals as goal
 
 pub returns-in-Load-clause-told : goal.returns-in-Load-clause-told
@@ -26,3 +31,34 @@ returns-in-Report-clause-told g c =
     let rose = g.T.Tree.failures c.args.tree.now < g.T.Tree.failures c.report_name.new.tree in
     tells_of (g.T.Tree.agrees c.report_name.new.tree) rose (λ (u : Unit {0}). done_view c.report_name.new.done (g.V.Vars.vars c.report_name.new.env)) c.report_name.result
     (λ (doing : Doing) files listings. DoesForName doing (site_of c.args.terms files listings) c.args.typed.now d) c.args.doing (Report c.in-Report.topic) c.in-Report.is c.report_name.ensures.told
+
+pub returns-in-Load-clause-failed : goal.returns-in-Load-clause-failed
+returns-in-Load-clause-failed g c =
+    let d = done_view c.args.done.now (g.V.Vars.vars c.args.env.now) in
+    let before = g.T.Tree.failed c.args.tree.now in
+    let now = g.T.Tree.failed c.load_name.new.tree in
+    let agrees = g.T.Tree.agrees c.load_name.new.tree in
+    fails_of agrees before now c.load_name.result
+    (λ (doing : Doing) files listings. LooksForName doing (site_of c.args.terms files listings) c.args.typed.now d) c.args.doing Load c.in-Load.is
+    c.load_name.ensures.failed
+
+pub returns-in-Unload-clause-failed : goal.returns-in-Unload-clause-failed
+returns-in-Unload-clause-failed g c =
+    let d = done_view c.args.done.now (g.V.Vars.vars c.args.env.now) in
+    let before = g.T.Tree.failed c.args.tree.now in
+    let now = g.T.Tree.failed c.unload_name.new.tree in
+    let agrees = g.T.Tree.agrees c.unload_name.new.tree in
+    fails_of agrees before now c.unload_name.result
+    (λ (doing : Doing) files listings. LooksForName doing (site_of c.args.terms files listings) c.args.typed.now d) c.args.doing Unload c.in-Unload.is
+    (fails_last is_failure before before now c.unload_name.result (UnloadLooksAt c.args.typed.now d)
+    (λ at. InEachPair agrees (λ files listings. UnloadLooksAt c.args.typed.now d at)) refl (λ at h files listings a. h) c.unload_name.ensures.failed)
+
+pub returns-in-Report-clause-failed : goal.returns-in-Report-clause-failed
+returns-in-Report-clause-failed g c =
+    let d = done_view c.args.done.now (g.V.Vars.vars c.args.env.now) in
+    let before = g.T.Tree.failed c.args.tree.now in
+    let now = g.T.Tree.failed c.report_name.new.tree in
+    let agrees = g.T.Tree.agrees c.report_name.new.tree in
+    fails_of agrees before now c.report_name.result
+    (λ (doing : Doing) files listings. LooksForName doing (site_of c.args.terms files listings) c.args.typed.now d) c.args.doing (Report c.in-Report.topic) c.in-Report.is
+    c.report_name.ensures.failed

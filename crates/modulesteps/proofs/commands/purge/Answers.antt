@@ -11,8 +11,13 @@ use Rattle.requests.specs.Steps.{begun, entries_of, Each, EndsRequest, RequestSt
 use Rattle.modulesteps.specs.declared.done.Done.{Done}
 use Rattle.modulesteps.specs.declared.commands.Doing.TheVariants.{Unload}
 use Rattle.modulesteps.specs.Views.{site_of, done_view}
-use Rattle.modulesteps.specs.Parts.{DoesForName, entries_view}
+use Rattle.modulesteps.specs.Parts.{DoesForName, entries_view, LooksForEach}
 use Rattle.modulesteps.proofs.StepLemmas.{tells_same, gives_refused}
+use Rattle.filetree.specs.Agreement.{InEachPair}
+use Rattle.modulefind.proofs.FailureLemmas.{fails_last}
+use Rattle.requests.specs.Looked.{UnloadLooksAt, EachLooksAt, PurgeLooksAt}
+use Rattle.modulesteps.specs.Answers.{is_failure}
+use Rattle.modulesteps.proofs.FailureLemmas.{unfailed}
 use Rattle.modulesteps.proofs.commands.purge.Goals as goal
 
 pub returns-in_err-before-clause-told : goal.returns-in_err-before-clause-told
@@ -35,3 +40,28 @@ returns-clause-told g c =
     (λ files listings. RequestStep (site_of c.args.terms files listings) e asked.purge) (λ q. q)
     (λ files listings o a h. (Ok xs, c.in_ok-before.ensures.given, subst (λ (ns : List Text). Then (Each (UnloadsName (site_of c.args.terms files listings) false) ns (begun e)) (EndsRequest xs) o) back h))
     told
+
+pub returns-in_err-before-clause-failed : goal.returns-in_err-before-clause-failed
+returns-in_err-before-clause-failed g c =
+    let p = err_from_is_err_and c.from_residual.result c.from_residual.ensures.1 in
+    let failed = g.T.Tree.failed c.args.tree.now in
+    rw (p.1, p.2) (unfailed c.in_err-before.field-0.0 (λ r. Is (entries_of (g.V.Vars.vars c.args.env.now)) (Err r)) failed failed _ c.in_err-before.ensures.given refl)
+
+pub returns-clause-failed : goal.returns-clause-failed
+returns-clause-failed g c =
+    let e = g.V.Vars.vars c.args.env.now in
+    let items = c.in_ok-before.before.items in
+    let xs = map entry_of items in
+    let before = g.T.Tree.failed c.args.tree.now in
+    let agrees = g.T.Tree.agrees c.change_each.new.tree in
+    let failed = rw c.as_slice-2.ensures.value at c.change_each.ensures.failed in
+    let back : map (λ (s : String Global). string_bytes s) c.in_ok-names.names.items ≡ reverse (names_of xs) = c.in_ok-names.ensures ∙ ap (λ (es : List Loaded). reverse (names_of (map entry_of es))) c.as_slice.ensures.value in
+    fails_last is_failure before before (g.T.Tree.failed c.change_each.new.tree) c.change_each.result
+    (λ at. InEachPair agrees (λ files listings. LooksForEach Unload (site_of c.args.terms files listings) (map (λ (s : String Global). string_bytes s) c.in_ok-names.names.items) (begun e) at))
+    (λ at. InEachPair agrees (λ files listings. PurgeLooksAt (site_of c.args.terms files listings) e at)) refl
+    (λ at h files listings a. record {
+      entries = xs;
+      read = c.in_ok-before.ensures.given;
+      unloading = subst (λ (ns : List Text). EachLooksAt (UnloadsName (site_of c.args.terms files listings) false) UnloadLooksAt ns (begun e) at) back (h files listings a);
+    })
+    failed

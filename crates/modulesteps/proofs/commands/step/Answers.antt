@@ -1,4 +1,4 @@
-use Rattle.std.proofs.Common.{◌≡◌, ◌<◌, Bor, IfErr, String, string_bytes, sym, subst}
+use Rattle.std.proofs.Common.{◌≡◌, ◌<◌, Bor, IfErr, String, string_bytes, sym, subst, refl}
 use Rattle.std.specs.declared.alloc.Global.{Global}
 use Rattle.std.specs.Option.{option_map}
 use Rattle.environment.specs.Texts.{Text}
@@ -12,6 +12,8 @@ use Rattle.modulesteps.specs.Messages.{WantsAmong, memory_numbers}
 use Rattle.modulesteps.specs.Views.{site_of, done_view}
 use Rattle.modulesteps.proofs.StepLemmas.{gives_tells, tells_of}
 use Rattle.modulesteps.proofs.WantLemmas.{wants_any}
+use Rattle.requests.specs.Looked.{RequestLooksAt}
+use Rattle.modulesteps.proofs.FailureLemmas.{fails_of, gives_unfailed}
 use Rattle.modulesteps.proofs.commands.step.Goals as goal
 
 pub returns-in-Load-clause-told : goal.returns-in-Load-clause-told
@@ -118,3 +120,66 @@ returns-in-Show-clause-wanting g c =
 pub returns-in-Whatis-clause-wanting : goal.returns-in-Whatis-clause-wanting
 returns-in-Whatis-clause-wanting g c =
     subst (λ (action : Action). IfErr c.report_names-in-Whatis.result (WantsAmong (memory_numbers (asked_view action)))) (sym c.in-Whatis.is) (wants_any c.report_names-in-Whatis.result)
+
+pub returns-in-Load-clause-failed : goal.returns-in-Load-clause-failed
+returns-in-Load-clause-failed g c =
+    let e = g.V.Vars.vars c.args.env.now in
+    let terms : Terms = record { limits = c.args.limits; shell = c.args.request.now.shell } in
+    let failed = rw c.as_slice.ensures.value at c.change_names.ensures.failed in
+    fails_of (g.T.Tree.agrees c.change_names.new.tree) (g.T.Tree.failed c.args.tree.now) (g.T.Tree.failed c.change_names.new.tree) c.change_names.result
+    (λ (action : Action) files listings. RequestLooksAt (site_of terms files listings) e (asked_view action)) c.args.request.now.action (actions.Load c.in-Load.names) c.in-Load.is failed
+
+pub returns-in-Unload-clause-failed : goal.returns-in-Unload-clause-failed
+returns-in-Unload-clause-failed g c =
+    let e = g.V.Vars.vars c.args.env.now in
+    let terms : Terms = record { limits = c.args.limits; shell = c.args.request.now.shell } in
+    let failed = rw c.as_slice-in-Unload.ensures.value at c.change_names-in-Unload.ensures.failed in
+    fails_of (g.T.Tree.agrees c.change_names-in-Unload.new.tree) (g.T.Tree.failed c.args.tree.now) (g.T.Tree.failed c.change_names-in-Unload.new.tree) c.change_names-in-Unload.result
+    (λ (action : Action) files listings. RequestLooksAt (site_of terms files listings) e (asked_view action)) c.args.request.now.action (actions.Unload c.in-Unload.names) c.in-Unload.is failed
+
+pub returns-in-Switch-clause-failed : goal.returns-in-Switch-clause-failed
+returns-in-Switch-clause-failed g c =
+    let e = g.V.Vars.vars c.args.env.now in
+    let terms : Terms = record { limits = c.args.limits; shell = c.args.request.now.shell } in
+    let old : option_map (λ (x : Bor Text). x.now) c.as_deref.result ≡ option_map (λ (s : String Global). string_bytes s) c.in-Switch.old = c.as_deref.ensures.value in
+    let failed = rw (old, c.as_str.ensures.value) at c.switch.ensures.failed in
+    fails_of (g.T.Tree.agrees c.switch.new.tree) (g.T.Tree.failed c.args.tree.now) (g.T.Tree.failed c.switch.new.tree) c.switch.result
+    (λ (action : Action) files listings. RequestLooksAt (site_of terms files listings) e (asked_view action)) c.args.request.now.action (actions.Switch c.in-Switch.old c.in-Switch.new) c.in-Switch.is failed
+
+pub returns-in-Purge-clause-failed : goal.returns-in-Purge-clause-failed
+returns-in-Purge-clause-failed g c =
+    let e = g.V.Vars.vars c.args.env.now in
+    let terms : Terms = record { limits = c.args.limits; shell = c.args.request.now.shell } in
+    let failed = c.purge.ensures.failed in
+    fails_of (g.T.Tree.agrees c.purge.new.tree) (g.T.Tree.failed c.args.tree.now) (g.T.Tree.failed c.purge.new.tree) c.purge.result
+    (λ (action : Action) files listings. RequestLooksAt (site_of terms files listings) e (asked_view action)) c.args.request.now.action actions.Purge c.in-Purge.is failed
+
+pub returns-in-List-clause-failed : goal.returns-in-List-clause-failed
+returns-in-List-clause-failed g c =
+    let e = g.V.Vars.vars c.args.env.now in
+    let failed = g.T.Tree.failed c.args.tree.now in
+    gives_unfailed (λ (x : Done). done_view x e) c.list.result (ListsLoaded e) failed failed _ c.list.ensures.given refl
+
+pub returns-in-Avail-clause-failed : goal.returns-in-Avail-clause-failed
+returns-in-Avail-clause-failed g c =
+    let e = g.V.Vars.vars c.args.env.now in
+    let terms : Terms = record { limits = c.args.limits; shell = c.args.request.now.shell } in
+    let failed = c.avail.ensures.failed in
+    fails_of (g.T.Tree.agrees c.avail.new.tree) (g.T.Tree.failed c.args.tree.now) (g.T.Tree.failed c.avail.new.tree) c.avail.result
+    (λ (action : Action) files listings. RequestLooksAt (site_of terms files listings) e (asked_view action)) c.args.request.now.action (actions.Avail c.in-Avail.texts) c.in-Avail.is failed
+
+pub returns-in-Show-clause-failed : goal.returns-in-Show-clause-failed
+returns-in-Show-clause-failed g c =
+    let e = g.V.Vars.vars c.args.env.now in
+    let terms : Terms = record { limits = c.args.limits; shell = c.args.request.now.shell } in
+    let failed = rw c.as_slice-in-Show.ensures.value at c.report_names.ensures.failed in
+    fails_of (g.T.Tree.agrees c.report_names.new.tree) (g.T.Tree.failed c.args.tree.now) (g.T.Tree.failed c.report_names.new.tree) c.report_names.result
+    (λ (action : Action) files listings. RequestLooksAt (site_of terms files listings) e (asked_view action)) c.args.request.now.action (actions.Show c.in-Show.names) c.in-Show.is failed
+
+pub returns-in-Whatis-clause-failed : goal.returns-in-Whatis-clause-failed
+returns-in-Whatis-clause-failed g c =
+    let e = g.V.Vars.vars c.args.env.now in
+    let terms : Terms = record { limits = c.args.limits; shell = c.args.request.now.shell } in
+    let failed = rw c.as_slice-in-Whatis.ensures.value at c.report_names-in-Whatis.ensures.failed in
+    fails_of (g.T.Tree.agrees c.report_names-in-Whatis.new.tree) (g.T.Tree.failed c.args.tree.now) (g.T.Tree.failed c.report_names-in-Whatis.new.tree) c.report_names-in-Whatis.result
+    (λ (action : Action) files listings. RequestLooksAt (site_of terms files listings) e (asked_view action)) c.args.request.now.action (actions.Whatis c.in-Whatis.names) c.in-Whatis.is failed

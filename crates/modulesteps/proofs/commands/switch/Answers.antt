@@ -5,11 +5,16 @@ use Rattle.environment.specs.Texts.{Text}
 use Rattle.loadedlist.specs.LoadedEntries.{entry_of}
 use Rattle.relations.specs.Relations.{Is, Then}
 use Rattle.requests.specs.Requests as asked
-use Rattle.requests.specs.Steps.{begun, entries_of, EndsRequest, RequestStep, LoadsName, UnloadsName, Switches}
+use Rattle.requests.specs.Steps.{begun, entries_of, EndsRequest, RequestStep, LoadsName, UnloadsName, Switches, old_name}
 use Rattle.modulesteps.specs.declared.done.Done.{Done}
 use Rattle.modulesteps.specs.Views.{site_of, done_view}
 use Rattle.modulesteps.specs.Parts.{entries_view}
 use Rattle.modulesteps.proofs.StepLemmas.{tells_refused, gives_refused}
+use Rattle.filetree.specs.Agreement.{InEachPair}
+use Rattle.modulefind.proofs.FailureLemmas.{fails_then}
+use Rattle.requests.specs.Looked.{SwitchLooksAt}
+use Rattle.modulesteps.specs.Answers.{is_failure}
+use Rattle.modulesteps.proofs.FailureLemmas.{unfailed}
 use Rattle.modulesteps.proofs.commands.switch.Goals as goal
 
 pub returns-in_err-before-clause-told : goal.returns-in_err-before-clause-told
@@ -78,3 +83,32 @@ returns-clause-told g c = λ files listings a.
         ended,
       ),
     )
+
+pub returns-in_err-before-clause-failed : goal.returns-in_err-before-clause-failed
+returns-in_err-before-clause-failed g c =
+    let p = err_from_is_err_and c.from_residual.result c.from_residual.ensures.1 in
+    let failed = g.T.Tree.failed c.args.tree.now in
+    rw (p.1, p.2) (unfailed c.in_err-before.field-0.0 (λ r. Is (entries_of (g.V.Vars.vars c.args.env.now)) (Err r)) failed failed _ c.in_err-before.ensures.given refl)
+
+pub returns-in_err-switch_names-clause-failed : goal.returns-in_err-switch_names-clause-failed
+returns-in_err-switch_names-clause-failed g c =
+    let p = err_from_is_err_and c.from_residual-in_err-switch_names.result c.from_residual-in_err-switch_names.ensures.1 in
+    let e = g.V.Vars.vars c.args.env.now in
+    let d = done_view c.new-done.result e in
+    let old = old_name (option_map (λ x. x.now) c.args.old) c.args.new.now in
+    let before = g.T.Tree.failed c.args.tree.now in
+    let agrees = g.T.Tree.agrees c.switch_names.new.tree in
+    let fails = is_failure c.in_err-switch_names.field-0.0 in
+    rw (p.1, p.2) (fails_then fails fails before before (g.T.Tree.failed c.switch_names.new.tree)
+    (λ at. InEachPair agrees (λ files listings. SwitchLooksAt (site_of c.args.terms files listings) c.old_name.result.now c.args.new.now d at))
+    (λ at. InEachPair agrees (λ files listings. SwitchLooksAt (site_of c.args.terms files listings) old c.args.new.now (begun e) at)) refl refl
+    (λ at h files listings a. subst (λ (n : Text). SwitchLooksAt (site_of c.args.terms files listings) n c.args.new.now (begun e) at) c.old_name.ensures
+    (subst (λ x. SwitchLooksAt (site_of c.args.terms files listings) c.old_name.result.now c.args.new.now x at) (c.new-done.ensures e) (h files listings a)))
+    c.in_err-switch_names.ensures.failed)
+
+pub returns-in_err-end-clause-failed : goal.returns-in_err-end-clause-failed
+returns-in_err-end-clause-failed g c =
+    let p = err_from_is_err_and c.from_residual-in_err-end.result c.from_residual-in_err-end.ensures.1 in
+    let d = done_view c.switch_names.new.done (g.V.Vars.vars c.switch_names.new.env) in
+    rw (p.1, p.2) (unfailed c.in_err-end.field-0.0 (λ r. EndsRequest (map entry_of c.as_slice.result.now) d (Err r))
+    (g.T.Tree.failed c.args.tree.now) (g.T.Tree.failed c.switch_names.new.tree) _ c.in_err-end.ensures c.in_ok-switch_names.ensures.failed)

@@ -1,4 +1,4 @@
-use Rattle.std.proofs.Common.{◌≡◌, ◌<◌, true, false, List, map, sym, ap, ◌∙◌}
+use Rattle.std.proofs.Common.{◌≡◌, ◌<◌, true, false, List, map, sym, ap, ◌∙◌, Err, None, refl}
 use Rattle.std.proofs.lemmas.Result.{err_from_is_err_and}
 use Rattle.environment.specs.Texts.{has}
 use Rattle.loadedlist.specs.Loaded.{names_of}
@@ -11,6 +11,11 @@ use Rattle.modulesteps.specs.Views.{site_of, done_view}
 use Rattle.modulesteps.specs.Parts.{entries_view}
 use Rattle.modulesteps.proofs.StepLemmas.{gives_tells, gives_refused, tells_refused}
 use Rattle.modulesteps.proofs.NameLemmas.{loads_unread, loads_loaded, loads_unfound, loads_found}
+use Rattle.filetree.specs.Agreement.{InEachPair}
+use Rattle.modulefind.proofs.FailureLemmas.{fails_then}
+use Rattle.requests.specs.Looked.{SearchLooksAt, LoadLooksAt}
+use Rattle.modulesteps.specs.Answers.{is_failure}
+use Rattle.modulesteps.proofs.FailureLemmas.{unfailed, gives_unfailed}
 use Rattle.modulesteps.proofs.files.load_name.Goals as goal
 
 pub returns-in_err-found-clause-told : goal.returns-in_err-found-clause-told
@@ -60,3 +65,34 @@ returns-then-is_loaded-clause-told g c = λ files listings k.
     let items = c.in_ok-entries.entries.items in
     let yes : has a.typed.now (names_of (map entry_of items)) ≡ true = ap (λ (es : List Loaded). has a.typed.now (names_of (map entry_of es))) (sym c.as_slice.ensures.value) ∙ (sym c.is_loaded.ensures ∙ c.if-is_loaded.true) in
     loads_loaded (site_of a.terms files listings) a.in_switch a.typed.now d (map entry_of items) c.in_ok-entries.ensures.given yes
+
+pub returns-in_err-entries-clause-failed : goal.returns-in_err-entries-clause-failed
+returns-in_err-entries-clause-failed g c =
+    let p = err_from_is_err_and c.from_residual.result c.from_residual.ensures.1 in
+    let failed = g.T.Tree.failed c.args.tree.now in
+    rw (p.1, p.2) (unfailed c.in_err-entries.field-0.0 (λ r. Is (entries_of (g.V.Vars.vars c.args.env.now)) (Err r)) failed failed _ c.in_err-entries.ensures.given refl)
+
+pub returns-in_err-found-clause-failed : goal.returns-in_err-found-clause-failed
+returns-in_err-found-clause-failed g c =
+    let p = err_from_is_err_and c.from_residual-in_err-found.result c.from_residual-in_err-found.ensures.1 in
+    let a = c.args.asking in
+    let e = g.V.Vars.vars c.args.env.now in
+    let d = done_view c.args.done.now e in
+    let items = c.in_ok-entries.entries.items in
+    let no : has a.typed.now (names_of (map entry_of items)) ≡ false = ap (λ (es : List Loaded). has a.typed.now (names_of (map entry_of es))) (sym c.as_slice.ensures.value) ∙ (sym c.is_loaded.ensures ∙ c.if-is_loaded.false) in
+    let before = g.T.Tree.failed c.args.tree.now in
+    let agrees = g.T.Tree.agrees c.find_module.new.tree in
+    let fails = is_failure c.in_err-found.field-0.0 in
+    rw (p.1, p.2) (fails_then fails fails before before (g.T.Tree.failed c.find_module.new.tree)
+    (λ at. InEachPair agrees (λ files listings. SearchLooksAt (site_of a.terms files listings) e a.typed.now at))
+    (λ at. InEachPair agrees (λ files listings. LoadLooksAt (site_of a.terms files listings) a.typed.now d at))
+    refl refl (λ at h files listings k. record { entries = map entry_of items; read = c.in_ok-entries.ensures.given; unloaded = no; searched = h files listings k })
+    c.in_err-found.ensures.failed)
+
+pub returns-clause-failed : goal.returns-clause-failed
+returns-clause-failed g c =
+    let a = c.args.asking in
+    let d = done_view c.args.done.now (g.V.Vars.vars c.args.env.now) in
+    gives_unfailed (λ (u : Unit {0}). done_view c.load_found.new.done (g.V.Vars.vars c.load_found.new.env)) c.load_found.result
+    (LoadsFound (site_of a.terms (λ path. None) (λ path. None)) a.in_switch a.typed.now d (map entry_of c.as_slice-2.result.now) (found_view c.in_ok-found.found))
+    (g.T.Tree.failed c.args.tree.now) (g.T.Tree.failed c.find_module.new.tree) _ (c.load_found.ensures.given (λ path. None) (λ path. None)) c.in_ok-found.ensures.failed

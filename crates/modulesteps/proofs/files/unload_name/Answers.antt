@@ -11,6 +11,10 @@ use Rattle.modulesteps.specs.Views.{site_of, done_view}
 use Rattle.modulesteps.specs.Parts.{entries_view}
 use Rattle.modulesteps.proofs.StepLemmas.{gives_refused, tells_same}
 use Rattle.modulesteps.proofs.NameLemmas.{unloads_unread, unloads_misnamed, unloads_meant}
+use Rattle.modulefind.proofs.FailureLemmas.{fails_last}
+use Rattle.requests.specs.Looked.{UnloadLooksAt}
+use Rattle.modulesteps.specs.Answers.{is_failure}
+use Rattle.modulesteps.proofs.FailureLemmas.{unfailed}
 use Rattle.modulesteps.proofs.files.unload_name.Goals as goal
 
 pub returns-in_err-entries-clause-told : goal.returns-in_err-entries-clause-told
@@ -56,3 +60,21 @@ returns-clause-told g c =
     tells_same (g.T.Tree.agrees c.unload_entry.new.tree) rose rose (λ (u : Unit {0}). done_view c.unload_entry.new.done (g.V.Vars.vars c.unload_entry.new.env)) c.unload_entry.result
     (λ files listings. UnloadsEntry (site_of a.terms files listings) a.in_switch a.typed.now d xs x) (λ files listings. UnloadsName (site_of a.terms files listings) a.in_switch a.typed.now d) (λ q. q)
     (λ files listings o k h. unloads_meant (site_of a.terms files listings) a.in_switch a.typed.now d xs c.in_ok-entries.ensures.given yes (Some x) meant o h) told
+
+pub returns-in_err-entries-clause-failed : goal.returns-in_err-entries-clause-failed
+returns-in_err-entries-clause-failed g c =
+    let p = err_from_is_err_and c.from_residual.result c.from_residual.ensures.1 in
+    let failed = g.T.Tree.failed c.args.tree.now in
+    rw (p.1, p.2) (unfailed c.in_err-entries.field-0.0 (λ r. Is (entries_of (g.V.Vars.vars c.args.env.now)) (Err r)) failed failed _ c.in_err-entries.ensures.given refl)
+
+pub returns-clause-failed : goal.returns-clause-failed
+returns-clause-failed g c =
+    let a = c.args.asking in
+    let d = done_view c.args.done.now (g.V.Vars.vars c.args.env.now) in
+    let xs = map entry_of c.in_ok-entries.entries.items in
+    let x = entry_of c.in-Some.entry.now in
+    let yes : is_module_name a.typed.now ≡ true = sym c.is_module_name.ensures ∙ c.if-not-is_module_name.false in
+    let meant = rw c.as_slice.ensures.value at c.in-Some.ensures in
+    let before = g.T.Tree.failed c.args.tree.now in
+    fails_last is_failure before before (g.T.Tree.failed c.unload_entry.new.tree) c.unload_entry.result (λ at. at ≡ x.path) (UnloadLooksAt a.typed.now d) refl
+    (λ at h. record { entries = xs; read = c.in_ok-entries.ensures.given; spelled = yes; entry = x; meant = meant; recorded = h }) c.unload_entry.ensures.failed

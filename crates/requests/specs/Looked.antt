@@ -1,0 +1,75 @@
+-- Where a request looks: the paths of the files and folders that it asks for on its way (module(1)). No failure of the
+-- device at another path can refuse it.
+use Rattle.std.specs.Prelude.{◌≡◌, ◌⊎◌, true, false, List, [], ◌∷◌, reverse, Some, Result, Ok}
+use Rattle.modulename.specs.ModuleName.{is_module_name}
+use Rattle.environment.specs.Texts.{Text, has}
+use Rattle.environment.specs.Environment.{Environment}
+use Rattle.loadedlist.specs.Loaded.{Entry, names_of}
+use Rattle.defaultfiles.specs.Leaves.{Leaves}
+use Rattle.modulerecords.specs.Effects as modes
+use Rattle.modulesearch.specs.Looked as search
+use Rattle.requests.specs.Reasons.{RequestReason}
+use Rattle.requests.specs.Requests.{Asked, load, unload, switch, purge, list, avail, show, whatis}
+use Rattle.requests.specs.Steps.{Site, Done, begun, entries_of, modulepath, last_meant, old_name}
+use Rattle.requests.specs.Steps.{LoadsName, UnloadsName, ShowsName, shown_text, described_text}
+
+-- The search for what a name means now looks at this path. The file of the module that is found is one of these.
+abbrev pub SearchLooksAt : Site → Environment → Text → Text → Type 0
+SearchLooksAt s e name at = search.LooksAt (Leaves s.limits) s.files s.listings (modulepath e) name at
+
+-- to load a name: where it is searched, unless it is exactly a loaded module's
+pub record LoadLooksAt (s : Site) (typed : Text) (d : Done) (at : Text) : Type 0 where
+  pub entries : List Entry
+  pub read : Ok entries ≡ entries_of d.env
+  pub unloaded : has typed (names_of entries) ≡ false
+  pub searched : SearchLooksAt s d.env typed at
+
+-- to unload a name: the recorded path of the module that it means, and no other
+pub record UnloadLooksAt (typed : Text) (d : Done) (at : Text) : Type 0 where
+  pub entries : List Entry
+  pub read : Ok entries ≡ entries_of d.env
+  pub spelled : is_module_name typed ≡ true
+  pub entry : Entry
+  pub meant : Some entry ≡ last_meant typed entries
+  pub recorded : at ≡ entry.path
+
+-- to show a name: where it is searched
+pub record ShowLooksAt (s : Site) (typed : Text) (d : Done) (at : Text) : Type 0 where
+  pub entries : List Entry
+  pub read : Ok entries ≡ entries_of d.env
+  pub searched : SearchLooksAt s d.env typed at
+
+-- first one step, and then another behind what the first one made
+abbrev pub LooksInTurn : (Text → Type 0) → (Result Done RequestReason → Type 0) → (Done → Text → Type 0) → Text → Type 0
+LooksInTurn First Does Second at = First at ⊎ ((mid : Done) × Does (Ok mid) × Second mid at)
+
+-- for each name in turn
+abbrev pub EachLooksAt : (Text → Done → Result Done RequestReason → Type 0) → (Text → Done → Text → Type 0)
+    → List Text → Done → Text → Type 0
+EachLooksAt Does Looks [] d at = ⊥
+EachLooksAt Does Looks (name ∷ names) d at =
+    LooksInTurn (Looks name d) (Does name d) (EachLooksAt Does Looks names) at
+
+abbrev pub SwitchLooksAt : Site → Text → Text → Done → Text → Type 0
+SwitchLooksAt s old new d =
+    LooksInTurn (UnloadLooksAt old d) (UnloadsName s true old d) (LoadLooksAt s new)
+
+-- for all loaded modules, the last loaded first
+pub record PurgeLooksAt (s : Site) (e : Environment) (at : Text) : Type 0 where
+  pub entries : List Entry
+  pub read : Ok entries ≡ entries_of e
+  pub unloading : EachLooksAt (UnloadsName s false) UnloadLooksAt (reverse (names_of entries)) (begun e) at
+
+-- The request looks at this path.
+abbrev pub RequestLooksAt : Site → Environment → Asked → Text → Type 0
+RequestLooksAt s e (load names) at = EachLooksAt (LoadsName s false) (LoadLooksAt s) names (begun e) at
+RequestLooksAt s e (unload names) at = EachLooksAt (UnloadsName s false) UnloadLooksAt names (begun e) at
+RequestLooksAt s e (switch old new) at = SwitchLooksAt s (old_name old new) new (begun e) at
+RequestLooksAt s e purge at = PurgeLooksAt s e at
+RequestLooksAt s e list at = ⊥
+RequestLooksAt s e (avail texts) at =
+    search.ListingLooksAt (Leaves s.limits) s.files s.listings (modulepath e) at
+RequestLooksAt s e (show names) at =
+    EachLooksAt (ShowsName s modes.display shown_text) (ShowLooksAt s) names (begun e) at
+RequestLooksAt s e (whatis names) at =
+    EachLooksAt (ShowsName s modes.whatis described_text) (ShowLooksAt s) names (begun e) at

@@ -1,0 +1,148 @@
+//! Core commands that evaluate no script.
+ghost use Rattle.std.specs.Prelude.{◌≡◌, ◌∷◌, ℕ, None, map, string_bytes};
+ghost use Rattle.tclrules.specs.Leads.{Leads, Point, point};
+ghost use Rattle.tclrules.specs.Variables.{State};
+ghost use Rattle.tclrules.specs.Plans as plans;
+ghost use Rattle.tclrules.specs.Plans.{Bounds, Job, Next, ended, raise, sized};
+ghost use Rattle.tclrules.specs.Rules as rules;
+ghost use Rattle.tclforms.specs.Views.{simple_view};
+ghost use Rattle.tclsteps.specs.Machine.{bounds};
+ghost use Rattle.tclsteps.specs.Stops.{after, stopped};
+ghost use Rattle.tclcommands.specs.Does.{value_text};
+ghost use Rattle.tclendings.specs.Runs.{ComesToText};
+
+use crate::fault::left_out;
+use std::alloc::Global;
+use tclarguments::is_left_out;
+use tclcommands::{
+    Value, append, consult, define, exists, get, global, increase, list_append, put, set, unset,
+};
+use tclforms::Simple;
+use tclrules::{Host, Limits};
+use tclsteps::{Halt, Stop};
+use tclvariables::Variables;
+
+fn returned(alloc: Global, text: &str) -> Stop
+    ensures { (most : ℕ) (r : Job → plans.Step) (s : State) (x : Point)
+        → Leads most r (ended (plans.Returned text.now s)) x (stopped result s) x }
+{
+    match String::from_str(alloc, text) {
+        Ok(text) => Stop::Returned(text),
+        Err(error) => Stop::from(error),
+    }
+}
+
+fn raised(alloc: Global, message: &str) -> Stop
+    ensures { (most : ℕ) (r : Job → plans.Step) (s : State) (x : Point)
+        → Leads most r (raise message.now s) x (stopped result s) x }
+{
+    match String::from_str(alloc, message) {
+        Ok(message) => Stop::Raised(message),
+        Err(error) => Stop::from(error),
+    }
+}
+
+/// What the form of a command does that evaluates no script.
+fn plain_value<'a, H: Host>(
+    alloc: Global,
+    variables: &mut Variables,
+    host: &mut H,
+    limits: Limits,
+    form: Simple<'a>,
+) -> Result<Value<'a>, Stop>
+    ensures { (most left used : ℕ) (r : Job → plans.Step) (k : Next) → Leads most r
+        (rules.form (bounds limits.value_bytes left) (simple_view form.entry) variables.old k)
+        (point (H.oracle host.old) (H.told host.old) used)
+        (after result (λ v s. k (value_text v s) s) variables.new)
+        (point (H.oracle host.new) (H.told host.new) used) }
+{
+    let limit = limits.value_bytes;
+    match form {
+        Simple::Get(name) => get(alloc, variables, host, name),
+        Simple::Set(name, value) => set(alloc, variables, limit, name, value),
+        Simple::Append(name, values) => append(alloc, variables, limit, name, values),
+        Simple::ListAppend(name, values) => list_append(alloc, variables, limit, name, values),
+        Simple::Increase(name, numbers) => increase(alloc, variables, limit, name, numbers),
+        Simple::Exists(name) => exists(alloc, variables, host, name),
+        Simple::Global(names) => global(alloc, variables, names),
+        Simple::Unset(quiet, names) => unset(alloc, variables, quiet, names),
+        Simple::Define(name, parameters, body) => define(alloc, variables, name, parameters, body),
+        Simple::Put(words) => put(alloc, variables, host, words),
+        Simple::Return(text) => Err(returned(alloc, text)),
+        Simple::Error(message) => Err(raised(alloc, message)),
+        Simple::Break => Err(Stop::Broken),
+        Simple::Continue => Err(Stop::Continued),
+        Simple::Exit => Err(Stop::Halted(Halt::Stopped)),
+    }
+}
+
+/// The text of a command's result within the limit, of which no copy is made where nobody wants it.
+fn answer(
+    alloc: Global,
+    variables: &Variables,
+    limits: Limits,
+    wanted: bool,
+    value: Value<'_>,
+) -> Result<String, Stop>
+    ensures { ComesToText wanted limits.value_bytes result
+        (λ t. (most : ℕ) (r : Job → plans.Step) (k : Next) (x : Point)
+        → Leads most r (sized limits.value_bytes (value_text value.entry variables.now) (k (value_text value.entry
+        variables.now) variables.now)) x (after result (λ _ s. k t s) variables.now) x) }
+{
+    if value.len(variables) > limits.value_bytes {
+        return Err(Stop::Halted(Halt::ValueTooLong));
+    }
+    if wanted {
+        return Ok(value.into_text(alloc, variables)?);
+    }
+    Ok(String::new(alloc))
+}
+
+/// What the form of a command does that evaluates no script, with the text of its result.
+pub fn plain<H: Host>(
+    alloc: Global,
+    variables: &mut Variables,
+    host: &mut H,
+    limits: Limits,
+    wanted: bool,
+    form: Simple<'_>,
+) -> Result<String, Stop>
+    ensures { ComesToText wanted limits.value_bytes result (λ t. (most left used : ℕ) (r : Job → plans.Step) (k : Next)
+        → Leads most r (rules.form (bounds limits.value_bytes left) (simple_view form.entry) variables.old
+        (λ u s. sized limits.value_bytes u (k u s)))
+        (point (H.oracle host.old) (H.told host.old) used)
+        (after result (λ _ s. k t s) variables.new)
+        (point (H.oracle host.new) (H.told host.new) used)) }
+{
+    let value = plain_value(alloc, variables, host, limits, form)?;
+    answer(alloc, variables, limits, wanted, value)
+}
+
+/// A command of a name that is no procedure's: one that is left out, or one for the host.
+pub fn unknown<H: Host>(
+    alloc: Global,
+    variables: &Variables,
+    host: &mut H,
+    limits: Limits,
+    wanted: bool,
+    name: &str,
+    operands: &[String],
+    words: &[String],
+) -> Result<String, Stop>
+    requires { map string_bytes words.now ≡ name.now ∷ map string_bytes operands.now }
+    ensures { ComesToText wanted limits.value_bytes result
+        (λ t. (most used : ℕ) (b : Bounds) (r : Job → plans.Step) (k :
+        Next)
+        → Leads most r (rules.other_command b name.now (map string_bytes operands.now) variables.now
+        (λ u s. sized limits.value_bytes u (k u s)) None)
+        (point (H.oracle host.old) (H.told host.old) used)
+        (after result (λ _ s. k t s) variables.now)
+        (point (H.oracle host.new) (H.told host.new) used)) }
+{
+    let _operands = operands;
+    if is_left_out(name) {
+        return Err(Stop::from(left_out(alloc, name)));
+    }
+    let value = consult(alloc, variables, host, words)?;
+    answer(alloc, variables, limits, wanted, value)
+}

@@ -1,0 +1,120 @@
+//! How a script ended, as what evaluated it goes on.
+ghost use Rattle.std.specs.Prelude.{◌≡◌, ℕ, Option, option_map, string_bytes};
+ghost use Rattle.tclrules.specs.Leads.{Leads, Point};
+ghost use Rattle.tclsteps.specs.Machine.{bounds};
+ghost use Rattle.tclrules.specs.Variables.{State, Frame, in_frame};
+ghost use Rattle.tclrules.specs.Plans as plans;
+ghost use Rattle.tclrules.specs.Plans.{Bounds, Job, Next};
+ghost use Rattle.tclrules.specs.Rules.{after_turn, after_next, after_call, caught, catch_into};
+ghost use Rattle.tclchars.specs.Runs.{Text};
+ghost use Rattle.tclsteps.specs.Stops.{after};
+ghost use Rattle.tclendings.specs.Runs.{ran, turned};
+
+use std::alloc::Global;
+use tclarguments::outside_loop;
+use tclcommands::write;
+use tclrules::Limits;
+use tclsteps::Stop;
+use tclvariables::Variables;
+
+/// Whether a loop goes on after its body.
+pub fn after_turn(outcome: Result<String, Stop>) -> Result<bool, Stop>
+    ensures { (again : State → plans.Step) (s : State)
+        → ran outcome (after_turn again) s ≡ after result (turned again) s }
+{
+    match outcome {
+        Ok(_) | Err(Stop::Continued) => Ok(true),
+        Err(Stop::Broken) => Ok(false),
+        Err(stop) => Err(stop),
+    }
+}
+
+/// Whether a loop goes on after the script between its turns.
+pub fn after_next(outcome: Result<String, Stop>) -> Result<bool, Stop>
+    ensures { (again : State → plans.Step) (s : State)
+        → ran outcome (after_next again) s ≡ after result (turned again) s }
+{
+    match outcome {
+        Ok(_) => Ok(true),
+        Err(Stop::Broken) => Ok(false),
+        Err(stop) => Err(stop),
+    }
+}
+
+/// What `catch` makes of a script: its code, and what goes into the variable.
+#[derive(Drop)]
+struct Caught {
+    code: &'static str,
+    value: String,
+}
+
+/// Catches how a script ended, unless it is halted.
+fn catch_outcome(alloc: Global, outcome: Result<String, Stop>) -> Result<Caught, Stop>
+    ensures { (b : Bounds) (v : Option Text) (k : Next) (s : State)
+        → ran outcome (caught b v k) s
+        ≡ after result (λ c s'. catch_into b v c.code.now (string_bytes c.value) s' k) s }
+{
+    let (code, value) = match outcome {
+        Ok(value) => ("0", value),
+        Err(Stop::Raised(message)) => ("1", message),
+        Err(Stop::Returned(value)) => ("2", value),
+        Err(Stop::Broken) => ("3", String::new(alloc)),
+        Err(Stop::Continued) => ("4", String::new(alloc)),
+        Err(stop) => return Err(stop),
+    };
+    Ok(Caught { code, value })
+}
+
+/// Keeps what was caught in the variable, where one is named, and answers the code.
+fn keep_caught(
+    alloc: Global,
+    variables: &mut Variables,
+    limits: Limits,
+    name: Option<&str>,
+    caught: Caught,
+) -> Result<String, Stop>
+    ensures { (most left : ℕ) (r : Job → plans.Step) (k : Next) (x : Point) → Leads most r
+        (catch_into (bounds limits.value_bytes left) (option_map (λ v. v.now) name.entry) caught.code.now
+        (string_bytes caught.value) variables.old k) x
+        (after result (λ t s. k (string_bytes t) s) variables.new) x }
+{
+    let Caught { code, value } = caught;
+    match name {
+        None => Ok(String::from_str(alloc, code)?),
+        Some(name) => {
+            write(alloc, variables, limits.value_bytes, name, value)?;
+            Ok(String::from_str(alloc, code)?)
+        }
+    }
+}
+
+/// What `catch` makes of how a script ended.
+pub fn after_catch(
+    alloc: Global,
+    variables: &mut Variables,
+    limits: Limits,
+    name: Option<&str>,
+    outcome: Result<String, Stop>,
+) -> Result<String, Stop>
+    ensures { (most left : ℕ) (r : Job → plans.Step) (k : Next) (x : Point) → Leads most r
+        (ran outcome (caught (bounds limits.value_bytes left) (option_map (λ v. v.now) name.entry) k) variables.old) x
+        (after result (λ t s. k (string_bytes t) s) variables.new) x }
+{
+    let caught = catch_outcome(alloc, outcome)?;
+    keep_caught(alloc, variables, limits, name, caught)
+}
+
+/// What a procedure gives back: `break` and `continue` don't leave it.
+pub fn after_call(alloc: Global, outcome: Result<String, Stop>) -> Result<String, Stop>
+    ensures { (most : ℕ) (r : Job → plans.Step) (caller : Option Frame) (k : Next) (s : State) (x : Point)
+        → Leads most r (ran outcome (after_call caller k) s) x
+        (after result (λ t s'. k (string_bytes t) s') (in_frame s caller)) x }
+{
+    match outcome {
+        Ok(value) => Ok(value),
+        Err(Stop::Returned(value)) => Ok(value),
+        Err(Stop::Broken) => Err(Stop::from(outside_loop(alloc, "break"))),
+        Err(Stop::Continued) => Err(Stop::from(outside_loop(alloc, "continue"))),
+        Err(stop) => Err(stop),
+    }
+}

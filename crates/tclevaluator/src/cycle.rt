@@ -1,0 +1,838 @@
+//! Scripts, commands, words and expressions, which evaluate one another.
+ghost use Rattle.std.specs.Prelude.{◌≡◌, ◌<◌, ◌∷◌, [], Bool, true, false, List, map, option_map, IfOk, string_bytes};
+ghost use Rattle.tclchars.specs.Runs.{Text};
+ghost use Rattle.tclscript.specs.Tree.{commands_of, words_of};
+ghost use Rattle.tclscript.specs.View.{script_view, command_view, word_view, parts_view};
+ghost use Rattle.tclrules.specs.Derivation.{Counts, Runs};
+ghost use Rattle.tclrules.specs.Leads.{Leads, point};
+ghost use Rattle.tclrules.specs.Variables.{State, lookup};
+ghost use Rattle.tclvariables.specs.Views.{procedure_view};
+ghost use Rattle.tclrules.specs.Plans as plans;
+ghost use Rattle.tclrules.specs.Plans.{Next, on_normal, sized};
+ghost use Rattle.tclrules.specs.Words as pieces;
+ghost use Rattle.tclrules.specs.Expressions.{express, decide};
+ghost use Rattle.tclrules.specs.Rules as rules;
+ghost use Rattle.tclrules.specs.Rules.{rule, called, turn};
+ghost use Rattle.tclrules.specs.Forms as forms;
+ghost use Rattle.tclforms.specs.Views.{form_view, pair_texts};
+ghost use Rattle.tclsteps.specs.Machine.{shown, bounds, control_plan};
+ghost use Rattle.tclsteps.specs.Stops.{after};
+ghost use Rattle.tclexpr.specs.Owned as expression;
+ghost use Rattle.tclendings.specs.Runs.{ComesToText, IsTreeOf, finish, sized_next, turned, guarded, expressed, decided};
+ghost use Rattle.tclevaluator.specs.Later.{Later};
+
+use crate::evaluator::{Evaluator, sized, within};
+use crate::literals::literal_form;
+use crate::trees::{express_tree, normal, tree_again};
+use crate::turns::begin_turn;
+use crate::words::{literal, push_words};
+use std::rc::Rc;
+use tclarguments::{Loops, allotted, chosen};
+use tclcommands::assign;
+use tclendings::{after_call, after_catch, after_next, after_turn, plain, unknown};
+use tclexpr::OwnedExpr;
+use tclforms::{Form, core_form};
+use tclrules::{Host, Limits};
+use tclscript::{ByteRange, Command, OwnedScript, Part, Script, Word};
+use tclsteps::{Context, Control, Halt, Step, Stop, advance};
+use tclvalue::{concatenated, truth, value_command};
+use tclvariables::Procedure;
+
+impl Evaluator {
+    /// A text evaluated as a script.
+    #[cycle(evaluate)]
+    #[tactic(none)]
+    pub(crate) fn script<H: Host>(
+        &mut self,
+        host: &mut H,
+        limits: Limits,
+        left: u32,
+        text: &str,
+        wanted: bool,
+    ) -> Result<String, Stop>
+        ensures comes { ComesToText wanted limits.value_bytes result
+            (λ t. Leads limits.commands (rule limits.value_bytes)
+            (rule limits.value_bytes (plans.Script left text.now self.old.variables))
+            (point (H.oracle host.old) (H.told host.old) self.old.used)
+            (after result (λ _ s. finish t s) self.new.variables)
+            (point (H.oracle host.new) (H.told host.new) self.new.used)) }
+        ensures later { Later self.old self.new }
+    {
+        if left == 0 {
+            return Err(Stop::Halted(Halt::TooDeep));
+        }
+        match self.kept.script_tree(text) {
+            Ok(tree) => self.commands(
+                host,
+                limits,
+                left - 1,
+                tree.text.as_str(),
+                &tree.script,
+                wanted,
+            ),
+            Err(fault) => Err(Stop::of_text(fault)),
+        }
+    }
+
+    /// A text evaluated as a script again and again: it is parsed when that is first done.
+    #[cycle(evaluate)]
+    #[tactic(none)]
+    fn script_again<H: Host>(
+        &mut self,
+        host: &mut H,
+        limits: Limits,
+        left: u32,
+        text: &str,
+        parsed: &mut Option<Rc<OwnedScript>>,
+    ) -> Result<String, Stop>
+        requires { IsTreeOf text.now parsed.old }
+        ensures comes { ComesToText false limits.value_bytes result
+            (λ t. Leads limits.commands (rule limits.value_bytes)
+            (rule limits.value_bytes (plans.Script left text.now self.old.variables))
+            (point (H.oracle host.old) (H.told host.old) self.old.used)
+            (after result (λ _ s. finish t s) self.new.variables)
+            (point (H.oracle host.new) (H.told host.new) self.new.used)) }
+        ensures later { Later self.old self.new }
+        ensures parsed { IsTreeOf text.now parsed.new }
+    {
+        if left == 0 {
+            return Err(Stop::Halted(Halt::TooDeep));
+        }
+        match tree_again(&mut self.kept, text, parsed) {
+            Ok(tree) => self.commands(
+                host,
+                limits,
+                left - 1,
+                tree.text.as_str(),
+                &tree.script,
+                false,
+            ),
+            Err(fault) => Err(Stop::of_text(fault)),
+        }
+    }
+
+    /// The script of a bracket.
+    #[cycle(evaluate)]
+    #[tactic(none)]
+    fn bracket<H: Host>(
+        &mut self,
+        host: &mut H,
+        limits: Limits,
+        left: u32,
+        source: &str,
+        script: &Script<ByteRange>,
+    ) -> Result<String, Stop>
+        ensures comes { (k : Next) → Leads limits.commands (rule limits.value_bytes)
+            (Runs (plans.Bracket left (script_view (shown source.now) script.now) self.old.variables) (on_normal k))
+            (point (H.oracle host.old) (H.told host.old) self.old.used)
+            (after result (λ t s. k (string_bytes t) s) self.new.variables)
+            (point (H.oracle host.new) (H.told host.new) self.new.used) }
+        ensures later { Later self.old self.new }
+    {
+        if left == 0 {
+            return Err(Stop::Halted(Halt::TooDeep));
+        }
+        self.commands(host, limits, left - 1, source, script, true)
+    }
+
+    /// The commands of a script, one after the other.
+    #[cycle(evaluate)]
+    #[tactic(none)]
+    fn commands<H: Host>(
+        &mut self,
+        host: &mut H,
+        limits: Limits,
+        left: u32,
+        source: &str,
+        script: &Script<ByteRange>,
+        wanted: bool,
+    ) -> Result<String, Stop>
+        ensures comes { ComesToText wanted limits.value_bytes result
+            (λ t. Leads limits.commands (rule limits.value_bytes)
+            (rules.commands (bounds limits.value_bytes left) (script_view (shown source.now) script.now) []
+            self.old.variables)
+            (point (H.oracle host.old) (H.told host.old) self.old.used)
+            (after result (λ _ s. finish t s) self.new.variables)
+            (point (H.oracle host.new) (H.told host.new) self.new.used)) }
+        ensures later { Later self.old self.new }
+    {
+        let mut last = String::new(self.alloc);
+        for command in &script.commands {
+            last = self.command(host, limits, left, source, command, wanted)?;
+        }
+        Ok(last)
+    }
+
+    /// A command, which is counted before its words are looked at.
+    #[cycle(evaluate)]
+    #[tactic(none)]
+    pub fn command<H: Host>(
+        &mut self,
+        host: &mut H,
+        limits: Limits,
+        left: u32,
+        source: &str,
+        command: &Command<ByteRange>,
+        wanted: bool,
+    ) -> Result<String, Stop>
+        ensures comes { ComesToText wanted limits.value_bytes result (λ t. (k : Next)
+            → Leads limits.commands (rule limits.value_bytes)
+            (Counts (pieces.words (bounds limits.value_bytes left) (command_view (shown source.now)
+            command.now).words []
+            self.old.variables (λ texts s1. called (bounds limits.value_bytes left) texts s1
+            (λ u s2. sized limits.value_bytes u (k u s2)))))
+            (point (H.oracle host.old) (H.told host.old) self.old.used)
+            (after result (λ _ s. k t s) self.new.variables)
+            (point (H.oracle host.new) (H.told host.new) self.new.used)) }
+        ensures later { Later self.old self.new }
+    {
+        self.count(limits)?;
+        if let Some(form) = literal_form(limits, source, &command.words) {
+            return self.form(host, limits, left, form, wanted);
+        }
+        let texts = self.words(host, limits, left, source, &command.words)?;
+        self.called(host, limits, left, &texts, wanted)
+    }
+
+    /// The words of a command, with their values.
+    #[cycle(evaluate)]
+    #[tactic(none)]
+    fn words<H: Host>(
+        &mut self,
+        host: &mut H,
+        limits: Limits,
+        left: u32,
+        source: &str,
+        words: &[Word<ByteRange>],
+    ) -> Result<Vec<String>, Stop>
+        ensures comes { (k : List Text → State → plans.Step) → Leads limits.commands (rule limits.value_bytes)
+            (pieces.words (bounds limits.value_bytes left) (words_of (map (word_view (shown source.now)) words.now)) []
+            self.old.variables k)
+            (point (H.oracle host.old) (H.told host.old) self.old.used)
+            (after result (λ ts s. k (map string_bytes ts.items) s) self.new.variables)
+            (point (H.oracle host.new) (H.told host.new) self.new.used) }
+        ensures later { Later self.old self.new }
+    {
+        let mut texts = Vec::new(self.alloc);
+        for word in words {
+            let text = self.word(host, limits, left, source, word.parts.as_slice())?;
+            push_words(self.alloc, &mut texts, word.expands, text)?;
+        }
+        Ok(texts)
+    }
+
+    /// The value of a word, which is copied at once where it is one literal part.
+    #[cycle(evaluate)]
+    #[tactic(none)]
+    fn word<H: Host>(
+        &mut self,
+        host: &mut H,
+        limits: Limits,
+        left: u32,
+        source: &str,
+        parts: &[Part<ByteRange>],
+    ) -> Result<String, Stop>
+        ensures comes { (k : Next) → Leads limits.commands (rule limits.value_bytes)
+            (pieces.parts (bounds limits.value_bytes left) (parts_view (shown source.now) parts.now) []
+            self.old.variables k)
+            (point (H.oracle host.old) (H.told host.old) self.old.used)
+            (after result (λ t s. k (string_bytes t) s) self.new.variables)
+            (point (H.oracle host.new) (H.told host.new) self.new.used) }
+        ensures later { Later self.old self.new }
+    {
+        if let Some(range) = literal(parts) {
+            let text = String::from_str(self.alloc, range.of(source))?;
+            return sized(limits, text);
+        }
+        let start = Control::Parts(String::new(self.alloc), parts);
+        self.value(host, limits, left, source, start)
+    }
+
+    /// The value of a word or of an expression.
+    #[cycle(evaluate)]
+    #[tactic(none)]
+    fn value<'a, H: Host>(
+        &mut self,
+        host: &mut H,
+        limits: Limits,
+        left: u32,
+        source: &'a str,
+        start: Control<'a>,
+    ) -> Result<String, Stop>
+        ensures comes { (k : Next) → Leads limits.commands (rule limits.value_bytes)
+            (control_plan source.entry.now (bounds limits.value_bytes left) start.entry self.old.variables k)
+            (point (H.oracle host.old) (H.told host.old) self.old.used)
+            (after result (λ t s. k (string_bytes t) s) self.new.variables)
+            (point (H.oracle host.new) (H.told host.new) self.new.used) }
+        ensures later { Later self.old self.new }
+    {
+        let mut stack = Vec::new(self.alloc);
+        let mut control = start;
+        loop {
+            let context = Context {
+                alloc: self.alloc,
+                limits,
+                source,
+                variables: &self.variables,
+            };
+            match advance(context, host, &mut stack, control)? {
+                Step::Next(next) => control = next,
+                Step::Done(value) => return Ok(value),
+                Step::Bracket(script) => {
+                    let value = self.bracket(host, limits, left, source, script)?;
+                    control = Control::Value(value);
+                }
+            }
+        }
+    }
+
+    /// A text evaluated as an expression.
+    #[cycle(evaluate)]
+    #[tactic(none)]
+    fn express<H: Host>(
+        &mut self,
+        host: &mut H,
+        limits: Limits,
+        left: u32,
+        text: &str,
+    ) -> Result<String, Stop>
+        ensures comes { (k : Next) → Leads limits.commands (rule limits.value_bytes)
+            (express (bounds limits.value_bytes left) text.now self.old.variables k)
+            (point (H.oracle host.old) (H.told host.old) self.old.used)
+            (after result (λ t s. k (string_bytes t) s) self.new.variables)
+            (point (H.oracle host.new) (H.told host.new) self.new.used) }
+        ensures later { Later self.old self.new }
+    {
+        let tree = express_tree(self.alloc, &mut self.kept, text)?;
+        self.tree_value(host, limits, left, &tree)
+    }
+
+    /// The value of a whole expression.
+    #[cycle(evaluate)]
+    #[tactic(none)]
+    fn tree_value<H: Host>(
+        &mut self,
+        host: &mut H,
+        limits: Limits,
+        left: u32,
+        tree: &OwnedExpr,
+    ) -> Result<String, Stop>
+        ensures comes { (k : Next) → Leads limits.commands (rule limits.value_bytes)
+            (expressed (bounds limits.value_bytes left) (expression.owned_view tree.now) self.old.variables k)
+            (point (H.oracle host.old) (H.told host.old) self.old.used)
+            (after result (λ t s. k (string_bytes t) s) self.new.variables)
+            (point (H.oracle host.new) (H.told host.new) self.new.used) }
+        ensures later { Later self.old self.new }
+    {
+        let start = Control::Expression(&tree.expression);
+        let value = self.value(host, limits, left, tree.text.as_str(), start)?;
+        let value = normal(self.alloc, value)?;
+        sized(limits, value)
+    }
+
+    /// A text evaluated as a condition.
+    #[cycle(evaluate)]
+    #[tactic(none)]
+    fn decide<H: Host>(
+        &mut self,
+        host: &mut H,
+        limits: Limits,
+        left: u32,
+        text: &str,
+    ) -> Result<bool, Stop>
+        ensures comes { (k : Bool → State → plans.Step) → Leads limits.commands (rule limits.value_bytes)
+            (decide (bounds limits.value_bytes left) text.now self.old.variables k)
+            (point (H.oracle host.old) (H.told host.old) self.old.used)
+            (after result k self.new.variables)
+            (point (H.oracle host.new) (H.told host.new) self.new.used) }
+        ensures later { Later self.old self.new }
+    {
+        let tree = express_tree(self.alloc, &mut self.kept, text)?;
+        self.holds(host, limits, left, &tree)
+    }
+
+    /// Whether a condition holds.
+    #[cycle(evaluate)]
+    #[tactic(none)]
+    fn holds<H: Host>(
+        &mut self,
+        host: &mut H,
+        limits: Limits,
+        left: u32,
+        tree: &OwnedExpr,
+    ) -> Result<bool, Stop>
+        ensures comes { (k : Bool → State → plans.Step) → Leads limits.commands (rule limits.value_bytes)
+            (decided (bounds limits.value_bytes left) (expression.owned_view tree.now) self.old.variables k)
+            (point (H.oracle host.old) (H.told host.old) self.old.used)
+            (after result k self.new.variables)
+            (point (H.oracle host.new) (H.told host.new) self.new.used) }
+        ensures later { Later self.old self.new }
+    {
+        if let Some(holds) = self.comparison(limits, tree)? {
+            return Ok(holds);
+        }
+        let value = self.tree_value(host, limits, left, tree)?;
+        Ok(truth(self.alloc, value.as_str())?)
+    }
+
+    /// A turn of a loop: whether the loop goes on.
+    #[cycle(evaluate)]
+    #[tactic(none)]
+    fn turn<H: Host>(
+        &mut self,
+        host: &mut H,
+        limits: Limits,
+        left: u32,
+        body: &str,
+        parsed: &mut Option<Rc<OwnedScript>>,
+    ) -> Result<bool, Stop>
+        requires { IsTreeOf body.now parsed.old }
+        ensures comes { (again : State → plans.Step) → Leads limits.commands (rule limits.value_bytes)
+            (turn (bounds limits.value_bytes left) body.now self.old.variables again)
+            (point (H.oracle host.old) (H.told host.old) self.old.used)
+            (after result (turned again) self.new.variables)
+            (point (H.oracle host.new) (H.told host.new) self.new.used) }
+        ensures later { Later self.old self.new }
+        ensures parsed { IsTreeOf body.now parsed.new }
+        ensures counted { IfOk result (λ more. (self.old.used < limits.commands) × (self.old.used < self.new.used)) }
+    {
+        self.count(limits)?;
+        after_turn(self.script_again(host, limits, left, body, parsed))
+    }
+
+    /// A condition and, where it holds, a turn of a loop: whether the loop goes on.
+    #[cycle(evaluate)]
+    #[tactic(none)]
+    fn guarded_turn<H: Host>(
+        &mut self,
+        host: &mut H,
+        limits: Limits,
+        left: u32,
+        condition: &OwnedExpr,
+        body: &str,
+        parsed: &mut Option<Rc<OwnedScript>>,
+    ) -> Result<bool, Stop>
+        requires { IsTreeOf body.now parsed.old }
+        ensures comes { (again : State → plans.Step) → Leads limits.commands (rule limits.value_bytes)
+            (decided (bounds limits.value_bytes left) (expression.owned_view condition.now) self.old.variables
+            (guarded (bounds limits.value_bytes left) body.now again))
+            (point (H.oracle host.old) (H.told host.old) self.old.used)
+            (after result (turned again) self.new.variables)
+            (point (H.oracle host.new) (H.told host.new) self.new.used) }
+        ensures later { Later self.old self.new }
+        ensures parsed { IsTreeOf body.now parsed.new }
+        ensures counted { IfOk result (λ more. more ≡ true
+            → (self.old.used < limits.commands) × (self.old.used < self.new.used)) }
+    {
+        if self.holds(host, limits, left, condition)? {
+            return self.turn(host, limits, left, body, parsed);
+        }
+        Ok(false)
+    }
+
+    /// The turns of while(n) that are left.
+    #[cycle(evaluate)]
+    #[tactic(none)]
+    fn while_turns<H: Host>(
+        &mut self,
+        host: &mut H,
+        limits: Limits,
+        left: u32,
+        condition: &str,
+        body: &str,
+    ) -> Result<String, Stop>
+        ensures comes { (k : Next) → Leads limits.commands (rule limits.value_bytes)
+            (Runs (plans.While left condition.now body.now self.old.variables) (on_normal k))
+            (point (H.oracle host.old) (H.told host.old) self.old.used)
+            (after result (λ t s. k (string_bytes t) s) self.new.variables)
+            (point (H.oracle host.new) (H.told host.new) self.new.used) }
+        ensures later { Later self.old self.new }
+    {
+        let tree = express_tree(self.alloc, &mut self.kept, condition)?;
+        let mut parsed = None;
+        loop {
+            if !self.guarded_turn(host, limits, left, &tree, body, &mut parsed)? {
+                return Ok(String::new(self.alloc));
+            }
+        }
+    }
+
+    /// for(n)
+    #[cycle(evaluate)]
+    #[tactic(none)]
+    fn for_loop<H: Host>(
+        &mut self,
+        host: &mut H,
+        limits: Limits,
+        left: u32,
+        start: &str,
+        condition: &str,
+        next: &str,
+        body: &str,
+    ) -> Result<String, Stop>
+        ensures comes { (k : Next) → Leads limits.commands (rule limits.value_bytes)
+            (rules.form (bounds limits.value_bytes left) (forms.For start.now condition.now next.now body.now)
+            self.old.variables k)
+            (point (H.oracle host.old) (H.told host.old) self.old.used)
+            (after result (λ t s. k (string_bytes t) s) self.new.variables)
+            (point (H.oracle host.new) (H.told host.new) self.new.used) }
+        ensures later { Later self.old self.new }
+    {
+        let _ = self.script(host, limits, left, start, false)?;
+        self.for_turns(host, limits, left, condition, next, body)
+    }
+
+    /// The turns of for(n) that are left.
+    #[cycle(evaluate)]
+    #[tactic(none)]
+    fn for_turns<H: Host>(
+        &mut self,
+        host: &mut H,
+        limits: Limits,
+        left: u32,
+        condition: &str,
+        next: &str,
+        body: &str,
+    ) -> Result<String, Stop>
+        ensures comes { (k : Next) → Leads limits.commands (rule limits.value_bytes)
+            (Runs (plans.For left condition.now next.now body.now self.old.variables) (on_normal k))
+            (point (H.oracle host.old) (H.told host.old) self.old.used)
+            (after result (λ t s. k (string_bytes t) s) self.new.variables)
+            (point (H.oracle host.new) (H.told host.new) self.new.used) }
+        ensures later { Later self.old self.new }
+    {
+        let tree = express_tree(self.alloc, &mut self.kept, condition)?;
+        let mut parsed = None;
+        let mut between = None;
+        loop {
+            if !self.guarded_turn(host, limits, left, &tree, body, &mut parsed)? {
+                return Ok(String::new(self.alloc));
+            }
+            if !after_next(self.script_again(host, limits, left, next, &mut between))? {
+                return Ok(String::new(self.alloc));
+            }
+        }
+    }
+
+    /// The body of if(n) or switch(n) that is chosen; without one the result is empty.
+    #[cycle(evaluate)]
+    #[tactic(none)]
+    fn otherwise<H: Host>(
+        &mut self,
+        host: &mut H,
+        limits: Limits,
+        left: u32,
+        body: Option<&str>,
+        wanted: bool,
+    ) -> Result<String, Stop>
+        ensures comes { ComesToText wanted limits.value_bytes result (λ t. (k : Next)
+            → Leads limits.commands (rule limits.value_bytes)
+            (rules.otherwise (bounds limits.value_bytes left) (option_map (λ t. t.now) body.entry) self.old.variables
+            (sized_next limits.value_bytes k))
+            (point (H.oracle host.old) (H.told host.old) self.old.used)
+            (after result (λ _ s. k t s) self.new.variables)
+            (point (H.oracle host.new) (H.told host.new) self.new.used)) }
+        ensures later { Later self.old self.new }
+    {
+        match body {
+            None => Ok(String::new(self.alloc)),
+            Some(body) => self.script(host, limits, left, body, wanted),
+        }
+    }
+
+    /// if(n): the first body whose condition holds, or the last.
+    #[cycle(evaluate)]
+    #[tactic(none)]
+    fn branches<H: Host>(
+        &mut self,
+        host: &mut H,
+        limits: Limits,
+        left: u32,
+        branches: &[(&str, &str)],
+        other: Option<&str>,
+        wanted: bool,
+    ) -> Result<String, Stop>
+        ensures comes { ComesToText wanted limits.value_bytes result (λ t. (k : Next)
+            → Leads limits.commands (rule limits.value_bytes)
+            (rules.branches (bounds limits.value_bytes left) (pair_texts branches.now) (option_map (λ t. t.now)
+            other.entry)
+            self.old.variables (sized_next limits.value_bytes k))
+            (point (H.oracle host.old) (H.told host.old) self.old.used)
+            (after result (λ _ s. k t s) self.new.variables)
+            (point (H.oracle host.new) (H.told host.new) self.new.used)) }
+        ensures later { Later self.old self.new }
+    {
+        for (condition, body) in branches {
+            if self.decide(host, limits, left, condition)? {
+                return self.script(host, limits, left, body, wanted);
+            }
+        }
+        self.otherwise(host, limits, left, other, wanted)
+    }
+
+    /// catch(n)
+    #[cycle(evaluate)]
+    #[tactic(none)]
+    fn catch<H: Host>(
+        &mut self,
+        host: &mut H,
+        limits: Limits,
+        left: u32,
+        body: &str,
+        name: Option<&str>,
+    ) -> Result<String, Stop>
+        ensures comes { (k : Next) → Leads limits.commands (rule limits.value_bytes)
+            (rules.form (bounds limits.value_bytes left) (forms.Catch body.now (option_map (λ v. v.now) name.entry))
+            self.old.variables k)
+            (point (H.oracle host.old) (H.told host.old) self.old.used)
+            (after result (λ t s. k (string_bytes t) s) self.new.variables)
+            (point (H.oracle host.new) (H.told host.new) self.new.used) }
+        ensures later { Later self.old self.new }
+    {
+        let outcome = self.script(host, limits, left, body, true);
+        after_catch(self.alloc, &mut self.variables, limits, name, outcome)
+    }
+
+    /// What the form of a core command does.
+    #[cycle(evaluate)]
+    #[tactic(none)]
+    fn form<H: Host>(
+        &mut self,
+        host: &mut H,
+        limits: Limits,
+        left: u32,
+        form: Form<'_>,
+        wanted: bool,
+    ) -> Result<String, Stop>
+        ensures comes { ComesToText wanted limits.value_bytes result (λ t. (k : Next)
+            → Leads limits.commands (rule limits.value_bytes)
+            (rules.form (bounds limits.value_bytes left) (form_view form.entry) self.old.variables (sized_next
+            limits.value_bytes k))
+            (point (H.oracle host.old) (H.told host.old) self.old.used)
+            (after result (λ _ s. k t s) self.new.variables)
+            (point (H.oracle host.new) (H.told host.new) self.new.used)) }
+        ensures later { Later self.old self.new }
+    {
+        match form {
+            Form::Express(texts) => {
+                let text = concatenated(self.alloc, texts, limits.value_bytes)?;
+                within(limits, self.express(host, limits, left, text.as_str()))
+            }
+            Form::If(branches, other) => {
+                self.branches(host, limits, left, branches.as_slice(), other, wanted)
+            }
+            Form::While(condition, body) => {
+                within(
+                    limits,
+                    self.while_turns(host, limits, left, condition, body),
+                )
+            }
+            Form::For(start, condition, next, body) => {
+                let outcome = self.for_loop(host, limits, left, start, condition, next, body);
+                within(limits, outcome)
+            }
+            Form::Foreach(lists, body) => {
+                within(
+                    limits,
+                    self.foreach(host, limits, left, lists.as_slice(), body),
+                )
+            }
+            Form::Switch(by_glob, text, patterns) => {
+                let body = chosen(by_glob, text, patterns.as_slice());
+                self.otherwise(host, limits, left, body, wanted)
+            }
+            Form::Catch(body, name) => {
+                within(limits, self.catch(host, limits, left, body, name))
+            }
+            Form::Simple(form) => {
+                plain(self.alloc, &mut self.variables, host, limits, wanted, form)
+            }
+        }
+    }
+
+    /// A command by its words, of which the first names it.
+    #[cycle(evaluate)]
+    #[tactic(none)]
+    fn called<H: Host>(
+        &mut self,
+        host: &mut H,
+        limits: Limits,
+        left: u32,
+        words: &[String],
+        wanted: bool,
+    ) -> Result<String, Stop>
+        ensures comes { ComesToText wanted limits.value_bytes result (λ t. (k : Next)
+            → Leads limits.commands (rule limits.value_bytes)
+            (called (bounds limits.value_bytes left) (map string_bytes words.now) self.old.variables (sized_next
+            limits.value_bytes k))
+            (point (H.oracle host.old) (H.told host.old) self.old.used)
+            (after result (λ _ s. k t s) self.new.variables)
+            (point (H.oracle host.new) (H.told host.new) self.new.used)) }
+        ensures later { Later self.old self.new }
+    {
+        let Some((name, operands)) = words.split_first() else {
+            return Ok(String::new(self.alloc));
+        };
+        match value_command(self.alloc, words, limits.value_bytes)? {
+            Some(value) => within(limits, Ok(value)),
+            None => self.core_command(host, limits, left, name.as_str(), operands, words, wanted),
+        }
+    }
+
+    /// A core command, or one of another name.
+    #[cycle(evaluate)]
+    #[tactic(none)]
+    fn core_command<H: Host>(
+        &mut self,
+        host: &mut H,
+        limits: Limits,
+        left: u32,
+        name: &str,
+        operands: &[String],
+        words: &[String],
+        wanted: bool,
+    ) -> Result<String, Stop>
+        requires { map string_bytes words.now ≡ name.now ∷ map string_bytes operands.now }
+        ensures comes { ComesToText wanted limits.value_bytes result (λ t. (k : Next)
+            → Leads limits.commands (rule limits.value_bytes)
+            (rules.core_command (bounds limits.value_bytes left) name.now (map string_bytes operands.now)
+            self.old.variables (sized_next limits.value_bytes k)
+            (forms.core_form name.now (map string_bytes operands.now)))
+            (point (H.oracle host.old) (H.told host.old) self.old.used)
+            (after result (λ _ s. k t s) self.new.variables)
+            (point (H.oracle host.new) (H.told host.new) self.new.used)) }
+        ensures later { Later self.old self.new }
+    {
+        match core_form(self.alloc, name, operands)? {
+            Some(form) => self.form(host, limits, left, form, wanted),
+            None => self.other_command(host, limits, left, name, operands, words, wanted),
+        }
+    }
+
+    /// A command of another name: a procedure, or one for the host.
+    #[cycle(evaluate)]
+    #[tactic(none)]
+    fn other_command<H: Host>(
+        &mut self,
+        host: &mut H,
+        limits: Limits,
+        left: u32,
+        name: &str,
+        operands: &[String],
+        words: &[String],
+        wanted: bool,
+    ) -> Result<String, Stop>
+        requires { map string_bytes words.now ≡ name.now ∷ map string_bytes operands.now }
+        ensures comes { ComesToText wanted limits.value_bytes result (λ t. (k : Next)
+            → Leads limits.commands (rule limits.value_bytes)
+            (rules.other_command (bounds limits.value_bytes left) name.now (map string_bytes operands.now)
+            self.old.variables (sized_next limits.value_bytes k)
+            (lookup self.old.variables.procedures name.now))
+            (point (H.oracle host.old) (H.told host.old) self.old.used)
+            (after result (λ _ s. k t s) self.new.variables)
+            (point (H.oracle host.new) (H.told host.new) self.new.used)) }
+        ensures later { Later self.old self.new }
+    {
+        match self.variables.procedure(name) {
+            Some(procedure) => {
+                let procedure = procedure.clone()?;
+                within(
+                    limits,
+                    self.call(host, limits, left, name, &procedure, operands),
+                )
+            }
+            None => unknown(
+                self.alloc,
+                &self.variables,
+                host,
+                limits,
+                wanted,
+                name,
+                operands,
+                words,
+            ),
+        }
+    }
+
+    /// A call of a procedure.
+    #[cycle(evaluate)]
+    #[tactic(none)]
+    fn call<H: Host>(
+        &mut self,
+        host: &mut H,
+        limits: Limits,
+        left: u32,
+        name: &str,
+        procedure: &Procedure,
+        words: &[String],
+    ) -> Result<String, Stop>
+        ensures comes { (k : Next) → Leads limits.commands (rule limits.value_bytes)
+            (rules.call (bounds limits.value_bytes left) name.now (procedure_view procedure.now) (map string_bytes
+            words.now)
+            self.old.variables k)
+            (point (H.oracle host.old) (H.told host.old) self.old.used)
+            (after result (λ t s. k (string_bytes t) s) self.new.variables)
+            (point (H.oracle host.new) (H.told host.new) self.new.used) }
+        ensures later { Later self.old self.new }
+    {
+        let values = allotted(self.alloc, name, &procedure.parameters, words)?;
+        let caller = self.variables.enter(self.alloc);
+        assign(self.alloc, &mut self.variables, limits.value_bytes, values)?;
+        let outcome = self.script(host, limits, left, procedure.body.as_str(), true);
+        self.variables.leave(caller);
+        after_call(self.alloc, outcome)
+    }
+
+    /// foreach(n)
+    #[cycle(evaluate)]
+    #[tactic(none)]
+    fn foreach<H: Host>(
+        &mut self,
+        host: &mut H,
+        limits: Limits,
+        left: u32,
+        lists: &[(&str, &str)],
+        body: &str,
+    ) -> Result<String, Stop>
+        ensures comes { (k : Next) → Leads limits.commands (rule limits.value_bytes)
+            (rules.form (bounds limits.value_bytes left) (forms.Foreach (pair_texts lists.now) body.now)
+            self.old.variables k)
+            (point (H.oracle host.old) (H.told host.old) self.old.used)
+            (after result (λ t s. k (string_bytes t) s) self.new.variables)
+            (point (H.oracle host.new) (H.told host.new) self.new.used) }
+        ensures later { Later self.old self.new }
+    {
+        let mut loops = Loops::of(self.alloc, lists)?;
+        self.foreach_turns(host, limits, left, &mut loops, body)
+    }
+
+    /// The turns of foreach(n) that are left.
+    #[cycle(evaluate)]
+    #[tactic(none)]
+    fn foreach_turns<H: Host>(
+        &mut self,
+        host: &mut H,
+        limits: Limits,
+        left: u32,
+        loops: &mut Loops,
+        body: &str,
+    ) -> Result<String, Stop>
+        ensures comes { (k : Next) → Leads limits.commands (rule limits.value_bytes)
+            (Runs (plans.Foreach left loops.old body.now self.old.variables) (on_normal k))
+            (point (H.oracle host.old) (H.told host.old) self.old.used)
+            (after result (λ t s. k (string_bytes t) s) self.new.variables)
+            (point (H.oracle host.new) (H.told host.new) self.new.used) }
+        ensures later { Later self.old self.new }
+    {
+        let mut parsed = None;
+        loop {
+            if loops.are_done() {
+                return Ok(String::new(self.alloc));
+            }
+            begin_turn(self.alloc, &mut self.variables, limits, loops)?;
+            if !self.turn(host, limits, left, body, &mut parsed)? {
+                return Ok(String::new(self.alloc));
+            }
+        }
+    }
+}

@@ -1,0 +1,111 @@
+//! What changes while a script is evaluated.
+ghost use Rattle.std.specs.Prelude.{◌≡◌, ◌≤◌, ◌<◌, ◌+◌, ℕ, Bool, MatchResult, IfOk, IfErr, IfSome, length, string_bytes};
+ghost use Rattle.tclrules.specs.Leads.{Leads, Point};
+ghost use Rattle.tclrules.specs.Variables.{State};
+ghost use Rattle.tclrules.specs.Plans as plans;
+ghost use Rattle.tclrules.specs.Plans.{Job, Next, sized};
+ghost use Rattle.tclsteps.specs.Stops.{after, stopped};
+ghost use Rattle.tclexpr.specs.Owned as expression;
+ghost use Rattle.tclsteps.specs.Machine.{bounds};
+ghost use Rattle.tclendings.specs.Runs.{ComesToText, decided};
+ghost use Rattle.tcloperators.specs.declared.operators.Computed.TheVariants.{Truth};
+ghost use Rattle.tclsteps.specs.declared.stop.Stop.TheVariants.{Halted};
+ghost use Rattle.tclsteps.specs.declared.stop.Halt.TheVariants.{TooManyCommands};
+
+use std::alloc::Global;
+use tclexpr::OwnedExpr;
+use tclkept::Kept;
+use tcloperators::Computed;
+use tclrules::Limits;
+use tclsteps::{Context, Halt, Stop, compute_at_hand};
+use tclvariables::Variables;
+
+/// What an evaluation has: the trees that are kept, the variables, and the count.
+#[derive(Drop)]
+pub struct Evaluator {
+    pub alloc: Global,
+    pub kept: Kept,
+    pub variables: Variables,
+    /// How many commands and turns of loops were counted.
+    pub used: u64,
+}
+
+impl Evaluator {
+    /// Counts a command or a turn, where one more may be counted.
+    pub(crate) fn count(&mut self, limits: Limits) -> Result<(), Stop>
+        ensures counted { MatchResult result
+            (λ _. (self.old.used < limits.commands) × (self.new.used ≡ self.old.used + 1))
+            (λ stop. (limits.commands ≤ self.old.used) × (self.new.used ≡ self.old.used) × (stop ≡ Halted
+            TooManyCommands)) }
+        ensures variables { self.new.variables ≡ self.old.variables }
+        ensures kept { self.new.kept ≡ self.old.kept }
+    {
+        if self.used >= limits.commands {
+            return Err(Stop::Halted(Halt::TooManyCommands));
+        }
+        self.used += 1;
+        Ok(())
+    }
+
+    /// Whether a comparison of two operands at hand holds; None of any other expression.
+    pub(crate) fn comparison(&self, limits: Limits, tree: &OwnedExpr) -> Result<Option<bool>, Stop>
+        ensures found { IfOk result (λ found. IfSome found (λ holds. (most left : ℕ) (r : Job → plans.Step)
+            (k : Bool → State → plans.Step) (x : Point) → Leads most r
+            (decided (bounds limits.value_bytes left) (expression.owned_view tree.now) self.now.variables k) x
+            (k holds self.now.variables) x)) }
+        ensures err { IfErr result (λ stop. (most left : ℕ) (r : Job → plans.Step)
+            (k : Bool → State → plans.Step) (x : Point) → Leads most r
+            (decided (bounds limits.value_bytes left) (expression.owned_view tree.now) self.now.variables k) x
+            (stopped stop self.now.variables) x) }
+    {
+        let context = Context {
+            alloc: self.alloc,
+            limits,
+            source: tree.text.as_str(),
+            variables: &self.variables,
+        };
+        match compute_at_hand(context, &tree.expression)? {
+            Some(made) => Ok(truth_of(limits, made)),
+            None => Ok(None),
+        }
+    }
+}
+
+/// The truth value that an operator made, where its text is within the limit on values.
+fn truth_of(limits: Limits, made: Computed) -> Option<bool>
+    ensures { IfSome result (λ holds. (made ≡ Truth holds) × (1 ≤ limits.value_bytes)) }
+{
+    match made {
+        Computed::Truth(holds) if limits.value_bytes > 0 => Some(holds),
+        Computed::Truth(_) | Computed::Whole(_) => None,
+    }
+}
+
+/// A text within the limit on values.
+#[tactic(none)]
+pub(crate) fn sized(limits: Limits, text: String) -> Result<String, Stop>
+    ensures within { IfOk result (λ t. length (string_bytes t) ≤ limits.value_bytes) }
+    ensures comes { (most : ℕ) (r : Job → plans.Step) (k : Next) (s : State) (x : Point)
+        → Leads most r (sized limits.value_bytes (string_bytes text) (k (string_bytes text) s)) x
+        (after result (λ t s. k (string_bytes t) s) s) x }
+{
+    if text.len() > limits.value_bytes {
+        return Err(Stop::Halted(Halt::ValueTooLong));
+    }
+    Ok(text)
+}
+
+/// How a command ended, with its result within the limit on values.
+#[tactic(none)]
+pub(crate) fn within(limits: Limits, outcome: Result<String, Stop>) -> Result<String, Stop>
+    ensures { (wanted : Bool) (s : State) → ComesToText wanted limits.value_bytes result (λ t. (most : ℕ) (r : Job →
+        plans.Step)
+        (k : Next) (x : Point) → Leads most r
+        (after outcome (λ v s'. sized limits.value_bytes (string_bytes v) (k (string_bytes v) s')) s) x
+        (after result (λ _ s'. k t s') s) x) }
+{
+    match outcome {
+        Ok(text) => sized(limits, text),
+        Err(stop) => Err(stop),
+    }
+}

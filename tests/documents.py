@@ -1,0 +1,37 @@
+"""What the pages name is there: functions, clauses, words, files, crates and suites.
+
+    python3 -B tests/documents.py
+"""
+
+import sys
+
+import named
+from harness import Failed
+from run import SUITES
+
+CHECKS = {
+    "the rows of CLAIMS have functions, clauses and definitions that are there": named.check_rows,
+    "the examples of CLAIMS are all of them": named.check_examples,
+    "a function without a row says the definition of its name": named.check_rest,
+    "the files that pages name are there": named.check_files,
+    "the crates that pages name are there": named.check_crates,
+    "the words of sources that pages name are there": named.check_words,
+    "the suites that pages name are there": lambda: named.check_suites({script for script, *_ in SUITES}),
+}
+
+
+def main():
+    failed = 0
+    for what, check in CHECKS.items():
+        try:
+            check()
+            print(f"ok: {what}")
+        except Failed as found:
+            failed += 1
+            print(f"FAILED: {what}: {found}")
+    print(f"{len(CHECKS) - failed} passed, {failed} failed")
+    return 1 if failed else 0
+
+
+if __name__ == "__main__":
+    sys.exit(main())

@@ -1,0 +1,250 @@
+"""What the documents name, and whether it is there: the functions, clauses and definitions in the tables of
+docs/CLAIMS.md, and the files, crates and suites that any page names."""
+
+import functools
+import os
+import re
+
+from harness import HERE, true
+
+TOP = os.path.dirname(HERE)
+CRATES = os.path.join(TOP, "crates")
+
+CRATE_ROWS = "| Crate | Function | Clauses |"
+PREMISE_ROWS = "| Premise | Examples without it |"
+SPAN = re.compile(r"`([^`\n]+)`")
+OWNER = re.compile(r"(?:impl(?:<.*?>)?|pub trait) (?:.* for )?(?:&'a )?(\w+)")
+FUNCTION = re.compile(r"\s*(pub )?fn (\w+)")
+CLAUSE = re.compile(r"\bensures(?: (\w+))? \{(.*?)(?=\bensures\b|\brequires\b|\Z)", re.DOTALL)
+
+# Every fault has these two, which CLAIMS says once of all.
+OF_FAULTS = {"number", "message"}
+
+# What is public for the crates above alone, which CLAIMS leaves out.
+HELPERS = {"environment": ("escapes", "fields")}
+
+# What begins like a path of the repository: a folder that stands at its top, or one of a crate.
+FOLDERS = "bench|completion|crates|demo|docs|etc|init|libexec|man|tests|tools"
+PATH = re.compile(rf"(?:{FOLDERS})/|\w+/(?:src|specs|proofs|must-fail)/")
+FILE = re.compile(r"[\w.-][\w./-]*\.(?:antt|c|edit|fish|md|py|rt|sh)")
+WORD = re.compile(r"[A-Za-z]+(?:_\w+|[a-z][A-Z]\w*)")
+LINK = re.compile(r"\]\(([^)#]+)\)")
+BLOCK = re.compile(r"^ *```.*?^ *```$", re.DOTALL | re.MULTILINE)
+
+
+def content(*names):
+    with open(os.path.join(TOP, *names), encoding="utf-8") as file:
+        return file.read()
+
+
+class Function:
+    """A public function with its clauses, each by its name; `owner` is its type or trait, if it has one."""
+
+    def __init__(self, owner, name, header):
+        self.owner = owner
+        self.name = name
+        self.clauses = {clause or "": text for clause, text in CLAUSE.findall(header)}
+
+    def says_its_name(self):
+        relation = "".join(part.capitalize() for part in self.name.split("_"))
+        return list(self.clauses) == [""] and re.search(rf"\b({self.name}|{relation})\b", self.clauses[""])
+
+    def has(self, word):
+        return word in self.clauses or any(re.search(rf"\b{word}\b", text) for text in self.clauses.values())
+
+
+def ends_header(line, is_first):
+    """The body begins with a brace of its own, or behind what is returned where there is no clause; a trait has `;`."""
+    if line in ("{", "{}"):
+        return True
+    if is_first or line.startswith(")"):
+        return line.endswith(("{", ";"))
+    return line.endswith("};")
+
+
+def header_at(lines, start):
+    """A function's lines from its name to its body."""
+    taken = []
+    for line in lines[start:]:
+        taken.append(line)
+        if ends_header(line.strip(), len(taken) == 1):
+            break
+    return "\n".join(taken)
+
+
+def functions_in(text):
+    """The public functions of a file, and those of its traits."""
+    lines = [line for line in text.split("\n") if not line.lstrip().startswith("//")]
+    owner, heading = "", ""
+    for number, line in enumerate(lines):
+        found = OWNER.match(line)
+        if found:
+            owner, heading = found[1], line
+        elif line == "}":
+            owner, heading = "", ""
+        found = FUNCTION.match(line)
+        if found and (found[1] or heading.startswith("pub trait")):
+            yield Function(owner, found[2], header_at(lines, number))
+
+
+@functools.cache
+def sources(crate):
+    folder = os.path.join(CRATES, crate, "src")
+    return {name[:-3]: content("crates", crate, "src", name) for name in sorted(os.listdir(folder))}
+
+
+@functools.cache
+def functions_of(crate):
+    return [function for text in sources(crate).values() for function in functions_in(text)]
+
+
+def exported(crate):
+    """What users of a crate can name: what its lib.rt hands on, and what stands there or in a public module."""
+    texts = sources(crate)
+    if "lib" not in texts:
+        return set()
+    names = set(re.findall(r"\w+", " ".join(re.findall(r"pub use [^;]*;", texts["lib"]))))
+    for module in ["lib", *re.findall(r"pub mod (\w+);", texts["lib"])]:
+        if module not in HELPERS.get(crate, ()):
+            names |= {function.name for function in functions_in(texts[module]) if not function.owner}
+    return names
+
+
+def cells(text, header):
+    """The cells of each row below a header, wherever it stands."""
+    inside = False
+    for line in text.split("\n"):
+        if line == header or not line.startswith("|"):
+            inside = line == header
+        elif inside and not line.startswith("|---"):
+            yield [cell.strip() for cell in line.strip("|").split("|")]
+
+
+@functools.cache
+def rows():
+    """The rows of CLAIMS: a crate, the functions and types of it, and the words of its clauses. An empty cell is the
+    crate of the row above."""
+    found, crate = [], ""
+    text = content("docs", "CLAIMS.md")
+    for first, functions, clauses in cells(text, CRATE_ROWS):
+        crate = first.strip("`") or crate
+        found.append((crate, SPAN.findall(functions), SPAN.findall(clauses)))
+    true(found, "CLAIMS has rows")
+    return found
+
+
+def check_rows():
+    """Each function of a row is one of its crate, and each other word is a clause of these functions or stands in
+    one."""
+    for crate, names, words in rows():
+        true(os.path.isdir(os.path.join(CRATES, crate)), f"{crate} is a crate")
+        functions = functions_of(crate)
+        for name in names:
+            true(any(name in (it.name, it.owner) for it in functions), f"{crate} has the function {name}")
+        of_row = [it for it in functions if it.name in names or it.owner in names]
+        for word in words:
+            true(any(it.has(word) for it in of_row), f"{crate}: {' '.join(names)} have {word} in a clause")
+
+
+def check_examples():
+    """The examples that show what a premise is for are clauses of their functions, and each of these has its place."""
+    shown = [word for _, where in cells(content("docs", "CLAIMS.md"), PREMISE_ROWS) for word in SPAN.findall(where)]
+    functions = [*functions_in(sources("reversal")["examples"]), *functions_in(sources("reversal")["laws"])]
+    examples = {clause for it in functions_in(sources("reversal")["examples"]) for clause in it.clauses if clause}
+    known = examples | {it.name for it in functions}
+    other = (examples - set(shown)) | (set(shown) - known)
+    true(not other, f"the examples are those of CLAIMS: {other}")
+
+
+def check_rest():
+    """A function that no row names has one clause, which says the definition of its own name."""
+    named = {}
+    for crate, names, _ in rows():
+        named.setdefault(crate, set()).update(names)
+    for crate in sorted(os.listdir(CRATES)):
+        if crate.startswith("cases_") or "lib.rt" not in os.listdir(os.path.join(CRATES, crate, "src")):
+            continue
+        users, rest = exported(crate), named.get(crate, set())
+        for function in functions_of(crate):
+            if (function.owner or function.name) not in users or not function.clauses:
+                continue
+            has_row = function.name in rest or function.owner in rest or function.name in OF_FAULTS
+            true(has_row or function.says_its_name(), f"a row names {crate} {function.owner} {function.name}")
+
+
+def pages():
+    """Each page for readers, with its text."""
+    docs = [f"docs/{name}" for name in sorted(os.listdir(os.path.join(TOP, "docs"))) if name.endswith(".md")]
+    return {name: content(name) for name in ["README.md", "CONTRIBUTING.md", *docs]}
+
+
+def files():
+    """The files and folders of the repository, without what a build leaves."""
+    found = []
+    for folder, folders, names in os.walk(TOP):
+        folders[:] = [name for name in folders if name not in (".git", "build", "out", "__pycache__")]
+        found += [os.path.relpath(os.path.join(folder, name), TOP) for name in [*folders, *names]]
+    return found
+
+
+def names_in(text):
+    """What stands as code or as a link in a page, outside of its blocks."""
+    text = BLOCK.sub("", text)
+    return [*" ".join(SPAN.findall(text)).split(), *LINK.findall(text)]
+
+
+def is_file_of_ours(name, blocks):
+    """It is spelled as a file or folder, stands for no other name, and is none that the page's own commands make."""
+    return (FILE.fullmatch(name) or PATH.match(name)) and "NAME" not in name and name not in blocks.split()
+
+
+def check_files():
+    """Each file and folder that a page names is there: by its path, or by the end of it."""
+    ends = set()
+    for path in files():
+        parts = path.split(os.sep)
+        ends |= {"/".join(parts[at:]) for at in range(len(parts))}
+    for page, text in pages().items():
+        blocks = "\n".join(BLOCK.findall(text))
+        for name in names_in(text):
+            if is_file_of_ours(name, blocks):
+                true(name.rstrip("/").removeprefix("../") in ends, f"{page} names a file that is there: {name}")
+
+
+def check_crates():
+    """The crates that pages name are those of crates.txt, and each of them is a room of ARCHITECTURE or a program of
+    rows; of a function with its crate in front the crate has the function."""
+    crates = set(re.findall(r"^(\w+):", content("crates.txt"), re.MULTILINE))
+    architecture = content("docs", "ARCHITECTURE.md")
+    listed = re.findall(r"^\| ((?:`\w+`(?:, )?)+) \|", architecture.partition("## In each crate")[0], re.MULTILINE)
+    rooms = {name for cell in listed for name in SPAN.findall(cell)}
+    programs = {name for name in crates if name.startswith("cases_")}
+    true(rooms == crates - programs, f"ARCHITECTURE has a row for each crate: {rooms ^ (crates - programs)}")
+    for page, text in pages().items():
+        for name in names_in(text):
+            crate, *rest = name.split("::")
+            if re.fullmatch(r"tcl[a-z]+|cases_\w+", crate) and crate != "tclsh":
+                true(crate in crates, f"{page} names a crate that is there: {crate}")
+            if crate in crates and rest:
+                known = {it.name for it in functions_of(crate)} | exported(crate) | set(sources(crate))
+                true(rest[-1].strip("(),") in known, f"{page} names a function that is there: {name}")
+
+
+def check_suites(suites):
+    """The suites that pages run alone are suites."""
+    for page, text in pages().items():
+        for names in re.findall(r'ONLY="([^".]+)"', text):
+            for name in names.split():
+                true(f"{name}.py" in suites, f"{page} names a suite that is there: {name}")
+
+
+def check_words():
+    """What pages name as code with an underscore or a capital within, as `call_of` and `LeadsBack`, stands somewhere in
+    the repository."""
+    words = set()
+    for path in files():
+        if path.endswith((".rt", ".antt", ".py", ".sh", "stdin", "Makefile")):
+            words |= set(re.findall(r"\w+", content(path)))
+    for page, text in pages().items():
+        for name in names_in(text):
+            true(name in words or not WORD.fullmatch(name), f"{page} names what is there: {name}")
