@@ -57,25 +57,30 @@ filled() {
     text "$1" | sed -e "$zsh" -e "s|@prefix@|$prefix|g" -e "s|@shell@|${1##*/}|g" -e "s|@version@|$(cat VERSION)|g"
 }
 
+# Gives a new file its mode, and the place of the old one.
+place() {
+    chmod "$1" "$2.new"
+    mv -f "$2.new" "$2"
+}
+
 case $action in
     install)
         for folder in $folders; do
             mkdir -p "$top/$folder"
         done
+        # Each file is put in place whole: shells of users may read the one that was there.
         for file in $files; do
-            filled "$file" > "$top/$file"
-            chmod 644 "$top/$file"
+            filled "$file" > "$top/$file.new"
+            place 644 "$top/$file"
         done
         for file in $runs; do
-            filled "$file" > "$top/$file"
-            chmod 755 "$top/$file"
+            filled "$file" > "$top/$file.new"
+            place 755 "$top/$file"
         done
         shift 3
         for program in "$@"; do
-            place=$top/bin/${program##*/}
-            cp "$program" "$place.new"
-            chmod 755 "$place.new"
-            mv -f "$place.new" "$place"
+            cp "$program" "$top/bin/${program##*/}.new"
+            place 755 "$top/bin/${program##*/}"
         done
         # The site's own file stays.
         test -e "$top/etc/modulespath" || cp "$top/etc/modulespath.example" "$top/etc/modulespath"

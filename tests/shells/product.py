@@ -103,7 +103,7 @@ def install_for_a_package_names_the_final_place(folder):
     made("install", f"DESTDIR={stage}", f"PREFIX={final}/")
     same(below(stage + final), sorted(FILES), "the files")
     for name in FILES:
-        true(b"stage" not in content(stage + os.path.join(final, name)), f"{name} doesn't name DESTDIR")
+        true(os.fsencode(stage) not in content(stage + os.path.join(final, name)), f"{name} doesn't name DESTDIR")
     os.rename(stage + final, final)
     folder.module("foo/1.0", "setenv FOO on\n")
     lines = f". '{final}/init/sh'\nmodule load foo/1.0\nmodule --version > /dev/null\nprintf '%s\\n' \"$FOO\"\n"
