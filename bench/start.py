@@ -1,4 +1,4 @@
-"""What the start of a process costs: instructions in front of `main` and in it, system calls and page faults.
+"""What the start of a process costs: instructions outside of `main` and in it, system calls and page faults.
 
 The program that is installed has its C library in itself. The one that stands beside it is made of the same object, and
 the system's loader brings the C library to it, as it does for the native program that reads one file.
@@ -46,7 +46,7 @@ def print_start(folder, null, program):
     if os.path.exists(f"{program}-dynamic"):
         commands.append(("linked dynamically: load 1", [f"{program}-dynamic", *words]))
     print("\nThe start of a process:\n")
-    print(f"{'':30}{'before main':>14}{'in main':>12}{'system calls':>14}{'page faults':>13}")
+    print(f"{'':30}{'outside main':>14}{'in main':>12}{'system calls':>14}{'page faults':>13}")
     for title, command in commands:
         total = instructions(folder, command, env)
         within = instructions(folder, command, env, "--toggle-collect=main")
