@@ -59,6 +59,15 @@ if (-e $dir && `/bin/ls $dir` != "") then
 endif
 """
 
+# What dpkg knows of a package that is installed.
+INSTALLED = """Package: {name}
+Status: install ok installed
+Maintainer: somebody <somebody@localhost>
+Architecture: amd64
+Version: 1
+Description: none
+"""
+
 # The links of a site that installs an archive, and the file that each leads to.
 LINKS = {
     "/etc/profile.d/modulecmd.sh": "profile.sh",
@@ -207,11 +216,12 @@ class Machine:
         env = {"PATH": "/usr/bin:/bin", "HOME": "/root", "TERM": "dumb", "MODULEPATH": "/modules"}
         return run(words, self.root, **{"env": env, **how})
 
-    def dpkg(self, *words):
-        """Has dpkg do something with the machine's packages, and with none of those outside."""
+    def dpkg(self, *words, status=0):
+        """Has dpkg do something with the machine's packages, and with none of those outside. Gives what it said."""
         command = ["dpkg", f"--root={self.root}", f"--log={self.root}/var/log", *words]
-        _, err, status = run(command)
-        same(status, 0, f"dpkg {' '.join(words)}: {err}")
+        _, err, found = run(command, env={**os.environ, "LC_ALL": "C"})
+        same(found, status, f"dpkg {' '.join(words)}: {err}")
+        return err
 
     def log_in(self, *shells):
         for shell in shells:
@@ -354,6 +364,16 @@ def removing_debian_s_package_keeps_the_site_s_file_and_purging_takes_it(folder)
         same(MACHINE.run(LOGINS["bash"], env=env), (SHOWN, "", 0), "a login by the site's directories")
         MACHINE.dpkg("-r", "modulecmd")
         same(MACHINE.listing() - before, {os.path.dirname(OWN), OWN}, "what removing leaves")
+
+
+@case_where(IS_ROOT, HAS_DPKG)
+def debian_s_package_is_refused_beside_others_of_its_kind(folder):
+    for other in ("environment-modules", "lmod"):
+        with MACHINE.is_as_before():
+            MACHINE.write("/var/lib/dpkg/status", INSTALLED.format(name=other))
+            said = MACHINE.dpkg("-i", PACKAGES.debian(PACKAGES.version), status=1)
+            true(f"modulecmd conflicts with {other}" in said, f"beside {other}: {said}")
+    MACHINE.write("/var/lib/dpkg/status", "")
 
 
 @contextlib.contextmanager
