@@ -74,8 +74,9 @@ function print_chosen(number, heading, module) {
 }
 
 function print_columns(number, first) {
-    for (number = 1; number <= count; number++) {
+    for (number = 1; number <= count; number++)
         gsub(/[\001-\037\177]/, "?", lines[number])
+    for (number = 1; number <= count; number++) {
         if (!is_name[number]) {
             print colour ? "\033[1m" lines[number] "\033[0m" : lines[number]
             continue
