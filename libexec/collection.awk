@@ -31,25 +31,30 @@ function said(line) {
     return 1
 }
 
-function write(words, count, number) {
-    count = split(ENVIRON["COLLECTION_PATH"], words, ":")
-    for (number = 1; number <= count; number++)
-        if (words[number] != "")
-            print "module use --append " element(words[number])
-    count = split(ENVIRON["LOADEDMODULES"], words, ":")
-    for (number = 1; number <= count; number++)
-        if (words[number] != "")
-            print "module load " element(words[number])
+function write() {
+    odd = "[^A-Za-z0-9_\200-\377/.,+=@%^~:-]"
+    write_each("module use --append ", ENVIRON["COLLECTION_PATH"])
+    write_each("module load ", ENVIRON["LOADEDMODULES"])
+}
+
+# Writes a line for each element of a list with colons. (The split of some awks parts texts at newlines as well.)
+function write_each(front, list, end) {
+    while (list != "") {
+        end = index(list ":", ":")
+        if (end > 1)
+            print front element(substr(list, 1, end - 1))
+        list = substr(list, end + 1)
+    }
 }
 
 # A text as an element of a list: in braces where that keeps it, else with a backslash before each odd character.
 function element(text, written, mark) {
-    if (text !~ /[^A-Za-z0-9_\200-\377\/.,+=@%^~:-]/)
+    if (text !~ odd)
         return text
-    if (text !~ /[{}\\\n]/)
+    if (text !~ "[{}\\\\\n]")
         return "{" text "}"
     written = ""
-    while (match(text, /[^A-Za-z0-9_\200-\377\/.,+=@%^~:-]/)) {
+    while (match(text, odd)) {
         mark = substr(text, RSTART, 1)
         written = written substr(text, 1, RSTART - 1) "\\" (mark == "\n" ? "n" : mark)
         text = substr(text, RSTART + 1)

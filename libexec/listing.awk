@@ -23,12 +23,15 @@ END {
 }
 
 # The text with one line for each heading.
-function headings_in_one(text, directories, count, number, flat, place) {
-    count = split(ENVIRON["MODULEPATH"], directories, ":")
-    for (number = 1; number <= count; number++) {
-        flat = directories[number]
+function headings_in_one(text, rest, end, directory, flat, place) {
+    rest = ENVIRON["MODULEPATH"]
+    while (rest != "") {
+        end = index(rest ":", ":")
+        directory = substr(rest, 1, end - 1)
+        rest = substr(rest, end + 1)
+        flat = directory
         if (gsub(/\n/, "?", flat))
-            while (place = index("\n" text, "\n" directories[number] ":\n"))
+            while (place = index("\n" text, "\n" directory ":\n"))
                 text = substr(text, 1, place - 1) flat substr(text, place + length(flat))
     }
     return text
@@ -71,8 +74,9 @@ function print_chosen(number, heading, module) {
 }
 
 function print_columns(number, first) {
-    for (number = 1; number <= count; number++) {
+    for (number = 1; number <= count; number++)
         gsub(/[\001-\037\177]/, "?", lines[number])
+    for (number = 1; number <= count; number++) {
         if (!is_name[number]) {
             print colour ? "\033[1m" lines[number] "\033[0m" : lines[number]
             continue

@@ -529,6 +529,20 @@ def add_changes(prefixes):
                      + text("sh", {**wanted, **lists}).decode())
 
     @case
+    def columns_are_as_wide_as_their_names(folder):
+        names = "/m:\né/1\nab/1\nc\033/1\nd/1\n/n:\nlong/name\n".encode()
+        for width, colour, wanted in (
+            (14, 0, "/m:\né/1   c?/1\nab/1  d/1\n/n:\nlong/name\n"),
+            (22, 0, "/m:\né/1   ab/1  c?/1  d/1\n/n:\nlong/name\n"),
+            (1, 1, "\033[1m/m:\033[0m\né/1\nab/1\nc?/1\nd/1\n\033[1m/n:\033[0m\nlong/name\n"),
+        ):
+            command = ["awk", "-v", "wanted=columns", "-v", f"width={width}", "-v", f"colour={colour}", "-f"]
+            command.append(os.path.join(prefixes.program, "libexec/listing.awk"))
+            env = {"PATH": os.environ["PATH"], "LC_ALL": "C"}
+            done = subprocess.run(command, input=names, env=env, capture_output=True, check=True)
+            same(done.stdout.decode(), wanted, f"columns of {width}")
+
+    @case
     def a_heading_of_several_lines_names_no_module(folder):
         here = Changes(folder, prefixes)
         odd = folder.modules.decode() + "\nnope/1\nx"

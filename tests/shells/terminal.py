@@ -384,11 +384,11 @@ def add_added(shell, prefixes):
 
     @named("shows more than a screen by a pager")
     def pages_reports(folder):
-        at, place = start(folder, NO_COLOR="1", PAGER="/bin/sed -e s/^/paged:/")
+        at, place = start(folder, PAGER="/bin/sed -e s/^/paged:/")
         shows(at, "/bin/stty rows 5 columns 34", b"\n")
         text = b"paged:gcc/9            mpi/1\r\npaged:gcc/10(default)  sub/x/1\r\npaged:gcc/11           top\r\n"
         shows(at, "module avail", b"paged:" + folder.modules + b":\r\n" + text)
-        shows(at, "module avail top", folder.modules + b":\r\ntop\r\n")
+        shows(at, "module avail top", b"\x1b[1m" + folder.modules + heading + b"top\r\n")
         if shutil.which("less"):
             unset = {"sh": "unset {}", "csh": "unsetenv {}", "fish": "set -e {}"}[shell.family].format
             shows(at, f"{unset('PAGER')}; module avail", b"gcc/11           top")
