@@ -104,4 +104,8 @@ if test -n "$unpacked"; then
     mkdir -p build/bench/packages
     (cd build/bench/packages && apt-get download "$unpacked" > /dev/null 2>&1 && dpkg -x "$unpacked"_*.deb "../$unpacked") \
         || echo "apt-get has no $unpacked" >&2
+    # The gate refuses links below this folder, and none of these is needed.
+    if test "$unpacked" = environment-modules; then
+        find build/bench/environment-modules -type l -delete
+    fi
 fi
