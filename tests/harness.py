@@ -10,12 +10,12 @@ import tempfile
 import traceback
 
 HERE = os.path.dirname(os.path.abspath(__file__))
+sys.path.append(os.path.join(os.path.dirname(HERE), "tools"))
+
+from link import DYNAMIC  # noqa: E402
 
 NOBODY = 65534
 SECONDS = 60
-
-# What stands behind the name of a program that is linked dynamically (tools/link.py).
-DYNAMIC = "-dynamic"
 
 # How many runs after the last refusal of memory have to be as with ample memory.
 QUIET = 10
