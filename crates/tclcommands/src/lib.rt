@@ -1,4 +1,7 @@
-//! The core commands of Tcl that evaluate no script, each as the rules of evaluation have it.
+//! Tcl's commands that evaluate no script: those that read and write variables, proc(n), and those that the host
+//! answers. Takes memory, changes the variables that it is given, and asks the host. Used by tclcontrol, which picks
+//! the command by its form, and by the evaluator, which starts with `started` and binds the variables of a turn or call
+//! by `assign`.
 #![tactic(auto)]
 
 mod asking;

@@ -1,4 +1,5 @@
-//! Commands that write a variable: set(n), append(n), incr(n).
+//! Commands that write a variable: set(n), append(n), incr(n). A value that is longer than the limit is refused before
+//! the variable changes.
 ghost use Rattle.std.specs.Prelude.{◌≡◌, ◌++◌, [], map, string_bytes, OnOk};
 ghost use Rattle.std.specs.Fmt.{signed_decimal};
 ghost use Rattle.tclvalue.specs.Faults.{GivesText};
@@ -17,7 +18,7 @@ use tclsteps::{Halt, Stop};
 use tclvalue::{ValueFault, count_of, sum};
 use tclvariables::{Content, Variables, writable};
 
-// Writes a variable at its place.
+/// Gives the variable at a location its content, within the limit on values.
 #[tactic(none)]
 pub(crate) fn put_at(
     alloc: Global,
@@ -38,7 +39,7 @@ pub(crate) fn put_at(
     Ok(())
 }
 
-// Writes a variable at its place.
+/// Gives the variable at a location its value, within the limit on values.
 #[tactic(none)]
 fn write_at(
     alloc: Global,
@@ -62,7 +63,9 @@ fn write_at(
     )
 }
 
-/// Writes a variable.
+/// Gives the variable of this name a value.
+///
+/// Errors: a halt where the value has more bytes than `limit`, the variable is unsupported, or memory runs out.
 #[tactic(none)]
 pub fn write(
     alloc: Global,
@@ -78,7 +81,9 @@ pub fn write(
     write_at(alloc, variables, limit, global, name, value)
 }
 
-/// Writes variables, one after the other.
+/// Gives variables their values, in turn: the variables of a turn of foreach(n), or the parameters of a procedure.
+///
+/// Errors: as of `write`, for the first variable that has one; those before it stay written.
 #[tactic(none)]
 pub fn assign(
     alloc: Global,
@@ -94,7 +99,9 @@ pub fn assign(
     Ok(())
 }
 
-/// set(n), with a value.
+/// set(n) with a value, which is the result.
+///
+/// Errors: as of `write`.
 #[tactic(none)]
 pub fn set<'a>(
     alloc: Global,
@@ -110,7 +117,8 @@ pub fn set<'a>(
     Ok(Value::Word(value))
 }
 
-// The text of a variable, which is taken, or an empty one.
+/// Takes the text of a variable, or an empty one where it is unset, so that it grows without a copy. The caller gives
+/// the variable its next value.
 pub(crate) fn taken(alloc: Global, variables: &mut Variables, global: bool, name: &str) -> String
     ensures value { string_bytes result ≡ value_or [] variables.old (global, name.now) }
     ensures given_back { (t : Text) → with_value variables.new (global, name.now) t
@@ -122,7 +130,7 @@ pub(crate) fn taken(alloc: Global, variables: &mut Variables, global: bool, name
     }
 }
 
-// A text with others behind it, within the limit.
+/// A text with others appended, within the limit on values.
 fn extended(text: String, values: &[String], limit: usize) -> Result<String, ValueFault>
     ensures { GivesText result (limited limit (string_bytes text ++ joined [] (map string_bytes values.now))) }
 {
@@ -141,7 +149,9 @@ fn extended(text: String, values: &[String], limit: usize) -> Result<String, Val
     Ok(text)
 }
 
-/// append(n)
+/// append(n): appends texts to the value of a variable, which is made where it is unset. The result is the value.
+///
+/// Errors: as of `write`.
 #[tactic(none)]
 pub fn append<'a>(
     alloc: Global,
@@ -160,7 +170,7 @@ pub fn append<'a>(
     Ok(Value::Variable(global, name))
 }
 
-// The sum of two whole numbers, which are judged from the left to the right.
+/// The sum of two whole numbers in decimal. The first is judged before the second.
 fn increased(alloc: Global, old: &str, increase: &str) -> Result<String, ValueFault>
     ensures { GivesText result (increased old.now increase.now) }
 {
@@ -170,7 +180,11 @@ fn increased(alloc: Global, old: &str, increase: &str) -> Result<String, ValueFa
     Ok(format!(in alloc; "{sum}")?)
 }
 
-/// incr(n)
+/// incr(n): adds a whole number, 1 where none is given, to the value of a variable, 0 where it is unset. The result is
+/// the sum. The number of words is judged here, after the name.
+///
+/// Errors: as of `write`; a wrong number of words, or a value that is no whole number, which catch(n) sees; a halt
+/// where a number or the sum lies outside 64 bits, or is spelled as a fraction.
 #[tactic(none)]
 pub fn increase<'a>(
     alloc: Global,

@@ -1,5 +1,5 @@
-//! Evaluation of Tcl's scripts, proved against the rules of evaluation, for every lawful host: a text as a file, from its
-//! global variables to its result and theirs, or to the fault with its line. It touches memory, and the host.
+//! Evaluation of Tcl's scripts, proved against the rules of evaluation, for every lawful host: a text as a file, from
+//! its global variables to its result and theirs, or to the fault with its line. It touches memory, and the host.
 #![tactic(auto)]
 
 mod file;

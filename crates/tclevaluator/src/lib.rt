@@ -1,5 +1,5 @@
-//! Scripts evaluated, command by command, with their words, expressions, loops and procedures, for every lawful host. It
-//! touches what an `Evaluator` holds, and the host; `tcleval` evaluates whole files over it.
+//! Scripts evaluated, command by command, with their words, expressions, loops and procedures, for every lawful host.
+//! It touches what an `Evaluator` holds, and the host; `tcleval` evaluates whole files over it.
 #![tactic(auto)]
 
 mod cycle;
