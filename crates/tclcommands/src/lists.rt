@@ -149,8 +149,8 @@ fn put_elements(
 /// lappend(n): appends elements to the list that the variable `name` holds, which is made where it is unset. The result
 /// is the variable's value.
 ///
-/// Errors: that the name can't be written, or that the value is no list, which catch(n) sees; a halt where the value
-/// would have more bytes than `limit`, the variable is unsupported, or memory runs out.
+/// Errors: that the value is no list, which catch(n) sees; a halt where the value is too long to be read as a list, or
+/// would have more bytes than `limit`, where the variable is unsupported, or memory runs out.
 #[tactic(none)]
 pub fn list_append<'a>(
     alloc: Global,

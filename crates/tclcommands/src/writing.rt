@@ -1,5 +1,4 @@
-//! Commands that write a variable: set(n), append(n), incr(n). A value that is longer than the limit is refused before
-//! the variable changes.
+//! Commands that write a variable: set(n), append(n), incr(n), within the limit on the bytes of a value.
 ghost use Rattle.std.specs.Prelude.{◌≡◌, ◌++◌, [], map, string_bytes, OnOk};
 ghost use Rattle.std.specs.Fmt.{signed_decimal};
 ghost use Rattle.tclvalue.specs.Faults.{GivesText};
