@@ -91,14 +91,14 @@ pub fn compute_at_hand(
         (expr_view (shown context.entry.source.now) expression.now) context.entry.variables.now k) x
         (stopped stop context.entry.variables.now) x) }
 {
-    let Expr::Binary(operator, left, right) = expression else {
+    let Expr::Binary(operator, lhs, right) = expression else {
         return Ok(None);
     };
-    let Some(left) = text_at_hand(context, left) else {
+    let Some(lhs) = text_at_hand(context, lhs) else {
         return Ok(None);
     };
     let Some(right) = text_at_hand(context, right) else {
         return Ok(None);
     };
-    Ok(Some(compute(context.alloc, *operator, left, right)?))
+    Ok(Some(compute(context.alloc, *operator, lhs, right)?))
 }

@@ -251,21 +251,21 @@ fn expression<'a, H: Host>(
             wait(stack, Frame::Unary(*operator))?;
             Ok(Step::Next(Control::Expression(inner)))
         }
-        Expr::Binary(operator, left, right) => {
+        Expr::Binary(operator, lhs, right) => {
             if let Some(value) = compute_at_hand(context, expression)? {
                 let text = value.into_text(context.alloc)?;
                 return Ok(Step::Next(Control::Value(text)));
             }
             wait(stack, Frame::Left(*operator, right))?;
-            Ok(Step::Next(Control::Expression(left)))
+            Ok(Step::Next(Control::Expression(lhs)))
         }
-        Expr::And(left, right) => {
+        Expr::And(lhs, right) => {
             wait(stack, Frame::And(right))?;
-            Ok(Step::Next(Control::Expression(left)))
+            Ok(Step::Next(Control::Expression(lhs)))
         }
-        Expr::Or(left, right) => {
+        Expr::Or(lhs, right) => {
             wait(stack, Frame::Or(right))?;
-            Ok(Step::Next(Control::Expression(left)))
+            Ok(Step::Next(Control::Expression(lhs)))
         }
         Expr::Choice(condition, yes, no) => {
             wait(stack, Frame::Choice(yes, no))?;
@@ -388,8 +388,8 @@ fn resume<'a, H: Host>(
             wait(stack, Frame::Right(operator, value))?;
             Ok(Step::Next(Control::Expression(right)))
         }
-        Frame::Right(operator, left) => {
-            let value = binary(context.alloc, operator, left.as_str(), value.as_str())?;
+        Frame::Right(operator, lhs) => {
+            let value = binary(context.alloc, operator, lhs.as_str(), value.as_str())?;
             Ok(Step::Next(Control::Value(value)))
         }
         Frame::And(right) => and(context, host, stack, value, right),
