@@ -4,7 +4,7 @@ ghost use Rattle.tclrules.specs.Derivation.{Consults};
 ghost use Rattle.tclrules.specs.Leads.{point};
 ghost use Rattle.tclrules.specs.Forms.{Put};
 ghost use Rattle.tclrules.specs.Rules.{form, replied};
-ghost use Rattle.tclcommands.specs.Does.{Asks, Does, first_text};
+ghost use Rattle.tclcommands.specs.Continuations.{Asks, Does, first_text};
 
 use crate::value::Value;
 use std::alloc::{AllocError, Global};

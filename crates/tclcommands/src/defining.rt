@@ -1,7 +1,7 @@
 //! The command proc(n), which defines a procedure.
 ghost use Rattle.tclrules.specs.Forms.{Define};
 ghost use Rattle.tclrules.specs.Rules.{form};
-ghost use Rattle.tclcommands.specs.Does.{DoesAlone};
+ghost use Rattle.tclcommands.specs.Continuations.{DoesAlone};
 
 use crate::value::Value;
 use std::alloc::Global;

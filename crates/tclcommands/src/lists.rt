@@ -9,7 +9,7 @@ ghost use Rattle.tclrules.specs.Variables.{value_at, writable};
 ghost use Rattle.tclrules.specs.Forms.{ListAppend};
 ghost use Rattle.tclrules.specs.Rules.{form, value_or, lengthened};
 ghost use Rattle.tclvariables.specs.Contents.{IsWritten, HoldsList};
-ghost use Rattle.tclcommands.specs.Does.{lengthen_at, Stores, Writes};
+ghost use Rattle.tclcommands.specs.Continuations.{lengthen_at, Stores, Writes};
 
 use crate::value::{Value, value_or};
 use crate::writing::{put_at, taken};

@@ -6,7 +6,7 @@ ghost use Rattle.tclrules.specs.Leads.{point};
 ghost use Rattle.tclrules.specs.Plans.{Next};
 ghost use Rattle.tclrules.specs.Forms.{Get, Exists};
 ghost use Rattle.tclrules.specs.Rules.{form, exists_at};
-ghost use Rattle.tclcommands.specs.Does.{value_text, Does};
+ghost use Rattle.tclcommands.specs.Continuations.{value_text, Does};
 
 use crate::value::Value;
 use std::alloc::Global;

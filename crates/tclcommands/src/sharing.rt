@@ -2,7 +2,7 @@
 ghost use Rattle.std.specs.Prelude.{map, string_bytes};
 ghost use Rattle.tclrules.specs.Forms.{Global as GlobalForm};
 ghost use Rattle.tclrules.specs.Rules.{form, share, share_from};
-ghost use Rattle.tclcommands.specs.Does.{DoesAlone, Goes};
+ghost use Rattle.tclcommands.specs.Continuations.{DoesAlone, Goes};
 
 use crate::value::Value;
 use std::alloc::Global;

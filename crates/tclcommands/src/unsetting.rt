@@ -4,7 +4,7 @@ ghost use Rattle.tclrules.specs.Variables.{writable, value_at};
 ghost use Rattle.tclrules.specs.Plans.{given};
 ghost use Rattle.tclrules.specs.Forms.{Unset};
 ghost use Rattle.tclrules.specs.Rules.{form, unset, unset_at};
-ghost use Rattle.tclcommands.specs.Does.{DoesAlone, Goes};
+ghost use Rattle.tclcommands.specs.Continuations.{DoesAlone, Goes};
 
 use crate::value::Value;
 use std::alloc::Global;

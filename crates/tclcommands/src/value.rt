@@ -1,7 +1,7 @@
 //! The result of a command before it is copied into a text of its own.
 ghost use Rattle.std.specs.Prelude.{◌≡◌, length, IfOk, string_bytes};
 ghost use Rattle.tclrules.specs.Rules.{value_or};
-ghost use Rattle.tclcommands.specs.Does.{value_text};
+ghost use Rattle.tclcommands.specs.Continuations.{value_text};
 
 use std::alloc::{AllocError, Global};
 use tclvariables::Variables;

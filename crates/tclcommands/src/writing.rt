@@ -8,7 +8,7 @@ ghost use Rattle.tclchars.specs.Runs.{Text};
 ghost use Rattle.tclrules.specs.Variables.{with_value};
 ghost use Rattle.tclrules.specs.Forms.{Set, Append, Increase};
 ghost use Rattle.tclrules.specs.Rules.{write_at, write, assign, form, value_or, increased};
-ghost use Rattle.tclcommands.specs.Does.{named_values, GoesWithin, Stores, Writes};
+ghost use Rattle.tclcommands.specs.Continuations.{named_values, GoesWithin, Stores, Writes};
 
 use crate::value::{Value, value_or};
 use std::alloc::Global;

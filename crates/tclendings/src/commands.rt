@@ -8,8 +8,8 @@ ghost use Rattle.tclrules.specs.Rules as rules;
 ghost use Rattle.tclforms.specs.Views.{simple_view};
 ghost use Rattle.tclsteps.specs.Machine.{bounds};
 ghost use Rattle.tclsteps.specs.Stops.{after, stopped};
-ghost use Rattle.tclcommands.specs.Does.{value_text};
-ghost use Rattle.tclendings.specs.Runs.{ComesToText};
+ghost use Rattle.tclcommands.specs.Continuations.{value_text};
+ghost use Rattle.tclendings.specs.Completions.{ComesToText};
 
 use crate::fault::left_out;
 use std::alloc::Global;

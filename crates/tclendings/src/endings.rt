@@ -9,7 +9,7 @@ ghost use Rattle.tclrules.specs.Plans.{Bounds, Job, Next};
 ghost use Rattle.tclrules.specs.Rules.{after_turn, after_next, after_call, caught, catch_into};
 ghost use Rattle.tclchars.specs.Runs.{Text};
 ghost use Rattle.tclsteps.specs.Stops.{after};
-ghost use Rattle.tclendings.specs.Runs.{ran, turned};
+ghost use Rattle.tclendings.specs.Completions.{ran, turned};
 
 use std::alloc::Global;
 use tclarguments::outside_loop;

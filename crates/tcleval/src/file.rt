@@ -14,7 +14,7 @@ ghost use Rattle.tclsteps.specs.Machine.{shown, bounds};
 ghost use Rattle.tclsteps.specs.Stops.{after, halt_of};
 ghost use Rattle.tclkept.specs.Kept.{BeginWith};
 ghost use Rattle.tclevaluator.specs.Later.{Later};
-ghost use Rattle.tclendings.specs.Runs.{finish, ran};
+ghost use Rattle.tclendings.specs.Completions.{finish, ran};
 ghost use Rattle.tcleval.specs.Files.{after_file, ReportsCut, AnswersFile};
 
 use std::alloc::Global;

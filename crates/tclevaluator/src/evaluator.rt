@@ -7,7 +7,7 @@ ghost use Rattle.tclrules.specs.Plans.{Job, Next, sized};
 ghost use Rattle.tclsteps.specs.Stops.{after, stopped};
 ghost use Rattle.tclexpr.specs.Owned as expression;
 ghost use Rattle.tclsteps.specs.Machine.{bounds};
-ghost use Rattle.tclendings.specs.Runs.{ComesToText, decided};
+ghost use Rattle.tclendings.specs.Completions.{ComesToText, decided};
 ghost use Rattle.tcloperators.specs.declared.operators.Computed.TheVariants.{Truth};
 ghost use Rattle.tclsteps.specs.declared.stop.Stop.TheVariants.{Halted};
 ghost use Rattle.tclsteps.specs.declared.stop.Halt.TheVariants.{TooManyCommands};

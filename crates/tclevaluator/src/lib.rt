@@ -3,7 +3,7 @@
 //! evaluates whole files.
 #![tactic(auto)]
 
-mod cycle;
+mod evaluation;
 mod evaluator;
 mod literals;
 mod trees;

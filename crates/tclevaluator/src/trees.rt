@@ -16,7 +16,7 @@ ghost use Rattle.tclexpr.specs.Omitted.{begins_power, is_letter, is_operator_wor
 ghost use Rattle.tclchars.specs.Classes.{is_name, begins_in};
 ghost use Rattle.tclrules.specs.Expressions.{fault_of, parsed, normal};
 ghost use Rattle.tclkept.specs.Kept.{BeginWith};
-ghost use Rattle.tclendings.specs.Runs.{IsTreeOf, IsReasonOf, value_fault};
+ghost use Rattle.tclendings.specs.Completions.{IsTreeOf, IsReasonOf, value_fault};
 
 use std::alloc::{AllocError, Global};
 use std::rc::Rc;

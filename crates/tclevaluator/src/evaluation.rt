@@ -23,7 +23,7 @@ ghost use Rattle.tclforms.specs.Views.{form_view, pair_texts};
 ghost use Rattle.tclsteps.specs.Machine.{shown, bounds, control_plan};
 ghost use Rattle.tclsteps.specs.Stops.{after};
 ghost use Rattle.tclexpr.specs.Owned as expression;
-ghost use Rattle.tclendings.specs.Runs.{ComesToText, IsTreeOf, finish, sized_next, turned, guarded, expressed, decided};
+ghost use Rattle.tclendings.specs.Completions.{ComesToText, IsTreeOf, finish, sized_next, turned, guarded, expressed, decided};
 ghost use Rattle.tclevaluator.specs.Later.{Later};
 
 use crate::evaluator::{Evaluator, sized, within};
