@@ -1,5 +1,5 @@
--- How a command of the program follows the rules of evaluation (own; the commands are those of Tcl's pages): from the
--- plan of its form the rules come to what follows it, with the result and the variables that the call gave.
+-- How a command of the program follows the rules of evaluation (own; the commands are those of Tcl's pages): the plan
+-- of its form evaluates to whatever follows it, with the result and the variables that the call gave.
 use Rattle.std.specs.Prelude.{ℕ, Bool, List, [], ◌∷◌, map, String, string_bytes, Result, unwrap_or}
 use Rattle.std.specs.Borrow.{Bor}
 use Rattle.std.specs.declared.alloc.Global.{Global}

@@ -126,7 +126,7 @@ fn rewrite_list(
     Ok(())
 }
 
-/// Appends elements to the value of a variable, in the shorter of the two ways.
+/// Appends elements to the value of a variable: in place where it is known to hold a list, else by writing it anew.
 #[tactic(none)]
 fn put_elements(
     alloc: Global,

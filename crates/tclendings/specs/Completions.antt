@@ -28,7 +28,7 @@ use Rattle.tclsteps.specs.declared.stop.Stop.TheVariants as stops
 abbrev pub finish : Text → State → Step
 finish t s = ended (Normal t s)
 
--- the tree that is at hand for a text, if one is, is that of the text as a script
+-- a tree that was parsed already, if one was, is that of this text as a script
 abbrev pub IsTreeOf : Text → Option (Rc OwnedScript Global) → Type 0
 IsTreeOf text None = Unit {0}
 IsTreeOf text (Some tree) = script_of text ≡ Ok (scripts.owned_view tree.value)

@@ -26,7 +26,7 @@ after_file (Ok t) s = ended (Normal (string_bytes t) s)
 after_file (Err (cuts.Raised m)) s = raise (string_bytes m) s
 after_file (Err (cuts.Halted h)) s = halt (halt_of h)
 
--- a fault reports the failure of a file whose command at hand begins at this byte offset
+-- a fault reports the failure of a file whose current command begins at this byte offset
 abbrev pub ReportsCut : Text → ℕ → Cut → EvalFault → Type 0
 ReportsCut script place cut f = (s : State) → s.place ≡ place → ReportsFault script f (cut_outcome cut s)
 

@@ -27,7 +27,7 @@ use tclscript::{ByteRange, Script};
 use tclsteps::{Halt, Stop};
 use tclvariables::Variables;
 
-/// Evaluates the commands of a file in turn. The offset of the command at hand is noted, for the line of an error.
+/// Evaluates the commands of a file in turn. The byte offset of the current one is noted, for the line of an error.
 #[tactic(none)]
 fn file_commands<H: Host>(
     evaluator: &mut Evaluator,
@@ -148,7 +148,7 @@ fn fault_of_halt(halt: Halt) -> EvalFault
     }
 }
 
-/// The fault of a file that failed while the command at this byte offset was at hand.
+/// The fault of a file that failed in the command at this byte offset.
 fn fault_of(script: &str, place: usize, cut: Cut) -> EvalFault
     ensures { ReportsCut script.now place cut result }
 {
@@ -193,7 +193,7 @@ fn ending(
 /// fault too. The outcome is the same whatever the cache has.
 ///
 /// Errors: 11 `OutOfMemory`, here or in the host; 12 `Text` where the script, a body or an expression can't be parsed;
-/// 13 `TclError` for an error that nothing caught, with its message and the line of the file's own command at hand; 14
+/// 13 `TclError` for an error that nothing caught, with its message and the line of the file's own current command; 14
 /// `TooManyCommands`, 15 `TooDeep` and 16 `ValueTooLong` where a limit is met; 17 `NumberTooLarge` and 18
 /// `FractionOperand` for numbers that aren't computed; 19 `LeftOut` for what is unsupported on purpose, with its name;
 /// 20 `Stopped` where the script stops itself (`exit`, or `break` outside of loops); 21 `Host` where the host refuses a

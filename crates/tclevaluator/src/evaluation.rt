@@ -1,9 +1,9 @@
 //! Scripts, commands, words and expressions, which evaluate one another: one cycle of methods, which ends since each
 //! script in another has less depth remaining, and each command and each turn of a loop is counted.
 //!
-//! Of the parameters that most methods have, `left` is how many scripts may still begin inside this one, `source` the
-//! text of which the pieces of the tree are ranges, and `wanted` whether the result is needed; where it isn't, an empty
-//! text may stand in its place.
+//! Parameters that most methods have: `left` is how many scripts may still begin inside this one, `source` the text of
+//! which the pieces of the tree are ranges. `wanted` says whether the result is needed; where it isn't, an empty
+//! text may be answered instead.
 ghost use Rattle.std.specs.Prelude.{◌≡◌, ◌<◌, ◌∷◌, [], Bool, true, false, List, map, option_map, IfOk, string_bytes};
 ghost use Rattle.tclchars.specs.Runs.{Text};
 ghost use Rattle.tclscript.specs.Tree.{commands_of, words_of};
@@ -578,7 +578,7 @@ impl Evaluator {
         self.otherwise(host, limits, left, other, wanted)
     }
 
-    /// catch(n). The result of its script is needed where a variable is named, and is made in any case.
+    /// catch(n). The result of its script is always made, also where no variable takes it.
     #[cycle(evaluate)]
     #[tactic(none)]
     fn catch<H: Host>(
@@ -794,7 +794,7 @@ impl Evaluator {
         after_call(self.alloc, outcome)
     }
 
-    /// foreach(n): reads the names and lists, and then the turns.
+    /// foreach(n): reads the lists of names and of items, and evaluates the turns.
     #[cycle(evaluate)]
     #[tactic(none)]
     fn foreach<H: Host>(

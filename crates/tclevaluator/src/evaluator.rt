@@ -27,7 +27,7 @@ pub struct Evaluator {
     pub alloc: Global,
     /// The trees of texts that were parsed before.
     pub kept: Kept,
-    /// The variables and procedures, and the offset of the file's command at hand.
+    /// The variables and procedures, and the byte offset of the file's current command.
     pub variables: Variables,
     /// How many commands and turns of loops were counted.
     pub used: u64,

@@ -36,7 +36,7 @@ pub(crate) fn push_words(
     Ok(())
 }
 
-/// The piece of the source that a word is which has one literal part; None for any other word.
+/// The range of a word that has one part, which is literal; None for any other word.
 pub(crate) fn literal(parts: &[Part<ByteRange>]) -> Option<ByteRange>
     ensures { IfSome result (λ range. (source : Text) → parts_view (shown source) parts.now
         ≡ part (literal (shown source range)) no_parts) }

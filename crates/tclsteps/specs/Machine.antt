@@ -108,8 +108,8 @@ IsLess source (steps.Next c) fs n = control_weight source c + frames_weight sour
 IsLess source (steps.Done t) fs n = Unit {0}
 IsLess source (steps.Bracket cs) fs n = frames_weight source fs < n
 
--- the rules come from a plan, at one point, to the result of a step and its stack, at another; what is still to be done
--- weighs less than this number
+-- a step follows the rules: whatever its result and the stack evaluate to from the second point, the plan evaluates to
+-- from the first; and what is still to be done weighs less than this number
 abbrev pub StepsTo : (Bounds → Next → plans.Step) → Context → (ℕ → Point) → Result Step Stop → List Frame → ℕ
     → (ℕ → Point) → Type 0
 StepsTo p c x result fs n y =
