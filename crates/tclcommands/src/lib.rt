@@ -1,7 +1,6 @@
-//! Tcl's commands that evaluate no script: those that read and write variables, proc(n), and those that the host
-//! answers. Takes memory, changes the variables that it is given, and asks the host. Used by tclcontrol, which picks
-//! the command by its form, and by the evaluator, which starts with `started` and binds the variables of a turn or call
-//! by `assign`.
+//! Tcl's commands that read or write variables, proc(n), puts(n), and commands that are the host's. Takes memory,
+//! changes the variables that it is given, and asks the host. Used by tclcontrol, which picks a command by its form, by
+//! tclevaluator for the variables of a turn or a call, and by tcleval for the first ones.
 #![tactic(auto)]
 
 mod asking;
