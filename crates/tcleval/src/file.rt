@@ -189,8 +189,8 @@ fn ending(
 }
 
 /// Evaluates a script (Tcl(n)) as a file, for a host, from these global variables and within these limits. Scripts and
-/// expressions that are parsed go into the cache, and those in it aren't parsed again; it only gains texts, after a
-/// fault too. The outcome is the same whatever the cache has.
+/// expressions that are parsed go into the cache while it has room, and those in it aren't parsed again; it only gains
+/// texts, after a fault too. The outcome is the same whatever the cache has.
 ///
 /// Errors: 11 `OutOfMemory`, here or in the host; 12 `Text` where the script, a body or an expression can't be parsed;
 /// 13 `TclError` for an error that nothing caught, with its message and the line of the file's own current command; 14
