@@ -49,8 +49,8 @@ Writes p limit result s =
     → Leads most r (p (bounds limit left) k) x (after result (λ v s'. k (value_text v s') s') s) x
 
 -- the same of a call without a result: the plan continues with this text of the variables after the call
-abbrev pub Stores : (Bounds → Next → plans.Step) → ℕ → Result (Unit {0}) Stop → (State → Text) → State → Type 0
-Stores p limit result t s =
+abbrev pub ContinuesWithText : (Bounds → Next → plans.Step) → ℕ → Result (Unit {0}) Stop → (State → Text) → State → Type 0
+ContinuesWithText p limit result t s =
     (most left : ℕ) (r : Job → plans.Step) (k : Next) (x : Point)
     → Leads most r (p (bounds limit left) k) x (after result (λ u s'. k (t s') s') s) x
 

@@ -9,7 +9,7 @@ ghost use Rattle.tclrules.specs.Variables.{value_at, writable};
 ghost use Rattle.tclrules.specs.Forms.{ListAppend};
 ghost use Rattle.tclrules.specs.Rules.{form, value_or, lengthened};
 ghost use Rattle.tclvariables.specs.Contents.{IsWritten, HoldsList};
-ghost use Rattle.tclcommands.specs.Continuations.{lengthen_at, Stores, Writes};
+ghost use Rattle.tclcommands.specs.Continuations.{lengthen_at, ContinuesWithText, Writes};
 
 use crate::value::{Value, value_or};
 use crate::writing::{put_at, taken};
@@ -84,7 +84,7 @@ fn extend_list(
     requires place { (v : Text) × (writable variables.old v ≡ Ok (global, name.now)) }
     requires list { HoldsList (value_at variables.old (global, name.now)) }
     requires read { length (value_or [] variables.old (global, name.now)) ≤ max_bytes }
-    ensures { Stores (λ b. lengthen_at b (global, name.now) (map string_bytes values.now) variables.old) limit result
+    ensures { ContinuesWithText (λ b. lengthen_at b (global, name.now) (map string_bytes values.now) variables.old) limit result
         (λ s. value_or [] s (global, name.now)) variables.new }
 {
     let old = taken(alloc, variables, global, name);
@@ -111,7 +111,7 @@ fn rewrite_list(
     values: &[String],
 ) -> Result<(), Stop>
     requires { (v : Text) × (writable variables.old v ≡ Ok (global, name.now)) }
-    ensures { Stores (λ b. lengthen_at b (global, name.now) (map string_bytes values.now) variables.old) limit result
+    ensures { ContinuesWithText (λ b. lengthen_at b (global, name.now) (map string_bytes values.now) variables.old) limit result
         (λ s. value_or [] s (global, name.now)) variables.new }
 {
     let text = lengthened(alloc, value_or(variables, global, name, ""), values)?;
@@ -137,7 +137,7 @@ fn put_elements(
     values: &[String],
 ) -> Result<(), Stop>
     requires { (v : Text) × (writable variables.old v ≡ Ok (global, name.now)) }
-    ensures { Stores (λ b. lengthen_at b (global, name.now) (map string_bytes values.now) variables.old) limit result
+    ensures { ContinuesWithText (λ b. lengthen_at b (global, name.now) (map string_bytes values.now) variables.old) limit result
         (λ s. value_or [] s (global, name.now)) variables.new }
 {
     if holds_list(variables, global, name) {

@@ -8,7 +8,7 @@ ghost use Rattle.tclchars.specs.Runs.{Text};
 ghost use Rattle.tclrules.specs.Variables.{with_value};
 ghost use Rattle.tclrules.specs.Forms.{Set, Append, Increase};
 ghost use Rattle.tclrules.specs.Rules.{write_at, write, assign, form, value_or, increased};
-ghost use Rattle.tclcommands.specs.Continuations.{named_values, GoesWithin, Stores, Writes};
+ghost use Rattle.tclcommands.specs.Continuations.{named_values, GoesWithin, ContinuesWithText, Writes};
 
 use crate::value::{Value, value_or};
 use std::alloc::Global;
@@ -27,7 +27,7 @@ pub(crate) fn put_at(
     name: &str,
     content: Content,
 ) -> Result<(), Stop>
-    ensures leads { Stores (λ b. write_at b (global, name.now) content variables.old) limit result (λ _. content)
+    ensures leads { ContinuesWithText (λ b. write_at b (global, name.now) content variables.old) limit result (λ _. content)
         variables.new }
     ensures written { OnOk result (variables.new ≡ with_value variables.old (global, name.now) content) }
 {
@@ -48,7 +48,7 @@ fn write_at(
     name: &str,
     value: String,
 ) -> Result<(), Stop>
-    ensures leads { Stores (λ b. write_at b (global, name.now) (string_bytes value) variables.old) limit result
+    ensures leads { ContinuesWithText (λ b. write_at b (global, name.now) (string_bytes value) variables.old) limit result
         (λ _. string_bytes value) variables.new }
     ensures written { OnOk result (variables.new ≡ with_value variables.old (global, name.now) (string_bytes value)) }
 {
@@ -73,7 +73,7 @@ pub fn write(
     name: &str,
     value: String,
 ) -> Result<(), Stop>
-    ensures { Stores (λ b. write b name.now (string_bytes value) variables.old) limit result (λ _. string_bytes value)
+    ensures { ContinuesWithText (λ b. write b name.now (string_bytes value) variables.old) limit result (λ _. string_bytes value)
         variables.new }
 {
     let (global, name) = writable(variables, alloc, name)?;

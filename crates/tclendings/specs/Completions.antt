@@ -56,9 +56,9 @@ ran (Err stops.Continued) k s = k (Continued s)
 ran (Err (stops.Halted h)) k s = halt (halt_of h)
 
 -- the plan of a loop that continues with another turn, or has ended with an empty result
-abbrev pub turned : (State → Step) → Bool → State → Step
-turned again true s = again s
-turned again false s = ended (Normal [] s)
+abbrev pub loop_continuation : (State → Step) → Bool → State → Step
+loop_continuation again true s = again s
+loop_continuation again false s = ended (Normal [] s)
 
 -- the plan of a loop after its condition: another turn where it holds, else the loop has ended with an empty result
 abbrev pub guarded : Bounds → Text → (State → Step) → Bool → State → Step

@@ -9,7 +9,7 @@ ghost use Rattle.tclrules.specs.Plans.{Bounds, Job, Next};
 ghost use Rattle.tclrules.specs.Rules.{after_turn, after_next, after_call, caught, catch_into};
 ghost use Rattle.tclchars.specs.Runs.{Text};
 ghost use Rattle.tclsteps.specs.Stops.{after};
-ghost use Rattle.tclendings.specs.Completions.{ran, turned};
+ghost use Rattle.tclendings.specs.Completions.{ran, loop_continuation};
 
 use std::alloc::Global;
 use tclarguments::outside_loop;
@@ -23,7 +23,7 @@ use tclvariables::Variables;
 /// Errors: any other completion, which ends the command of the loop too.
 pub fn after_turn(outcome: Result<String, Stop>) -> Result<bool, Stop>
     ensures { (again : State → plans.Step) (s : State)
-        → ran outcome (after_turn again) s ≡ after result (turned again) s }
+        → ran outcome (after_turn again) s ≡ after result (loop_continuation again) s }
 {
     match outcome {
         Ok(_) | Err(Stop::Continued) => Ok(true),
@@ -37,7 +37,7 @@ pub fn after_turn(outcome: Result<String, Stop>) -> Result<bool, Stop>
 /// Errors: any other completion, `continue` too, which ends the command of the loop.
 pub fn after_next(outcome: Result<String, Stop>) -> Result<bool, Stop>
     ensures { (again : State → plans.Step) (s : State)
-        → ran outcome (after_next again) s ≡ after result (turned again) s }
+        → ran outcome (after_next again) s ≡ after result (loop_continuation again) s }
 {
     match outcome {
         Ok(_) => Ok(true),

@@ -23,7 +23,7 @@ ghost use Rattle.tclforms.specs.Views.{form_view, pair_texts};
 ghost use Rattle.tclsteps.specs.Machine.{shown, bounds, control_plan};
 ghost use Rattle.tclsteps.specs.Stops.{after};
 ghost use Rattle.tclexpr.specs.Owned as expression;
-ghost use Rattle.tclendings.specs.Completions.{ComesToText, IsTreeOf, finish, sized_next, turned, guarded, expressed, decided};
+ghost use Rattle.tclendings.specs.Completions.{ComesToText, IsTreeOf, finish, sized_next, loop_continuation, guarded, expressed, decided};
 ghost use Rattle.tclevaluator.specs.Later.{Later};
 
 use crate::evaluator::{Evaluator, sized, within};
@@ -398,7 +398,7 @@ impl Evaluator {
         ensures comes { (again : State → plans.Step) → Leads limits.commands (rule limits.value_bytes)
             (turn (bounds limits.value_bytes left) body.now self.old.variables again)
             (point (H.oracle host.old) (H.told host.old) self.old.used)
-            (after result (turned again) self.new.variables)
+            (after result (loop_continuation again) self.new.variables)
             (point (H.oracle host.new) (H.told host.new) self.new.used) }
         ensures later { Later self.old self.new }
         ensures parsed { IsTreeOf body.now parsed.new }
@@ -425,7 +425,7 @@ impl Evaluator {
             (decided (bounds limits.value_bytes left) (expression.owned_view condition.now) self.old.variables
             (guarded (bounds limits.value_bytes left) body.now again))
             (point (H.oracle host.old) (H.told host.old) self.old.used)
-            (after result (turned again) self.new.variables)
+            (after result (loop_continuation again) self.new.variables)
             (point (H.oracle host.new) (H.told host.new) self.new.used) }
         ensures later { Later self.old self.new }
         ensures parsed { IsTreeOf body.now parsed.new }
