@@ -1,9 +1,9 @@
 //! Scripts, commands, words and expressions, which evaluate one another: one cycle of methods, which ends since each
 //! script in another has less depth remaining, and each command and each turn of a loop is counted.
 //!
-//! Parameters that most methods have: `left` is how many scripts may still begin inside this one, `source` the text of
-//! which the pieces of the tree are ranges. `wanted` says whether the result is needed; where it isn't, an empty
-//! text may be answered instead.
+//! Parameters that most methods have: `left` is how many scripts may still begin inside this one, `source`
+//! the text of which the pieces of the tree are ranges. `wanted` says whether the result is needed; where it
+//! isn't, an empty text may be answered instead.
 ghost use Rattle.std.specs.Prelude.{◌≡◌, ◌<◌, ◌∷◌, [], Bool, true, false, List, map, option_map, IfOk, string_bytes};
 ghost use Rattle.tclchars.specs.Runs.{Text};
 ghost use Rattle.tclscript.specs.Tree.{commands_of, words_of};
