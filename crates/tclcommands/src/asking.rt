@@ -4,7 +4,7 @@ ghost use Rattle.tclrules.specs.Derivation.{Consults};
 ghost use Rattle.tclrules.specs.Leads.{point};
 ghost use Rattle.tclrules.specs.Forms.{Put};
 ghost use Rattle.tclrules.specs.Rules.{form, replied};
-ghost use Rattle.tclcommands.specs.Does.{Asks, Does, first_text};
+ghost use Rattle.tclcommands.specs.Continuations.{Asks, Does, first_text};
 
 use crate::value::Value;
 use std::alloc::{AllocError, Global};
@@ -13,7 +13,8 @@ use tclrules::{Host, HostAnswer};
 use tclsteps::{Halt, Stop};
 use tclvariables::Variables;
 
-// What the host answers to the words of the command of this name.
+/// The result of the command of this name and these words, by the host. A name that the host doesn't know is an error
+/// of Tcl, which catch(n) sees; all other refusals halt.
 #[tactic(none)]
 fn ask<H: Host>(
     alloc: Global,
@@ -34,7 +35,7 @@ fn ask<H: Host>(
     }
 }
 
-// The first word, which is a command's name.
+/// The first word, which is the command's name; empty where there is none.
 fn first_text(words: &[String]) -> &str
     ensures { result.now ≡ first_text (map string_bytes words.entry.now) }
 {
@@ -44,7 +45,11 @@ fn first_text(words: &[String]) -> &str
     }
 }
 
-/// A command that the host answers, by its words.
+/// A command that is neither a core command nor a procedure, by all its words, of which the first is its name. The host
+/// does it and answers the result.
+///
+/// Errors: that no command has this name, which catch(n) sees; a halt where the host refuses the command, says that it
+/// is unsupported, or runs out of memory.
 #[tactic(none)]
 pub fn consult<'a, H: Host>(
     alloc: Global,
@@ -59,7 +64,7 @@ pub fn consult<'a, H: Host>(
     Ok(Value::Text(ask(alloc, variables, host, first_text(words), words)?))
 }
 
-// A name with copies of words behind it.
+/// A name, and copies of words after it.
 fn named(alloc: Global, name: &str, words: &[String]) -> Result<Vec<String>, AllocError>
     ensures { IfOk result (λ v. map string_bytes v.items ≡ name.now ∷ map string_bytes words.now) }
 {
@@ -71,7 +76,9 @@ fn named(alloc: Global, name: &str, words: &[String]) -> Result<Vec<String>, All
     Ok(copies)
 }
 
-/// puts(n), of which the host has the words.
+/// puts(n). The words after the name were judged already; the host writes the text or drops it.
+///
+/// Errors: as of `consult`.
 #[tactic(none)]
 pub fn put<'a, H: Host>(
     alloc: Global,

@@ -1,7 +1,7 @@
-//! proc(n).
+//! The command proc(n), which defines a procedure.
 ghost use Rattle.tclrules.specs.Forms.{Define};
 ghost use Rattle.tclrules.specs.Rules.{form};
-ghost use Rattle.tclcommands.specs.Does.{DoesAlone};
+ghost use Rattle.tclcommands.specs.Continuations.{DoesAlone};
 
 use crate::value::Value;
 use std::alloc::Global;
@@ -9,7 +9,11 @@ use tclarguments::parameters;
 use tclsteps::Stop;
 use tclvariables::{Procedure, Variables};
 
-/// proc(n)
+/// proc(n): defines the procedure `name` with the parameters of the list and this body, which isn't parsed yet. The
+/// result is empty.
+///
+/// Errors: that the name is reserved, or that the parameters aren't such a list, both of which catch(n) sees; a halt
+/// where memory runs out.
 #[tactic(none)]
 pub fn define<'a>(
     alloc: Global,

@@ -1,4 +1,6 @@
-//! The core commands of Tcl that evaluate no script, each as the rules of evaluation have it.
+//! Tcl's commands that read or write variables, proc(n), puts(n), and commands that are the host's. Takes memory,
+//! changes the variables that it is given, and asks the host. Used by tclcontrol, which picks a command by its form, by
+//! tclevaluator for the variables of a turn or a call, and by tcleval for the first ones.
 #![tactic(auto)]
 
 mod asking;

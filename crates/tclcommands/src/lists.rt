@@ -1,4 +1,5 @@
-//! lappend(n).
+//! The command lappend(n). Where a variable is known to hold a list that the evaluator wrote itself, elements are
+//! appended to its text in place; any other value is read as a list and written anew.
 ghost use Rattle.std.specs.Prelude.{◌≡◌, ◌++◌, ◌≤◌, [], List, length, map, string_bytes, true, Ok, IfOk};
 ghost use Rattle.tclchars.specs.Runs.{Text};
 ghost use Rattle.tclchars.specs.Faults.{max_bytes};
@@ -8,7 +9,7 @@ ghost use Rattle.tclrules.specs.Variables.{value_at, writable};
 ghost use Rattle.tclrules.specs.Forms.{ListAppend};
 ghost use Rattle.tclrules.specs.Rules.{form, value_or, lengthened};
 ghost use Rattle.tclvariables.specs.Contents.{IsWritten, HoldsList};
-ghost use Rattle.tclcommands.specs.Does.{lengthen_at, Stores, Writes};
+ghost use Rattle.tclcommands.specs.Continuations.{lengthen_at, ContinuesWithText, Writes};
 
 use crate::value::{Value, value_or};
 use crate::writing::{put_at, taken};
@@ -18,7 +19,7 @@ use tclsteps::Stop;
 use tclvalue::{ValueFault, elements, list_text};
 use tclvariables::{Content, Variables, writable};
 
-// The text of a list with elements behind those of a list's text.
+/// The text of a list, as the evaluator writes it, with elements appended.
 fn with_elements(alloc: Global, list: String, values: &[String]) -> Result<String, AllocError>
     ensures { (es : List Text) → string_bytes list ≡ list_text es
         → IfOk result (λ t. string_bytes t ≡ list_text (es ++ map string_bytes values.now)) }
@@ -36,7 +37,7 @@ fn with_elements(alloc: Global, list: String, values: &[String]) -> Result<Strin
     Ok(list)
 }
 
-// Texts with copies of others behind them.
+/// Texts, and copies of others after them.
 fn with_copies(
     alloc: Global,
     texts: Vec<String>,
@@ -52,7 +53,7 @@ fn with_copies(
     Ok(texts)
 }
 
-// The text of a list with elements behind those of any list.
+/// The text of any list with elements appended: it is read and written anew. A text that is no list is an error of Tcl.
 fn lengthened(alloc: Global, list: &str, values: &[String]) -> Result<String, ValueFault>
     ensures text { GivesText result (lengthened list.now (map string_bytes values.now)) }
     ensures written { IfOk result (λ t. IsWritten (string_bytes t)) }
@@ -61,7 +62,8 @@ fn lengthened(alloc: Global, list: &str, values: &[String]) -> Result<String, Va
     Ok(list_text(alloc, &elements)?)
 }
 
-// Whether a variable is known to hold a list's text as `list` writes it, of a length that is read.
+/// Whether a variable is known to hold a list's text as list(n) writes it, and one that is short enough to be read as a
+/// list. False may stand for "not known".
 fn holds_list(variables: &Variables, global: bool, name: &str) -> bool
     ensures list { result ≡ true → HoldsList (value_at variables.now (global, name.now)) }
     ensures read { result ≡ true → length (value_or [] variables.now (global, name.now)) ≤ max_bytes }
@@ -69,7 +71,7 @@ fn holds_list(variables: &Variables, global: bool, name: &str) -> bool
     variables.holds_list(global, name) && value_or(variables, global, name, "").len() <= MAX_BYTES
 }
 
-// Puts elements behind those of a list's text, which is written where it stands.
+/// Appends elements to the text of a list that the evaluator wrote itself, in place.
 #[tactic(none)]
 fn extend_list(
     alloc: Global,
@@ -82,7 +84,7 @@ fn extend_list(
     requires place { (v : Text) × (writable variables.old v ≡ Ok (global, name.now)) }
     requires list { HoldsList (value_at variables.old (global, name.now)) }
     requires read { length (value_or [] variables.old (global, name.now)) ≤ max_bytes }
-    ensures { Stores (λ b. lengthen_at b (global, name.now) (map string_bytes values.now) variables.old) limit result
+    ensures { ContinuesWithText (λ b. lengthen_at b (global, name.now) (map string_bytes values.now) variables.old) limit result
         (λ s. value_or [] s (global, name.now)) variables.new }
 {
     let old = taken(alloc, variables, global, name);
@@ -98,7 +100,7 @@ fn extend_list(
     Ok(())
 }
 
-// Puts elements behind those of what a variable holds, which is read as a list.
+/// Appends elements to the value of a variable, which is read as a list and written anew.
 #[tactic(none)]
 fn rewrite_list(
     alloc: Global,
@@ -109,7 +111,7 @@ fn rewrite_list(
     values: &[String],
 ) -> Result<(), Stop>
     requires { (v : Text) × (writable variables.old v ≡ Ok (global, name.now)) }
-    ensures { Stores (λ b. lengthen_at b (global, name.now) (map string_bytes values.now) variables.old) limit result
+    ensures { ContinuesWithText (λ b. lengthen_at b (global, name.now) (map string_bytes values.now) variables.old) limit result
         (λ s. value_or [] s (global, name.now)) variables.new }
 {
     let text = lengthened(alloc, value_or(variables, global, name, ""), values)?;
@@ -124,7 +126,7 @@ fn rewrite_list(
     Ok(())
 }
 
-// Puts elements behind those of what a variable holds.
+/// Appends elements to the value of a variable: in place where it is known to hold a list, else by writing it anew.
 #[tactic(none)]
 fn put_elements(
     alloc: Global,
@@ -135,7 +137,7 @@ fn put_elements(
     values: &[String],
 ) -> Result<(), Stop>
     requires { (v : Text) × (writable variables.old v ≡ Ok (global, name.now)) }
-    ensures { Stores (λ b. lengthen_at b (global, name.now) (map string_bytes values.now) variables.old) limit result
+    ensures { ContinuesWithText (λ b. lengthen_at b (global, name.now) (map string_bytes values.now) variables.old) limit result
         (λ s. value_or [] s (global, name.now)) variables.new }
 {
     if holds_list(variables, global, name) {
@@ -144,7 +146,11 @@ fn put_elements(
     rewrite_list(alloc, variables, limit, global, name, values)
 }
 
-/// lappend(n)
+/// lappend(n): appends elements to the list that the variable `name` holds, which is made where it is unset. The result
+/// is the variable's value.
+///
+/// Errors: that the value is no list, which catch(n) sees; a halt where the value is too long to be read as a list, or
+/// would have more bytes than `limit`, where the variable is unsupported, or memory runs out.
 #[tactic(none)]
 pub fn list_append<'a>(
     alloc: Global,

@@ -1,4 +1,4 @@
-//! Commands that look at variables: set(n) without a value, info(n).
+//! Commands that read variables: set(n) with one word, and `info exists` of info(n).
 ghost use Rattle.std.specs.Prelude.{◌≡◌, string_bytes};
 ghost use Rattle.tclvalue.specs.Operators.{truth_text};
 ghost use Rattle.tclrules.specs.Variables.{State, Plain};
@@ -6,7 +6,7 @@ ghost use Rattle.tclrules.specs.Leads.{point};
 ghost use Rattle.tclrules.specs.Plans.{Next};
 ghost use Rattle.tclrules.specs.Forms.{Get, Exists};
 ghost use Rattle.tclrules.specs.Rules.{form, exists_at};
-ghost use Rattle.tclcommands.specs.Does.{value_text, Does};
+ghost use Rattle.tclcommands.specs.Continuations.{value_text, Does};
 
 use crate::value::Value;
 use std::alloc::Global;
@@ -14,7 +14,9 @@ use tclrules::Host;
 use tclsteps::{Stop, read};
 use tclvariables::{Place, Variables, place_named};
 
-/// set(n), without a value.
+/// set(n) with the name alone: the value of the variable.
+///
+/// Errors: as of `tclsubstitution::read`.
 #[tactic(none)]
 pub fn get<'a, H: Host>(
     alloc: Global,
@@ -28,7 +30,7 @@ pub fn get<'a, H: Host>(
     Ok(Value::Text(read(alloc, variables, host, name)?))
 }
 
-// A truth value as a number.
+/// A truth value as commands write it, `1` or `0`.
 fn truth<'a>(holds: bool) -> Value<'a>
     ensures { (s : State) → value_text result s ≡ truth_text holds }
 {
@@ -39,7 +41,7 @@ fn truth<'a>(holds: bool) -> Value<'a>
     }
 }
 
-// Whether a variable has a value, or is the array of the environment.
+/// Whether a scalar variable is set; the array `env` always is.
 fn is_there(variables: &Variables, global: bool, name: &str) -> bool
     ensures { (k : Next) → exists_at variables.now k (Plain global name.now) ≡ k (truth_text result) variables.now }
 {
@@ -49,7 +51,10 @@ fn is_there(variables: &Variables, global: bool, name: &str) -> bool
     variables.get(global, name).is_some()
 }
 
-/// info exists, of info(n).
+/// `info exists` of info(n): `1` where the variable, or the element of `env`, is set, else `0`. Asking for an element
+/// of `env` asks the host.
+///
+/// Errors: a halt where the name is unsupported or memory runs out.
 pub fn exists<'a, H: Host>(
     alloc: Global,
     variables: &Variables,

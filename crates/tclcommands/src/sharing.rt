@@ -1,15 +1,15 @@
-//! global(n).
+//! The command global(n), by which names in a procedure mean global variables.
 ghost use Rattle.std.specs.Prelude.{map, string_bytes};
 ghost use Rattle.tclrules.specs.Forms.{Global as GlobalForm};
 ghost use Rattle.tclrules.specs.Rules.{form, share, share_from};
-ghost use Rattle.tclcommands.specs.Does.{DoesAlone, Goes};
+ghost use Rattle.tclcommands.specs.Continuations.{DoesAlone, Goes};
 
 use crate::value::Value;
 use std::alloc::Global;
 use tclsteps::Stop;
 use tclvariables::{Variables, sharable};
 
-// Lets names lead to global variables, one after the other.
+/// Makes names mean global variables in the procedure that runs, in turn.
 #[tactic(none)]
 fn share(alloc: Global, variables: &mut Variables, names: &[String]) -> Result<(), Stop>
     ensures { Goes (share (map string_bytes names.now) variables.old) result variables.new }
@@ -21,7 +21,7 @@ fn share(alloc: Global, variables: &mut Variables, names: &[String]) -> Result<(
     Ok(())
 }
 
-// The same in a procedure; elsewhere nothing.
+/// The same where a procedure runs; nothing outside of procedures.
 #[tactic(none)]
 fn share_inside(alloc: Global, variables: &mut Variables, names: &[String]) -> Result<(), Stop>
     ensures { Goes (share_from variables.old.frame (map string_bytes names.now) variables.old) result variables.new }
@@ -32,7 +32,10 @@ fn share_inside(alloc: Global, variables: &mut Variables, names: &[String]) -> R
     Ok(())
 }
 
-/// global(n)
+/// global(n): from now on these names mean the global variables in the procedure that runs, also where a local variable
+/// had the name. Without effect outside of procedures. The result is empty.
+///
+/// Errors: a halt where a name is unsupported or memory runs out.
 #[tactic(none)]
 pub fn global<'a>(
     alloc: Global,

@@ -1,4 +1,4 @@
-//! The variables that an evaluation starts with.
+//! The variables that an evaluation begins with.
 ghost use Rattle.std.specs.Prelude.{◌≡◌, IfOk};
 ghost use Rattle.tclrules.specs.Promise.{texts_of};
 ghost use Rattle.tclrules.specs.Variables.{start};
@@ -6,9 +6,10 @@ ghost use Rattle.tclrules.specs.Variables.{start};
 use std::alloc::{AllocError, Global};
 use tclvariables::Variables;
 
-/// Global variables with their values, and no procedures. Of a name that comes again the last value counts.
+/// Variables with these global ones, each a name and its value, and without procedures. Of a name that is repeated the
+/// last value counts.
 ///
-/// Errors: want of memory.
+/// Errors: memory runs out.
 pub fn started(alloc: Global, globals: Vec<(String, String)>) -> Result<Variables, AllocError>
     ensures { IfOk result (λ v. v ≡ start (texts_of globals.items)) }
 {

@@ -1,10 +1,10 @@
-//! unset(n).
+//! The command unset(n).
 ghost use Rattle.std.specs.Prelude.{map, string_bytes};
 ghost use Rattle.tclrules.specs.Variables.{writable, value_at};
 ghost use Rattle.tclrules.specs.Plans.{given};
 ghost use Rattle.tclrules.specs.Forms.{Unset};
 ghost use Rattle.tclrules.specs.Rules.{form, unset, unset_at};
-ghost use Rattle.tclcommands.specs.Does.{DoesAlone, Goes};
+ghost use Rattle.tclcommands.specs.Continuations.{DoesAlone, Goes};
 
 use crate::value::Value;
 use std::alloc::Global;
@@ -12,7 +12,7 @@ use tclarguments::not_to_unset;
 use tclsteps::Stop;
 use tclvariables::{Variables, writable};
 
-// Unsets a variable.
+/// Unsets one variable. One that is unset already is an error, unless `quiet`.
 #[tactic(none)]
 fn unset_one(alloc: Global, variables: &mut Variables, quiet: bool, name: &str) -> Result<(), Stop>
     ensures { Goes (λ k. given (writable variables.old name.now) variables.old
@@ -29,7 +29,7 @@ fn unset_one(alloc: Global, variables: &mut Variables, quiet: bool, name: &str) 
     Err(Stop::from(not_to_unset(alloc, name)))
 }
 
-// Unsets variables, one after the other.
+/// Unsets variables in turn, up to the first error.
 #[tactic(none)]
 fn unset_each(
     alloc: Global,
@@ -45,7 +45,11 @@ fn unset_each(
     Ok(())
 }
 
-/// unset(n)
+/// unset(n): unsets these variables in turn. With `quiet` (the option `-nocomplain`) a variable that is unset already
+/// is no error. The result is empty.
+///
+/// Errors: that a variable doesn't exist, which catch(n) sees, and then the variables before it stay unset; a halt
+/// where a variable is unsupported or memory runs out.
 #[tactic(none)]
 pub fn unset<'a>(
     alloc: Global,

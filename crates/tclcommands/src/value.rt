@@ -1,24 +1,26 @@
-//! The results of commands.
+//! The result of a command before it is copied into a text of its own.
 ghost use Rattle.std.specs.Prelude.{◌≡◌, length, IfOk, string_bytes};
 ghost use Rattle.tclrules.specs.Rules.{value_or};
-ghost use Rattle.tclcommands.specs.Does.{value_text};
+ghost use Rattle.tclcommands.specs.Continuations.{value_text};
 
 use std::alloc::{AllocError, Global};
 use tclvariables::Variables;
 
-/// The result of a command, of which no copy is made before it is asked for.
+/// The result of a command. Most results are dropped by the script, so a copy is made only where one is needed.
 #[derive(Drop)]
 pub enum Value<'a> {
     /// A text of its own.
     Text(String),
     /// A word of the command.
     Word(&'a str),
-    /// What a variable holds: whether it is global, and its name.
+    /// The value of a variable: whether it is global, and its name.
     Variable(bool, &'a str),
 }
 
 impl Value<'_> {
-    /// The text.
+    /// The text of the result, where these are the variables after the command.
+    ///
+    /// Errors: memory runs out for the copy.
     pub fn into_text(self, alloc: Global, variables: &Variables) -> Result<String, AllocError>
         ensures { IfOk result (λ t. string_bytes t ≡ value_text self.entry variables.now) }
     {
@@ -31,7 +33,7 @@ impl Value<'_> {
         }
     }
 
-    /// How many bytes the text has.
+    /// The length of the text in bytes.
     pub fn len(&self, variables: &Variables) -> usize
         ensures { result ≡ length (value_text self.now variables.now) }
     {

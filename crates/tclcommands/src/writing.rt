@@ -1,4 +1,4 @@
-//! Commands that write a variable: set(n), append(n), incr(n).
+//! Commands that write a variable: set(n), append(n), incr(n), within the limit on the bytes of a value.
 ghost use Rattle.std.specs.Prelude.{◌≡◌, ◌++◌, [], map, string_bytes, OnOk};
 ghost use Rattle.std.specs.Fmt.{signed_decimal};
 ghost use Rattle.tclvalue.specs.Faults.{GivesText};
@@ -8,7 +8,7 @@ ghost use Rattle.tclchars.specs.Runs.{Text};
 ghost use Rattle.tclrules.specs.Variables.{with_value};
 ghost use Rattle.tclrules.specs.Forms.{Set, Append, Increase};
 ghost use Rattle.tclrules.specs.Rules.{write_at, write, assign, form, value_or, increased};
-ghost use Rattle.tclcommands.specs.Does.{named_values, GoesWithin, Stores, Writes};
+ghost use Rattle.tclcommands.specs.Continuations.{named_values, GoesWithin, ContinuesWithText, Writes};
 
 use crate::value::{Value, value_or};
 use std::alloc::Global;
@@ -17,7 +17,7 @@ use tclsteps::{Halt, Stop};
 use tclvalue::{ValueFault, count_of, sum};
 use tclvariables::{Content, Variables, writable};
 
-// Writes a variable at its place.
+/// Gives the variable at a location its content, within the limit on values.
 #[tactic(none)]
 pub(crate) fn put_at(
     alloc: Global,
@@ -27,7 +27,7 @@ pub(crate) fn put_at(
     name: &str,
     content: Content,
 ) -> Result<(), Stop>
-    ensures leads { Stores (λ b. write_at b (global, name.now) content variables.old) limit result (λ _. content)
+    ensures leads { ContinuesWithText (λ b. write_at b (global, name.now) content variables.old) limit result (λ _. content)
         variables.new }
     ensures written { OnOk result (variables.new ≡ with_value variables.old (global, name.now) content) }
 {
@@ -38,7 +38,7 @@ pub(crate) fn put_at(
     Ok(())
 }
 
-// Writes a variable at its place.
+/// Gives the variable at a location its value, within the limit on values.
 #[tactic(none)]
 fn write_at(
     alloc: Global,
@@ -48,7 +48,7 @@ fn write_at(
     name: &str,
     value: String,
 ) -> Result<(), Stop>
-    ensures leads { Stores (λ b. write_at b (global, name.now) (string_bytes value) variables.old) limit result
+    ensures leads { ContinuesWithText (λ b. write_at b (global, name.now) (string_bytes value) variables.old) limit result
         (λ _. string_bytes value) variables.new }
     ensures written { OnOk result (variables.new ≡ with_value variables.old (global, name.now) (string_bytes value)) }
 {
@@ -62,7 +62,9 @@ fn write_at(
     )
 }
 
-/// Writes a variable.
+/// Gives the variable of this name a value.
+///
+/// Errors: a halt where the value has more bytes than `limit`, the variable is unsupported, or memory runs out.
 #[tactic(none)]
 pub fn write(
     alloc: Global,
@@ -71,14 +73,16 @@ pub fn write(
     name: &str,
     value: String,
 ) -> Result<(), Stop>
-    ensures { Stores (λ b. write b name.now (string_bytes value) variables.old) limit result (λ _. string_bytes value)
+    ensures { ContinuesWithText (λ b. write b name.now (string_bytes value) variables.old) limit result (λ _. string_bytes value)
         variables.new }
 {
     let (global, name) = writable(variables, alloc, name)?;
     write_at(alloc, variables, limit, global, name, value)
 }
 
-/// Writes variables, one after the other.
+/// Gives variables their values, in turn: the variables of a turn of foreach(n), or the parameters of a procedure.
+///
+/// Errors: as of `write`, for the first variable that has one; those before it stay written.
 #[tactic(none)]
 pub fn assign(
     alloc: Global,
@@ -94,7 +98,9 @@ pub fn assign(
     Ok(())
 }
 
-/// set(n), with a value.
+/// set(n) with a value, which is the result.
+///
+/// Errors: as of `write`.
 #[tactic(none)]
 pub fn set<'a>(
     alloc: Global,
@@ -110,7 +116,8 @@ pub fn set<'a>(
     Ok(Value::Word(value))
 }
 
-// The text of a variable, which is taken, or an empty one.
+/// Takes the text of a variable, or an empty one where it is unset, so that it grows without a copy. The caller gives
+/// the variable its next value.
 pub(crate) fn taken(alloc: Global, variables: &mut Variables, global: bool, name: &str) -> String
     ensures value { string_bytes result ≡ value_or [] variables.old (global, name.now) }
     ensures given_back { (t : Text) → with_value variables.new (global, name.now) t
@@ -122,7 +129,7 @@ pub(crate) fn taken(alloc: Global, variables: &mut Variables, global: bool, name
     }
 }
 
-// A text with others behind it, within the limit.
+/// A text with others appended, within the limit on values.
 fn extended(text: String, values: &[String], limit: usize) -> Result<String, ValueFault>
     ensures { GivesText result (limited limit (string_bytes text ++ joined [] (map string_bytes values.now))) }
 {
@@ -141,7 +148,9 @@ fn extended(text: String, values: &[String], limit: usize) -> Result<String, Val
     Ok(text)
 }
 
-/// append(n)
+/// append(n): appends texts to the value of a variable, which is made where it is unset. The result is the value.
+///
+/// Errors: as of `write`.
 #[tactic(none)]
 pub fn append<'a>(
     alloc: Global,
@@ -160,7 +169,7 @@ pub fn append<'a>(
     Ok(Value::Variable(global, name))
 }
 
-// The sum of two whole numbers, which are judged from the left to the right.
+/// The sum of two whole numbers in decimal. The first is judged before the second.
 fn increased(alloc: Global, old: &str, increase: &str) -> Result<String, ValueFault>
     ensures { GivesText result (increased old.now increase.now) }
 {
@@ -170,7 +179,11 @@ fn increased(alloc: Global, old: &str, increase: &str) -> Result<String, ValueFa
     Ok(format!(in alloc; "{sum}")?)
 }
 
-/// incr(n)
+/// incr(n): adds a whole number, 1 where none is given, to the value of a variable, 0 where it is unset. The result is
+/// the sum. The number of words is judged here, after the name.
+///
+/// Errors: as of `write`; a wrong number of words, or a value that is no whole number, which catch(n) sees; a halt
+/// where a number or the sum lies outside 64 bits, or is spelled as a fraction.
 #[tactic(none)]
 pub fn increase<'a>(
     alloc: Global,

@@ -1,4 +1,4 @@
-//! Core commands that evaluate no script.
+//! Commands that evaluate no script: the core commands by their forms, and commands of other names by the host.
 ghost use Rattle.std.specs.Prelude.{◌≡◌, ◌∷◌, ℕ, None, map, string_bytes};
 ghost use Rattle.tclrules.specs.Leads.{Leads, Point, point};
 ghost use Rattle.tclrules.specs.Variables.{State};
@@ -8,8 +8,8 @@ ghost use Rattle.tclrules.specs.Rules as rules;
 ghost use Rattle.tclforms.specs.Views.{simple_view};
 ghost use Rattle.tclsteps.specs.Machine.{bounds};
 ghost use Rattle.tclsteps.specs.Stops.{after, stopped};
-ghost use Rattle.tclcommands.specs.Does.{value_text};
-ghost use Rattle.tclendings.specs.Runs.{ComesToText};
+ghost use Rattle.tclcommands.specs.Continuations.{value_text};
+ghost use Rattle.tclendings.specs.Completions.{ComesToText};
 
 use crate::fault::left_out;
 use std::alloc::Global;
@@ -22,6 +22,7 @@ use tclrules::{Host, Limits};
 use tclsteps::{Halt, Stop};
 use tclvariables::Variables;
 
+/// The completion of return(n), with this result.
 fn returned(alloc: Global, text: &str) -> Stop
     ensures { (most : ℕ) (r : Job → plans.Step) (s : State) (x : Point)
         → Leads most r (ended (plans.Returned text.now s)) x (stopped result s) x }
@@ -32,6 +33,7 @@ fn returned(alloc: Global, text: &str) -> Stop
     }
 }
 
+/// The completion of error(n), with this message.
 fn raised(alloc: Global, message: &str) -> Stop
     ensures { (most : ℕ) (r : Job → plans.Step) (s : State) (x : Point)
         → Leads most r (raise message.now s) x (stopped result s) x }
@@ -42,7 +44,7 @@ fn raised(alloc: Global, message: &str) -> Stop
     }
 }
 
-/// What the form of a command does that evaluates no script.
+/// Does a core command that evaluates no script, by its form. The result isn't judged by the limit on values yet.
 fn plain_value<'a, H: Host>(
     alloc: Global,
     variables: &mut Variables,
@@ -76,7 +78,8 @@ fn plain_value<'a, H: Host>(
     }
 }
 
-/// The text of a command's result within the limit, of which no copy is made where nobody wants it.
+/// The text of a command's result, which is judged by the limit on values. The text is empty, and nothing is copied,
+/// where the result isn't needed.
 fn answer(
     alloc: Global,
     variables: &Variables,
@@ -98,7 +101,11 @@ fn answer(
     Ok(String::new(alloc))
 }
 
-/// What the form of a command does that evaluates no script, with the text of its result.
+/// Does a core command that evaluates no script, by its form, and answers the text of its result; an empty text where
+/// `wanted` says that the result isn't needed.
+///
+/// Errors: those of the command (`return`, `break`, `continue`, `error` and `exit` among them), and a halt where the
+/// result has more bytes than the limit.
 pub fn plain<H: Host>(
     alloc: Global,
     variables: &mut Variables,
@@ -118,7 +125,11 @@ pub fn plain<H: Host>(
     answer(alloc, variables, limits, wanted, value)
 }
 
-/// A command of a name that is no procedure's: one that is left out, or one for the host.
+/// A command whose name is neither a core command's nor a procedure's: one of Tcl that is unsupported on purpose, or
+/// one that the host does. `words` has all words, the name first, and `operands` those after it.
+///
+/// Errors: a halt for a name that is unsupported or a result with more bytes than the limit; else those of
+/// `tclcommands::consult`.
 pub fn unknown<H: Host>(
     alloc: Global,
     variables: &Variables,

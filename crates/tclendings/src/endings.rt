@@ -1,4 +1,5 @@
-//! How a script ended, as what evaluated it goes on.
+//! The completion of a script (ok, error, return, break, continue; catch(n)), as loops, catch(n) and calls of
+//! procedures continue after it.
 ghost use Rattle.std.specs.Prelude.{◌≡◌, ℕ, Option, option_map, string_bytes};
 ghost use Rattle.tclrules.specs.Leads.{Leads, Point};
 ghost use Rattle.tclsteps.specs.Machine.{bounds};
@@ -8,7 +9,7 @@ ghost use Rattle.tclrules.specs.Plans.{Bounds, Job, Next};
 ghost use Rattle.tclrules.specs.Rules.{after_turn, after_next, after_call, caught, catch_into};
 ghost use Rattle.tclchars.specs.Runs.{Text};
 ghost use Rattle.tclsteps.specs.Stops.{after};
-ghost use Rattle.tclendings.specs.Runs.{ran, turned};
+ghost use Rattle.tclendings.specs.Completions.{ran, loop_continuation};
 
 use std::alloc::Global;
 use tclarguments::outside_loop;
@@ -17,10 +18,12 @@ use tclrules::Limits;
 use tclsteps::Stop;
 use tclvariables::Variables;
 
-/// Whether a loop goes on after its body.
+/// Whether a loop continues after the completion of its body: `break` ends it, `continue` doesn't.
+///
+/// Errors: any other completion, which ends the command of the loop too.
 pub fn after_turn(outcome: Result<String, Stop>) -> Result<bool, Stop>
     ensures { (again : State → plans.Step) (s : State)
-        → ran outcome (after_turn again) s ≡ after result (turned again) s }
+        → ran outcome (after_turn again) s ≡ after result (loop_continuation again) s }
 {
     match outcome {
         Ok(_) | Err(Stop::Continued) => Ok(true),
@@ -29,10 +32,12 @@ pub fn after_turn(outcome: Result<String, Stop>) -> Result<bool, Stop>
     }
 }
 
-/// Whether a loop goes on after the script between its turns.
+/// Whether for(n) continues after the completion of the script between its turns: `break` ends it.
+///
+/// Errors: any other completion, `continue` too, which ends the command of the loop.
 pub fn after_next(outcome: Result<String, Stop>) -> Result<bool, Stop>
     ensures { (again : State → plans.Step) (s : State)
-        → ran outcome (after_next again) s ≡ after result (turned again) s }
+        → ran outcome (after_next again) s ≡ after result (loop_continuation again) s }
 {
     match outcome {
         Ok(_) => Ok(true),
@@ -41,14 +46,16 @@ pub fn after_next(outcome: Result<String, Stop>) -> Result<bool, Stop>
     }
 }
 
-/// What `catch` makes of a script: its code, and what goes into the variable.
+/// What catch(n) makes of a completion.
 #[derive(Drop)]
 struct Caught {
+    /// The completion code, from `0` to `4`, which is the result of catch(n).
     code: &'static str,
+    /// The result or the message, for the variable.
     value: String,
 }
 
-/// Catches how a script ended, unless it is halted.
+/// The completion of a script as catch(n) has it; a halt isn't caught.
 fn catch_outcome(alloc: Global, outcome: Result<String, Stop>) -> Result<Caught, Stop>
     ensures { (b : Bounds) (v : Option Text) (k : Next) (s : State)
         → ran outcome (caught b v k) s
@@ -65,7 +72,7 @@ fn catch_outcome(alloc: Global, outcome: Result<String, Stop>) -> Result<Caught,
     Ok(Caught { code, value })
 }
 
-/// Keeps what was caught in the variable, where one is named, and answers the code.
+/// Writes the result or the message into the variable, where one is named, and answers the code.
 fn keep_caught(
     alloc: Global,
     variables: &mut Variables,
@@ -88,7 +95,10 @@ fn keep_caught(
     }
 }
 
-/// What `catch` makes of how a script ended.
+/// The result of catch(n), which is the completion code, after the completion of its script. The variable `name` gets
+/// the result or the message.
+///
+/// Errors: a halt of the script; a halt where the variable can't be written, or memory runs out.
 pub fn after_catch(
     alloc: Global,
     variables: &mut Variables,
@@ -104,7 +114,8 @@ pub fn after_catch(
     keep_caught(alloc, variables, limits, name, caught)
 }
 
-/// What a procedure gives back: `break` and `continue` don't leave it.
+/// The result of a call of a procedure after the completion of its body: `return` gives its result, and `break` and
+/// `continue` are errors, since they don't leave a procedure.
 pub fn after_call(alloc: Global, outcome: Result<String, Stop>) -> Result<String, Stop>
     ensures { (most : ℕ) (r : Job → plans.Step) (caller : Option Frame) (k : Next) (s : State) (x : Point)
         → Leads most r (ran outcome (after_call caller k) s) x

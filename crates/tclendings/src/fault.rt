@@ -1,11 +1,11 @@
-//! The fault of what is left out.
+//! The fault of a command, an operator or a function that is unsupported on purpose.
 ghost use Rattle.std.specs.Prelude.{string_bytes};
 ghost use Rattle.tclvalue.specs.Faults.{HasReason, left_out};
 
 use std::alloc::Global;
 use tcloperators::ValueFault;
 
-/// This name is of what is left out.
+/// The fault that what has this name is unsupported, or that memory ran out for the name.
 pub fn left_out(alloc: Global, name: &str) -> ValueFault
     ensures { HasReason (left_out name.now) result }
 {

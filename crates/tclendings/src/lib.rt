@@ -1,5 +1,6 @@
-//! What commands make of how a script ended (loops, `catch`, procedures), and the core commands that evaluate none: each
-//! leads on in the rules of evaluation to its result. Over the variables and the host that are handed in.
+//! What commands do with the completion of a script: loops, catch(n) and calls of procedures; and the dispatch of the
+//! commands that evaluate no script, by their forms. Takes memory, changes the variables that it is given, and asks the
+//! host. Used by tclevaluator.
 #![tactic(auto)]
 
 mod commands;

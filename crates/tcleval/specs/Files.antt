@@ -1,4 +1,5 @@
--- How a file ends.
+-- How a file ends (own; after the completion codes of catch(n)): its failure in the rules of evaluation, and the answer
+-- of the program.
 use Rattle.std.specs.Prelude.{◌≡◌, ℕ, Result, Ok, Err, string_bytes, String}
 use Rattle.std.specs.declared.alloc.Global.{Global}
 use Rattle.tclchars.specs.Runs.{Text}
@@ -14,22 +15,22 @@ use Rattle.tclsteps.specs.Stops.{halt_of}
 use Rattle.tcleval.specs.declared.file.Cut.{Cut}
 use Rattle.tcleval.specs.declared.file.Cut.TheVariants as cuts
 
--- the outcome of a file that is cut in this state
+-- the outcome of a file that fails in this state
 abbrev pub cut_outcome : Cut → State → Outcome plans.Ending
 cut_outcome (cuts.Raised m) s = Ended (Raised (string_bytes m) s)
 cut_outcome (cuts.Halted h) s = Halted (halt_of h)
 
--- the plan that is left at the end of a file
+-- the plan of the rules at the end of a file
 abbrev pub after_file : Result (String Global) Cut → State → Step
 after_file (Ok t) s = ended (Normal (string_bytes t) s)
 after_file (Err (cuts.Raised m)) s = raise (string_bytes m) s
 after_file (Err (cuts.Halted h)) s = halt (halt_of h)
 
--- a fault reports how a file was cut, where its command at hand has this place
+-- a fault reports the failure of a file whose current command begins at this byte offset
 abbrev pub ReportsCut : Text → ℕ → Cut → EvalFault → Type 0
 ReportsCut script place cut f = (s : State) → s.place ≡ place → ReportsFault script f (cut_outcome cut s)
 
--- what is answered of a file that came to an end with these variables and this count
+-- the answer for a file that ended with these variables and this count of commands
 abbrev pub AnswersFile : Text → State → ℕ → Result (String Global) Cut → Result Ending EvalFault → Type 0
 AnswersFile script s used (Ok t) (Ok end) =
     (string_bytes end.result ≡ string_bytes t) × (end.used_commands ≡ used)

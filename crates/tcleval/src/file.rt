@@ -1,4 +1,4 @@
-//! Whole files.
+//! A text evaluated as a file, and the fault of a file with its line.
 ghost use Rattle.std.specs.Prelude.{◌≡◌, ◌≤◌, ◌==◌, length, [], take, count_by, min, IfOk, string_bytes};
 ghost use Rattle.tclchars.specs.Runs.{Text};
 ghost use Rattle.tclrules.specs.Derivation.{Halted};
@@ -14,7 +14,7 @@ ghost use Rattle.tclsteps.specs.Machine.{shown, bounds};
 ghost use Rattle.tclsteps.specs.Stops.{after, halt_of};
 ghost use Rattle.tclkept.specs.Kept.{BeginWith};
 ghost use Rattle.tclevaluator.specs.Later.{Later};
-ghost use Rattle.tclendings.specs.Runs.{finish, ran};
+ghost use Rattle.tclendings.specs.Completions.{finish, ran};
 ghost use Rattle.tcleval.specs.Files.{after_file, ReportsCut, AnswersFile};
 
 use std::alloc::Global;
@@ -27,7 +27,7 @@ use tclscript::{ByteRange, Script};
 use tclsteps::{Halt, Stop};
 use tclvariables::Variables;
 
-/// The commands of a file, of each of which the place is kept.
+/// Evaluates the commands of a file in turn. The byte offset of the current one is noted, for the line of an error.
 #[tactic(none)]
 fn file_commands<H: Host>(
     evaluator: &mut Evaluator,
@@ -53,7 +53,7 @@ fn file_commands<H: Host>(
     Ok(last)
 }
 
-/// A text evaluated as a file.
+/// Parses a text as a whole, and evaluates its commands as those of a file.
 #[tactic(none)]
 fn run_file<H: Host>(
     evaluator: &mut Evaluator,
@@ -81,16 +81,16 @@ fn run_file<H: Host>(
     }
 }
 
-/// Why a file ended early.
+/// Why a file failed.
 #[derive(Drop)]
 enum Cut {
     /// An error, with its message.
     Raised(String),
-    /// What nothing catches.
+    /// A halt, which no catch(n) sees.
     Halted(Halt),
 }
 
-/// How a file ends: return and continue end it, break stops it.
+/// The result of a file, by the completion of its commands: `return` and `continue` end it, `break` halts it.
 fn end_of_file(alloc: Global, outcome: Result<String, Stop>) -> Result<String, Cut>
     ensures { (s : State) → ran outcome file_ended s ≡ after_file result s }
 {
@@ -104,7 +104,7 @@ fn end_of_file(alloc: Global, outcome: Result<String, Stop>) -> Result<String, C
     }
 }
 
-/// What stands before a place.
+/// The bytes before an offset.
 fn front(bytes: &[u8], place: usize) -> &[u8]
     ensures { result.now ≡ take place bytes.now }
 {
@@ -115,6 +115,7 @@ fn front(bytes: &[u8], place: usize) -> &[u8]
     }
 }
 
+/// How many newlines bytes have.
 fn newlines(bytes: &[u8]) -> usize
     ensures number { result ≡ count_by (λ b. b == 10) bytes.now }
     ensures within { result ≤ length bytes.now }
@@ -122,13 +123,14 @@ fn newlines(bytes: &[u8]) -> usize
     bytes.iter().filter(|byte| **byte == b'\n').count()
 }
 
-/// The line, from 1, of a place in a script.
+/// The line, counted from 1, of a byte offset in a script.
 fn line_at(script: &str, place: usize) -> usize
     ensures { result ≡ line_at script.now place }
 {
     1 + newlines(front(script.as_bytes(), place))
 }
 
+/// The fault that an evaluation answers for a halt.
 fn fault_of_halt(halt: Halt) -> EvalFault
     ensures { (script : Text) → ReportsFault script result (Halted (halt_of halt)) }
 {
@@ -146,7 +148,7 @@ fn fault_of_halt(halt: Halt) -> EvalFault
     }
 }
 
-/// The fault of a file that is cut while the command of this place is at hand.
+/// The fault of a file that failed in the command at this byte offset.
 fn fault_of(script: &str, place: usize, cut: Cut) -> EvalFault
     ensures { ReportsCut script.now place cut result }
 {
@@ -156,13 +158,14 @@ fn fault_of(script: &str, place: usize, cut: Cut) -> EvalFault
     }
 }
 
+/// The depth that scripts may have: the limit, or 200 where that is less.
 fn depth_of(limits: Limits) -> u32
     ensures { result ≡ min limits.depth 200 }
 {
     limits.depth.min(200)
 }
 
-/// What an evaluation answers, with the global variables that the file left.
+/// The answer for a file: its result with the global variables after it, or its fault.
 fn ending(
     alloc: Global,
     variables: Variables,
@@ -185,14 +188,16 @@ fn ending(
     }
 }
 
-/// The outcome of a script (Tcl(n)), evaluated for a host from these global variables within these limits. What is
-/// parsed is kept, and what is kept isn't parsed again; the lists then begin with those that were there, after a fault
-/// too.
+/// Evaluates a script (Tcl(n)) as a file, for a host, from these global variables and within these limits. Scripts and
+/// expressions that are parsed go into the cache while it has room, and those in it aren't parsed again; it only gains
+/// texts, after a fault too. The outcome is the same whatever the cache has.
 ///
-/// Errors: 11 where memory runs out, here or in the host; 12 where the script, a body or an expression can't be parsed;
-/// 13 for an error, with its message and the line of the script's own command at hand; 14, 15 and 16 where a limit is
-/// met; 17 and 18 for numbers that aren't computed; 19 for what is left out; 20 where the script stops itself; 21 where
-/// the host refuses a command.
+/// Errors: 11 `OutOfMemory`, here or in the host; 12 `Text` where the script, a body or an expression can't be parsed;
+/// 13 `TclError` for an error that nothing caught, with its message and the line of the file's own current command; 14
+/// `TooManyCommands`, 15 `TooDeep` and 16 `ValueTooLong` where a limit is met; 17 `NumberTooLarge` and 18
+/// `FractionOperand` for numbers that aren't computed; 19 `LeftOut` for what is unsupported on purpose, with its name;
+/// 20 `Stopped` where the script stops itself (`exit`, or `break` outside of loops); 21 `Host` where the host refuses a
+/// command, with the host's number.
 #[tactic(none)]
 pub fn evaluate_with<H: Host>(
     alloc: Global,
@@ -225,7 +230,9 @@ pub fn evaluate_with<H: Host>(
     ending(alloc, variables, used, script, end_of_file(alloc, outcome))
 }
 
-/// The outcome of a script, evaluated as `evaluate_with` does where nothing is kept yet.
+/// Evaluates a script as `evaluate_with` does, with a cache of its own that is empty at first.
+///
+/// Errors: as of `evaluate_with`.
 #[tactic(none)]
 pub fn evaluate<H: Host>(
     alloc: Global,

@@ -1,5 +1,6 @@
-//! Evaluation of Tcl's scripts, proved against the rules of evaluation, for every lawful host: a text as a file, from its
-//! global variables to its result and theirs, or to the fault with its line. It touches memory, and the host.
+//! The evaluation of a file (Tcl(n)): from its text and global variables to its result and the variables after it, or
+//! to the fault with its line. Takes memory, and asks the host for puts(n), for commands that aren't Tcl's and for the
+//! environment. Used by modulerun for modulefiles and by defaultfiles for default files.
 #![tactic(auto)]
 
 mod file;

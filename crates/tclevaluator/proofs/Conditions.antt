@@ -18,7 +18,7 @@ use Rattle.tclrules.specs.Expressions.{expr, normal}
 use Rattle.tclrules.proofs.Leading.{go_on}
 use Rattle.tclsteps.specs.Machine.{bounds}
 use Rattle.tclsteps.proofs.Leading.{given_on, sized_on}
-use Rattle.tclendings.specs.Runs.{decided}
+use Rattle.tclendings.specs.Completions.{decided}
 
 -- the digit that a truth value is written as
 abbrev digit : Bool → ℕ

@@ -31,7 +31,7 @@ use Rattle.tclsteps.proofs.Leading.{sized_on, sized_stops}
 use Rattle.tclsteps.specs.Stops.{after, stopped, stop_of, text_stop}
 use Rattle.tclsteps.specs.declared.stop.Stop.{Stop}
 use Rattle.tclsteps.specs.declared.stop.Stop.TheVariants as stops
-use Rattle.tclendings.specs.Runs.{ComesToText, finish, sized_next, ran}
+use Rattle.tclendings.specs.Completions.{ComesToText, finish, sized_next, ran}
 use Rattle.tclkept.specs.Trees.{BeginsWith}
 use Rattle.tclkept.specs.Kept.{Kept, BeginWith}
 use Rattle.tclevaluator.specs.Later.{Later}

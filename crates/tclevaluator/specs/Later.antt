@@ -1,4 +1,4 @@
--- What never goes back while a script is evaluated.
+-- How the state of an evaluation may change (own): the count of commands doesn't fall, and the cache only gains texts.
 use Rattle.std.specs.Prelude.{◌≤◌}
 use Rattle.tclkept.specs.Kept.{BeginWith}
 use Rattle.tclevaluator.specs.declared.evaluator.Evaluator.{Evaluator}

@@ -1,4 +1,4 @@
-//! What changes while a script is evaluated.
+//! The state of an evaluation, the count of commands, and results within the limit on values.
 ghost use Rattle.std.specs.Prelude.{◌≡◌, ◌≤◌, ◌<◌, ◌+◌, ℕ, Bool, MatchResult, IfOk, IfErr, IfSome, length, string_bytes};
 ghost use Rattle.tclrules.specs.Leads.{Leads, Point};
 ghost use Rattle.tclrules.specs.Variables.{State};
@@ -7,7 +7,7 @@ ghost use Rattle.tclrules.specs.Plans.{Job, Next, sized};
 ghost use Rattle.tclsteps.specs.Stops.{after, stopped};
 ghost use Rattle.tclexpr.specs.Owned as expression;
 ghost use Rattle.tclsteps.specs.Machine.{bounds};
-ghost use Rattle.tclendings.specs.Runs.{ComesToText, decided};
+ghost use Rattle.tclendings.specs.Completions.{ComesToText, decided};
 ghost use Rattle.tcloperators.specs.declared.operators.Computed.TheVariants.{Truth};
 ghost use Rattle.tclsteps.specs.declared.stop.Stop.TheVariants.{Halted};
 ghost use Rattle.tclsteps.specs.declared.stop.Halt.TheVariants.{TooManyCommands};
@@ -20,18 +20,21 @@ use tclrules::Limits;
 use tclsteps::{Context, Halt, Stop, compute_at_hand};
 use tclvariables::Variables;
 
-/// What an evaluation has: the trees that are kept, the variables, and the count.
+/// The state of an evaluation.
 #[derive(Drop)]
 pub struct Evaluator {
+    /// The allocator.
     pub alloc: Global,
+    /// The trees of texts that were parsed before.
     pub kept: Kept,
+    /// The variables and procedures, and the byte offset of the file's current command.
     pub variables: Variables,
     /// How many commands and turns of loops were counted.
     pub used: u64,
 }
 
 impl Evaluator {
-    /// Counts a command or a turn, where one more may be counted.
+    /// Counts a command or a turn of a loop, where the limit allows one more; else the evaluation halts.
     pub(crate) fn count(&mut self, limits: Limits) -> Result<(), Stop>
         ensures counted { MatchResult result
             (λ _. (self.old.used < limits.commands) × (self.new.used ≡ self.old.used + 1))
@@ -47,7 +50,8 @@ impl Evaluator {
         Ok(())
     }
 
-    /// Whether a comparison of two operands at hand holds; None of any other expression.
+    /// Whether a comparison holds whose operands are literals or scalar variables; None for any other expression, which
+    /// is evaluated by steps.
     pub(crate) fn comparison(&self, limits: Limits, tree: &OwnedExpr) -> Result<Option<bool>, Stop>
         ensures found { IfOk result (λ found. IfSome found (λ holds. (most left : ℕ) (r : Job → plans.Step)
             (k : Bool → State → plans.Step) (x : Point) → Leads most r
@@ -71,7 +75,8 @@ impl Evaluator {
     }
 }
 
-/// The truth value that an operator made, where its text is within the limit on values.
+/// The truth value that an operator computed, where its text, which has one byte, is within the limit on values; None
+/// of a number.
 fn truth_of(limits: Limits, made: Computed) -> Option<bool>
     ensures { IfSome result (λ holds. (made ≡ Truth holds) × (1 ≤ limits.value_bytes)) }
 {
@@ -81,7 +86,7 @@ fn truth_of(limits: Limits, made: Computed) -> Option<bool>
     }
 }
 
-/// A text within the limit on values.
+/// A text, judged by the limit on values.
 #[tactic(none)]
 pub(crate) fn sized(limits: Limits, text: String) -> Result<String, Stop>
     ensures within { IfOk result (λ t. length (string_bytes t) ≤ limits.value_bytes) }
@@ -95,7 +100,7 @@ pub(crate) fn sized(limits: Limits, text: String) -> Result<String, Stop>
     Ok(text)
 }
 
-/// How a command ended, with its result within the limit on values.
+/// The completion of a command, with its result judged by the limit on values.
 #[tactic(none)]
 pub(crate) fn within(limits: Limits, outcome: Result<String, Stop>) -> Result<String, Stop>
     ensures { (wanted : Bool) (s : State) → ComesToText wanted limits.value_bytes result (λ t. (most : ℕ) (r : Job →

@@ -1,8 +1,9 @@
-//! Scripts evaluated, command by command, with their words, expressions, loops and procedures, for every lawful host. It
-//! touches what an `Evaluator` holds, and the host; `tcleval` evaluates whole files over it.
+//! The evaluation of scripts: commands, substitution of their words, loops, conditions and calls of procedures, which
+//! evaluate one another. Takes memory, changes what its `Evaluator` holds, and asks the host. Used by tcleval, which
+//! evaluates whole files.
 #![tactic(auto)]
 
-mod cycle;
+mod evaluation;
 mod evaluator;
 mod literals;
 mod trees;

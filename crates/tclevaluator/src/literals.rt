@@ -1,4 +1,5 @@
-//! Commands of literal words that take no list of words: their forms need no copies.
+//! Commands whose words are all literal, and few: `break`, `continue`, `incr` and `set`. Their forms borrow from the
+//! source, so that the commands of most loops copy no words.
 ghost use Rattle.std.specs.Prelude.{◌≡◌, ◌∷◌, [], ℕ, List, None, Some, Ok, IfSome, map};
 ghost use Rattle.tclchars.specs.Runs.{Text};
 ghost use Rattle.tclscript.specs.Tree.{words_of};
@@ -18,7 +19,7 @@ use tclforms::{Form, Simple};
 use tclrules::Limits;
 use tclscript::{ByteRange, Word};
 
-/// The text of a word that is one literal part, within the limit on values.
+/// The text of a word that is one literal part within the limit on values; None for any other word.
 fn literal_text<'t>(limits: Limits, source: &'t str, word: &Word<ByteRange>) -> Option<&'t str>
     ensures { IfSome result (λ t. (left : ℕ) (s : State) (k : List Text → State → plans.Step)
         → pieces.one_word (bounds limits.value_bytes left) (word_view (shown source.entry.now) word.now) s k
@@ -34,7 +35,7 @@ fn literal_text<'t>(limits: Limits, source: &'t str, word: &Word<ByteRange>) -> 
     Some(text)
 }
 
-/// The form of a command that has no word behind its name.
+/// The form of such a command that is its name alone.
 #[tactic(auto, unfolding(tclrules::specs::Forms::core_form))]
 fn form_alone(name: &str) -> Option<Form<'_>>
     ensures { IfSome result (λ form. (limit : ℕ) → (core_form name.entry.now [] ≡ Some (Ok (form_view form)))
@@ -47,7 +48,7 @@ fn form_alone(name: &str) -> Option<Form<'_>>
     }
 }
 
-/// The form of a command with one word behind its name that is no list of words.
+/// The form of such a command with one word after its name.
 #[tactic(auto, unfolding(tclrules::specs::Forms::core_form))]
 fn form_of_one<'t>(name: &str, word: &'t str) -> Option<Form<'t>>
     ensures { IfSome result (λ form. (limit : ℕ)
@@ -61,7 +62,7 @@ fn form_of_one<'t>(name: &str, word: &'t str) -> Option<Form<'t>>
     }
 }
 
-/// The form of a command with two words behind its name that are no list of words.
+/// The form of such a command with two words after its name.
 #[tactic(auto, unfolding(tclrules::specs::Forms::core_form))]
 fn form_of_two<'t>(name: &str, first: &'t str, second: &'t str) -> Option<Form<'t>>
     ensures { IfSome result (λ form. (limit : ℕ)
@@ -74,7 +75,7 @@ fn form_of_two<'t>(name: &str, first: &'t str, second: &'t str) -> Option<Form<'
     }
 }
 
-/// The form of a command of literal words that takes no list of words; None of any other command.
+/// The form of such a command; None for any other command, whose words are substituted.
 pub(crate) fn literal_form<'t>(
     limits: Limits,
     source: &'t str,

@@ -1,4 +1,5 @@
-//! The trees of texts that are evaluated, and the values of whole expressions.
+//! The trees of scripts and expressions at their evaluation, with the faults of texts that have none; and how the value
+//! of a whole expression is written.
 ghost use Rattle.std.specs.Prelude.{◌≡◌, if◌then◌else◌, IfOk, Some, None, MatchOption, MatchResult, drop, option_map, string_bytes};
 ghost use Rattle.std.specs.Fmt.{signed_decimal};
 ghost use Rattle.tclscript.specs.Text.{script_of};
@@ -15,7 +16,7 @@ ghost use Rattle.tclexpr.specs.Omitted.{begins_power, is_letter, is_operator_wor
 ghost use Rattle.tclchars.specs.Classes.{is_name, begins_in};
 ghost use Rattle.tclrules.specs.Expressions.{fault_of, parsed, normal};
 ghost use Rattle.tclkept.specs.Kept.{BeginWith};
-ghost use Rattle.tclendings.specs.Runs.{IsTreeOf, IsReasonOf, value_fault};
+ghost use Rattle.tclendings.specs.Completions.{IsTreeOf, IsReasonOf, value_fault};
 
 use std::alloc::{AllocError, Global};
 use std::rc::Rc;
@@ -27,7 +28,8 @@ use tclscript::OwnedScript;
 use tcltext::{Numeral, read_number};
 use tclvalue::ValueFault;
 
-/// What stands in a text from a place on, where a character begins there.
+/// The rest of a text from a byte offset on, where a character begins there. Where none does, no name that is
+/// unsupported begins there either.
 fn behind(text: &str, place: usize) -> Option<&str>
     ensures { MatchOption result (omitted_at (drop place text.now) ≡ None) (λ rest. rest.now ≡ drop place text.now) }
 {
@@ -38,6 +40,7 @@ fn behind(text: &str, place: usize) -> Option<&str>
     }
 }
 
+/// Whether a text begins with a letter or an underscore, as names of functions do.
 fn begins_letter(text: &str) -> bool
     ensures { result ≡ begins_in is_letter text.now }
 {
@@ -47,19 +50,21 @@ fn begins_letter(text: &str) -> bool
     }
 }
 
+/// Whether a text begins with an opening parenthesis.
 fn opens(text: &str) -> bool
     ensures { result ≡ begins 40 text.now }
 {
     text.as_bytes().first() == Some(&b'(')
 }
 
+/// Whether a word is an operator of expr(n).
 fn is_operator_word(text: &str) -> bool
     ensures { result ≡ is_operator_word text.now }
 {
     matches!(text, "eq" | "ne" | "in" | "ni")
 }
 
-/// The name of a function before its parenthesis.
+/// The name of the function that a text begins with, where its parenthesis follows directly.
 fn function_named(text: &str) -> Option<&str>
     ensures { option_map (λ name. name.now) result
         ≡ (if names_function text.now then Some (front is_name text.now) else None) }
@@ -72,13 +77,15 @@ fn function_named(text: &str) -> Option<&str>
     }
 }
 
+/// Whether a text begins with the operator `**`.
 fn begins_power(text: &str) -> bool
     ensures { result ≡ begins_power text.now }
 {
     matches!(text.as_bytes(), [b'*', b'*', ..])
 }
 
-/// The name of the operator or function that is left out, where a text begins with one.
+/// The name of the operator or function of expr(n) that is unsupported on purpose, where a text begins with one: `**`
+/// or any function.
 fn omitted_at(text: &str) -> Option<&str>
     ensures { option_map (λ name. name.now) result ≡ omitted_at text.now }
 {
@@ -88,6 +95,7 @@ fn omitted_at(text: &str) -> Option<&str>
     function_named(text)
 }
 
+/// The fault of an evaluation for a text that can't be parsed.
 fn of_text(fault: TextFault) -> ValueFault
     ensures { result ≡ value_fault fault }
 {
@@ -97,7 +105,7 @@ fn of_text(fault: TextFault) -> ValueFault
     }
 }
 
-/// What is left out at a place of a text.
+/// The name of what is unsupported at a byte offset of a text.
 fn omitted_from(text: &str, place: usize) -> Option<&str>
     ensures { option_map (λ name. name.now) result ≡ omitted_at (drop place text.now) }
 {
@@ -107,7 +115,8 @@ fn omitted_from(text: &str, place: usize) -> Option<&str>
     }
 }
 
-/// What the fault of an expression is to whoever evaluates it.
+/// The fault of the evaluation of a text that is no expression: where it went wrong at an operator or a function that
+/// is unsupported, the fault names that.
 fn expr_fault(alloc: Global, text: &str, fault: TextFault) -> ValueFault
     ensures { IsReasonOf text.now fault result }
 {
@@ -120,7 +129,10 @@ fn expr_fault(alloc: Global, text: &str, fault: TextFault) -> ValueFault
     }
 }
 
-/// The tree of an expression, or the fault of its evaluation.
+/// The tree of an expression, parsed or taken from the cache.
+///
+/// Errors: `LeftOut` where the text goes wrong at an operator or a function that is unsupported, else `Text` with the
+/// fault of the text; `OutOfMemory`.
 pub(crate) fn express_tree(
     alloc: Global,
     kept: &mut Kept,
@@ -135,7 +147,10 @@ pub(crate) fn express_tree(
     }
 }
 
-/// The tree of a script that is evaluated again and again, which is parsed once.
+/// The tree of a script that a loop evaluates in each turn: that in `parsed`, or else one that is parsed or taken from
+/// the cache, and stands in `parsed` from then on.
+///
+/// Errors: the fault of the text, or that memory ran out.
 pub(crate) fn tree_again(
     kept: &mut Kept,
     text: &str,
@@ -154,7 +169,7 @@ pub(crate) fn tree_again(
     Ok(tree)
 }
 
-/// One owner more of a tree.
+/// Another owner of a tree, which isn't copied.
 fn shared(tree: &Rc<OwnedScript>) -> Result<Rc<OwnedScript>, TextFault>
     ensures { MatchResult result (λ copy. copy.value ≡ tree.now.value) (λ fault. fault ≡ OutOfMemory) }
 {
@@ -164,13 +179,16 @@ fn shared(tree: &Rc<OwnedScript>) -> Result<Rc<OwnedScript>, TextFault>
     }
 }
 
+/// A whole number in decimal.
 fn decimal(alloc: Global, number: i64) -> Result<String, AllocError>
     ensures { IfOk result (λ t. string_bytes t ≡ signed_decimal number) }
 {
     format!(in alloc; "{number}")
 }
 
-/// The value of a whole expression: a whole number in decimal, any other text as it is.
+/// The value of a whole expression as it is written: a whole number in decimal, any other text as it is.
+///
+/// Errors: `NumberTooLarge` for a whole number outside 64 bits, `FractionOperand` for a fraction, `OutOfMemory`.
 pub(crate) fn normal(alloc: Global, value: String) -> Result<String, ValueFault>
     ensures { GivesText result (normal (string_bytes value) (numeral (string_bytes value))) }
 {

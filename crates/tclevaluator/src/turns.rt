@@ -1,4 +1,4 @@
-//! The variables of a turn of foreach(n).
+//! The beginning of a turn of foreach(n), which gives its variables their items.
 ghost use Rattle.std.specs.Prelude.{◌≡◌, ℕ, OnOk};
 ghost use Rattle.tclrules.specs.Leads.{Leads, Point};
 ghost use Rattle.tclrules.specs.Variables.{State};
@@ -15,6 +15,7 @@ use tclrules::Limits;
 use tclsteps::Stop;
 use tclvariables::Variables;
 
+/// Gives the variables of a turn the next items of their lists; a list that is used up gives empty texts.
 fn assign_items(
     alloc: Global,
     variables: &mut Variables,
@@ -29,7 +30,9 @@ fn assign_items(
     assign(alloc, variables, limits.value_bytes, pairs)
 }
 
-/// Gives the variables of a turn their items, which are no longer left then.
+/// Gives the variables of a turn the next items of their lists, and steps past these items.
+///
+/// Errors: as of `tclcommands::assign`; then the items remain.
 pub(crate) fn begin_turn(
     alloc: Global,
     variables: &mut Variables,

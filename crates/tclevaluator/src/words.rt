@@ -1,4 +1,5 @@
-//! The words that a word of the source makes.
+//! The words that a word of the source becomes, one or by `{*}` any number (Tcl(n), rule 5), and words that are one
+//! literal.
 ghost use Rattle.std.specs.Prelude.{◌≡◌, ◌++◌, List, Ok, Err, map, MatchResult, IfSome, string_bytes};
 ghost use Rattle.tclchars.specs.Runs.{Text};
 ghost use Rattle.tclvalue.specs.Faults.{reason_of};
@@ -11,7 +12,10 @@ use std::alloc::Global;
 use tclscript::{ByteRange, Part};
 use tclvalue::{ValueFault, elements};
 
-/// Puts the words that a word with this value makes behind others: behind `{*}` the elements of its list.
+/// Appends the words that a word with this value becomes: the value itself or, where the word has `{*}` in front, the
+/// elements of the value as a list.
+///
+/// Errors: that the value is no list, which catch(n) sees; a halt where it is too long for a list, or memory runs out.
 pub(crate) fn push_words(
     alloc: Global,
     texts: &mut Vec<String>,
@@ -32,7 +36,7 @@ pub(crate) fn push_words(
     Ok(())
 }
 
-/// The piece of a word that is one literal part.
+/// The range of a word that has one part, which is literal; None for any other word.
 pub(crate) fn literal(parts: &[Part<ByteRange>]) -> Option<ByteRange>
     ensures { IfSome result (λ range. (source : Text) → parts_view (shown source) parts.now
         ≡ part (literal (shown source range)) no_parts) }

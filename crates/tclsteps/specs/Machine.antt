@@ -1,4 +1,5 @@
--- What is left of a plan, by what waits for a value.
+-- How the steps of a substitution follow the rules of evaluation (own): what the rules continue with once a frame has
+-- its value, and the plan that a step stands for.
 use Rattle.std.specs.Prelude.{ℕ, ◌+◌, ◌<◌, IfOk, List, [], ◌∷◌, ◌++◌, true, false, codes, Result, string_bytes}
 use Rattle.tclchars.specs.Runs.{Text}
 use Rattle.tclscript.specs.Pieces.{between}
@@ -24,14 +25,15 @@ use Rattle.tclsteps.specs.declared.frame.Control.TheVariants as controls
 use Rattle.tclsteps.specs.declared.frame.Step.{Step}
 use Rattle.tclsteps.specs.declared.frame.Step.TheVariants as steps
 
--- the text of a piece of a source
+-- the text of a range of a source
 abbrev pub shown : Text → ByteRange → Text
 shown source range = between source range.start range.end
 
+-- how many bytes a value may have, and how many scripts may still begin inside one another
 abbrev pub bounds : ℕ → ℕ → Bounds
 bounds bytes left = record { bytes = bytes; left = left }
 
--- what a frame goes on with, before what goes on behind it
+-- what the rules do with the value that a frame waits for; `k` is what they do after the frame
 abbrev pub behind : Text → Bounds → Frame → Next → Next
 behind source b (frames.Element name) k t s = read_element name.now t s k
 behind source b (frames.Joined text ps) k t s =
@@ -58,25 +60,25 @@ behind source b (frames.Choice y n) k t s =
       | false ↦ expr b (expr_view (shown source) n.now) s k
     ])
 
--- what all frames go on with, of which the first waits for the next value
+-- the same of a whole stack of frames, the newest first
 abbrev pub behind_all : Text → Bounds → List Frame → Next → Next
 behind_all source b [] k = k
 behind_all source b (f ∷ fs) k = behind source b f (behind_all source b fs k)
 
--- the plan of what is evaluated next
+-- the plan of the rules for what is evaluated next
 abbrev pub control_plan : Text → Bounds → Control → State → Next → plans.Step
 control_plan source b (controls.Parts text ps) s k = parts b (parts_view (shown source) ps.now) (string_bytes text) s k
 control_plan source b (controls.Expression e) s k = expr b (expr_view (shown source) e.now) s k
 control_plan source b (controls.Value t) s k = k (string_bytes t) s
 
--- the plan behind a step, with the frames that wait then
+-- the plan of the rules after a step, with the frames that wait then
 abbrev pub step_plan : Text → Bounds → Step → List Frame → State → Next → plans.Step
 step_plan source b (steps.Next c) fs s k = control_plan source b c s (behind_all source b fs k)
 step_plan source b (steps.Done t) fs s k = k (string_bytes t) s
 step_plan source b (steps.Bracket cs) fs s k =
     Runs (Bracket b.left (script_view (shown source) cs.now) s) (on_normal (behind_all source b fs k))
 
--- how much is left to do
+-- the weight of what is still to be done for a frame, for a stack of frames, and for what is evaluated next
 
 abbrev pub frame_weight : Text → Frame → ℕ
 frame_weight source (frames.Element name) = 1
@@ -100,13 +102,14 @@ control_weight source (controls.Parts text ps) = 1 + parts_weight (parts_view (s
 control_weight source (controls.Expression e) = expr_weight (expr_view (shown source) e.now)
 control_weight source (controls.Value t) = 0
 
--- less is left to do than this number, unless all is done
+-- what is still to be done after a step weighs less than this number, unless all is done
 abbrev pub IsLess : Text → Step → List Frame → ℕ → Type 0
 IsLess source (steps.Next c) fs n = control_weight source c + frames_weight source fs < n
 IsLess source (steps.Done t) fs n = Unit {0}
 IsLess source (steps.Bracket cs) fs n = frames_weight source fs < n
 
--- a step's result is where the plan leads, with less left to do than this number
+-- a step follows the rules: whatever its result and the stack evaluate to from the second point, the plan evaluates to
+-- from the first; and what is still to be done weighs less than this number
 abbrev pub StepsTo : (Bounds → Next → plans.Step) → Context → (ℕ → Point) → Result Step Stop → List Frame → ℕ
     → (ℕ → Point) → Type 0
 StepsTo p c x result fs n y =

@@ -1,4 +1,4 @@
--- What a stop of the program does to the plan that it stands in.
+-- What the stops of the program mean in the rules of evaluation (own), by the completion codes of catch(n).
 use Rattle.std.specs.Prelude.{◌≡◌, Result, Ok, Err, string_bytes}
 use Rattle.tclchars.specs.Runs.{Text}
 use Rattle.tclchars.specs.declared.fault.TextFault.{TextFault}
@@ -13,6 +13,7 @@ use Rattle.tclsteps.specs.declared.stop.Halt.TheVariants as halts
 use Rattle.tclsteps.specs.declared.stop.Stop.{Stop}
 use Rattle.tclsteps.specs.declared.stop.Stop.TheVariants as stops
 
+-- the halt of the rules that a halt of the program stands for
 abbrev pub halt_of : Halt → rules.Halt
 halt_of halts.OutOfMemory = rules.OutOfMemory
 halt_of (halts.Text f) = rules.BadText f
@@ -25,7 +26,7 @@ halt_of (halts.LeftOut name) = rules.LeftOut (string_bytes name)
 halt_of halts.Stopped = rules.Stopped
 halt_of (halts.Host n) = rules.ByHost n
 
--- the plan that a stop leaves, in this state
+-- the plan of the rules that ends as this stop does, in this state
 abbrev pub stopped : Stop → State → Step
 stopped (stops.Raised m) s = raise (string_bytes m) s
 stopped (stops.Returned t) s = ended (Returned (string_bytes t) s)
@@ -33,12 +34,12 @@ stopped stops.Broken s = ended (Broken s)
 stopped stops.Continued s = ended (Continued s)
 stopped (stops.Halted h) s = halt (halt_of h)
 
--- the plan that is left after a call
+-- the plan of the rules after a call: it continues with the value, or ends as the stop does
 abbrev pub after : {A : Type 0} → Result A Stop → (A → State → Step) → State → Step
 after (Ok a) k s = k a s
 after (Err f) k s = stopped f s
 
--- what a fault of values stops
+-- the stop for a fault of values
 abbrev pub stop_of : ValueFault → Stop
 stop_of faults.OutOfMemory = stops.Halted halts.OutOfMemory
 stop_of (faults.Text f) = stops.Halted (halts.Text f)
@@ -48,12 +49,12 @@ stop_of faults.NumberTooLarge = stops.Halted halts.NumberTooLarge
 stop_of faults.FractionOperand = stops.Halted halts.FractionOperand
 stop_of (faults.LeftOut name) = stops.Halted (halts.LeftOut name)
 
--- what a fault of a text stops
+-- the stop for a text that can't be parsed
 abbrev pub text_stop : TextFault → Stop
 text_stop texts.OutOfMemory = stops.Halted halts.OutOfMemory
 text_stop f = stops.Halted (halts.Text f)
 
--- the error with this message, or want of memory for it
+-- this is the error with this message, or memory ran out for the message
 abbrev pub IsRaised : Text → Stop → Type 0
 IsRaised t (stops.Raised m) = string_bytes m ≡ t
 IsRaised t (stops.Returned u) = ⊥

@@ -1,4 +1,4 @@
--- How much is left to do of a word or an expression, as a number that each step makes smaller.
+-- The weight of a word or an expression (own): a number that each step makes smaller, by which steps come to an end.
 use Rattle.std.specs.Prelude.{ℕ, ◌+◌}
 use Rattle.tclscript.specs.Tree.{Parts, no_parts, part, Part, literal, braced, backslash, variable, indexed, bracket}
 use Rattle.tclexpr.specs.Tree.{Expr, operand, unary, binary, conjunction, disjunction, choice}

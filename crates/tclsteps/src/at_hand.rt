@@ -1,4 +1,5 @@
-//! Operands whose texts are at hand, and operators between them, which need no frame and no copy.
+//! Operators between two operands that are literals or scalar variables. Their texts are borrowed from the source or
+//! from the variables, so that the comparisons and sums of most loops take no continuation frame and copy no text.
 ghost use Rattle.std.specs.Prelude.{◌≡◌, ℕ, IfSome, IfOk, IfErr, MatchResult};
 ghost use Rattle.tclexpr.specs.View.{expr_view, operand_view};
 ghost use Rattle.tcloperators.specs.Values.{computed_text};
@@ -20,7 +21,7 @@ use tcloperators::{Computed, compute};
 use tclscript::ByteRange;
 use tclvariables::{Place, Variables, place_named};
 
-/// The value of a variable at its place, where it is kept, and not in the environment.
+/// The value of the variable at a location; None where it is unset, or is the array `env`.
 fn value_at_place<'v>(variables: &'v Variables, global: bool, name: &str) -> Option<&'v str>
     ensures { IfSome result (λ v. (spelled : Text) (k : Next)
         → read_plain spelled global name.now variables.entry.now k ≡ k v.now variables.entry.now) }
@@ -31,7 +32,7 @@ fn value_at_place<'v>(variables: &'v Variables, global: bool, name: &str) -> Opt
     variables.get(global, name)
 }
 
-/// The value of a variable that is kept, and not in the environment.
+/// The value of the scalar variable of a name; None where the name means an element of an array, or can't be read.
 fn kept_value<'v>(alloc: Global, variables: &'v Variables, name: &str) -> Option<&'v str>
     ensures { IfSome result (λ v. (k : Next) → read name.now variables.entry.now k ≡ k v.now variables.entry.now) }
 {
@@ -41,7 +42,7 @@ fn kept_value<'v>(alloc: Global, variables: &'v Variables, name: &str) -> Option
     }
 }
 
-/// The text of an operand that is a literal or a variable.
+/// The text of an operand that is a number, a truth word or a scalar variable; None for all other operands.
 fn operand_text<'t>(
     alloc: Global,
     source: &'t str,
@@ -59,7 +60,7 @@ fn operand_text<'t>(
     }
 }
 
-/// The text of an expression that is an operand at hand, within the limit on values.
+/// The text of an expression that is one such operand and within the limit on the bytes of a value.
 fn text_at_hand<'t>(context: Context<'t, 't>, expression: &'t Expr<ByteRange>) -> Option<&'t str>
     ensures { IfSome result (λ t. (left : ℕ) (k : Next) → expr (bounds context.entry.limits.value_bytes left)
         (expr_view (shown context.entry.source.now) expression.entry.now) context.entry.variables.now k
@@ -75,7 +76,8 @@ fn text_at_hand<'t>(context: Context<'t, 't>, expression: &'t Expr<ByteRange>) -
     Some(text)
 }
 
-/// What an operator makes of two operands that are at hand; None of any other expression.
+/// What a binary operator makes of two operands whose texts can be borrowed (literals and scalar variables); None for
+/// any other expression, which is evaluated by steps. Errors are those of the operator.
 pub fn compute_at_hand(
     context: Context<'_, '_>,
     expression: &Expr<ByteRange>,
@@ -89,14 +91,14 @@ pub fn compute_at_hand(
         (expr_view (shown context.entry.source.now) expression.now) context.entry.variables.now k) x
         (stopped stop context.entry.variables.now) x) }
 {
-    let Expr::Binary(operator, left, right) = expression else {
+    let Expr::Binary(operator, lhs, right) = expression else {
         return Ok(None);
     };
-    let Some(left) = text_at_hand(context, left) else {
+    let Some(lhs) = text_at_hand(context, lhs) else {
         return Ok(None);
     };
     let Some(right) = text_at_hand(context, right) else {
         return Ok(None);
     };
-    Ok(Some(compute(context.alloc, *operator, left, right)?))
+    Ok(Some(compute(context.alloc, *operator, lhs, right)?))
 }

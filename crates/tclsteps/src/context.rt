@@ -1,15 +1,15 @@
-//! What steps of an evaluation look at.
+//! What each step of a substitution reads and doesn't change.
 
 use std::alloc::Global;
 use tclrules::Limits;
 use tclvariables::Variables;
 
-/// The variables, the limits, and the source of which the pieces of the tree are ranges.
+/// The variables, the limits, and the source text of which the pieces of the tree are byte ranges.
 #[derive(Clone, Copy)]
 pub struct Context<'a, 'v> {
-    /// Where memory is taken.
+    /// The allocator.
     pub alloc: Global,
-    /// How far the evaluation may go.
+    /// The limits on commands, depth and the bytes of a value; steps judge the last alone.
     pub limits: Limits,
     /// The text of which the pieces of a tree are ranges.
     pub source: &'a str,

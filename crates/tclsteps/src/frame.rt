@@ -1,51 +1,52 @@
-//! What is left to do of a word or an expression that is being evaluated.
+//! The state of a substitution between two steps: what is evaluated next, and continuation frames, each of which waits
+//! for the value of an inner part.
 
 use tclexpr::{BinaryOperator, Expr, UnaryOperator};
 use tclscript::{ByteRange, Part, Script};
 
-/// What waits for a value.
+/// A continuation frame: what is done with the next value once it is there.
 #[derive(Drop)]
 pub enum Frame<'a> {
-    /// The value is the index of an element of the array of this name.
+    /// The value is the index of an element of the array of this name, which is read.
     Element(&'a str),
-    /// The value joins this text, and these parts follow.
+    /// The value is appended to this text of a word, and these parts of the word follow.
     Joined(String, &'a [Part<ByteRange>]),
-    /// The value is an operand.
+    /// The value is an operand, which is judged by the limit on values.
     Operand,
-    /// The value is that of an operator's operand.
+    /// The value is the operand of this operator.
     Unary(UnaryOperator),
-    /// The value is that of the left operand; the right one follows.
+    /// The value is the left operand; the right one is evaluated next.
     Left(BinaryOperator, &'a Expr<ByteRange>),
-    /// The value is that of the right operand, and the left one is known.
+    /// The value is the right operand; the left one has this value.
     Right(BinaryOperator, String),
-    /// The value is that of the left operand of `&&`.
+    /// The value is the left operand of `&&`; the right one is evaluated where it is true.
     And(&'a Expr<ByteRange>),
-    /// The value is that of the left operand of `||`.
+    /// The value is the left operand of `||`; the right one is evaluated where it is false.
     Or(&'a Expr<ByteRange>),
-    /// The value is that of the right operand of `&&` or `||`.
+    /// The value is the right operand of `&&` or `||`, and its truth is the result.
     Truth,
-    /// The value is that of the condition of `? :`.
+    /// The value is the condition of `? :`, before the operands for true and for false.
     Choice(&'a Expr<ByteRange>, &'a Expr<ByteRange>),
 }
 
-/// What is evaluated next.
+/// What the next step evaluates.
 #[derive(Drop)]
 pub enum Control<'a> {
-    /// These parts, which join this text.
+    /// These parts of a word, whose values are appended to this text.
     Parts(String, &'a [Part<ByteRange>]),
     /// This expression.
     Expression(&'a Expr<ByteRange>),
-    /// Nothing: this is the value.
+    /// Nothing: this is the value for which the newest frame waits.
     Value(String),
 }
 
-/// What comes of a step.
+/// What a step answers.
 #[derive(Drop)]
 pub enum Step<'a> {
     /// There are more steps.
     Next(Control<'a>),
-    /// The value of the whole.
+    /// No frame waits: this is the value of the whole word or expression.
     Done(String),
-    /// The script of a bracket is to be evaluated, whose result is the value.
+    /// The caller evaluates the script of this bracket; its result is the value for the newest frame.
     Bracket(&'a Script<ByteRange>),
 }

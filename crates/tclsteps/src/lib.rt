@@ -1,5 +1,6 @@
-//! Words and expressions of Tcl's scripts, evaluated step by step: each step leads on in the rules of evaluation, and
-//! what waits for a value stands on a stack in memory, so that no nesting takes a frame of the machine.
+//! The substitution of words (Tcl(n)) and the evaluation of expressions (expr(n)), one step at a time. What waits for
+//! the value of an inner part is a stack in memory, so that deep nesting of a script takes no stack of the process.
+//! Takes memory, and asks the host for elements of `env` alone. Used by the crates from tclcommands to tcleval.
 #![tactic(auto)]
 
 mod at_hand;

@@ -1,4 +1,4 @@
-//! The values of variables and of the environment.
+//! The values of scalar variables and of elements of the array `env`, with the errors of Tcl where there is none.
 ghost use Rattle.std.specs.Prelude.{◌≡◌, ◌++◌, ℕ, Some, IfOk, codes, option_map, string_bytes};
 ghost use Rattle.tclrules.specs.Variables.{State, value_at};
 ghost use Rattle.tclrules.specs.Derivation.{Reads};
@@ -15,12 +15,14 @@ use std::alloc::{AllocError, Global};
 use tclrules::Host;
 use tclvariables::{Place, Variables, place_named, place_of};
 
+/// A text in double quotes, as messages have names.
 fn in_quotes(alloc: Global, text: &str) -> Result<String, AllocError>
     ensures { IfOk result (λ t. string_bytes t ≡ in_quotes text.now) }
 {
     format!(in alloc; "\"{text}\"")
 }
 
+/// The message that a variable doesn't exist.
 #[tactic(auto, unfolding(tclrules::specs::Messages::no_variable))]
 fn no_variable(alloc: Global, name: &str) -> Result<String, AllocError>
     ensures { IfOk result (λ t. string_bytes t ≡ no_variable name.now) }
@@ -29,6 +31,7 @@ fn no_variable(alloc: Global, name: &str) -> Result<String, AllocError>
     format!(in alloc; "can't read {quoted}: no such variable")
 }
 
+/// The message that a variable is an array and has no value of its own.
 #[tactic(auto, unfolding(tclrules::specs::Messages::is_array))]
 fn is_array(alloc: Global, name: &str) -> Result<String, AllocError>
     ensures { IfOk result (λ t. string_bytes t ≡ is_array name.now) }
@@ -37,7 +40,7 @@ fn is_array(alloc: Global, name: &str) -> Result<String, AllocError>
     format!(in alloc; "can't read {quoted}: it is an array")
 }
 
-// The error with the message that a variable has no value.
+/// The error that the variable of this spelling doesn't exist.
 fn missing(alloc: Global, name: &str) -> Stop
     ensures { IsRaised (no_variable name.now) result }
 {
@@ -47,7 +50,7 @@ fn missing(alloc: Global, name: &str) -> Stop
     }
 }
 
-// The error with the message that `env` is an array.
+/// The error that the variable of this spelling is an array.
 fn whole_array(alloc: Global, name: &str) -> Stop
     ensures { IsRaised (is_array name.now) result }
 {
@@ -57,7 +60,8 @@ fn whole_array(alloc: Global, name: &str) -> Stop
     }
 }
 
-// The value of a variable at its place.
+/// A copy of the value of the variable `name` of the global variables, or of those of the procedure that runs. An error
+/// names the variable as it was `spelled` in the script.
 #[tactic(none)]
 fn value_at(
     alloc: Global,
@@ -76,6 +80,7 @@ fn value_at(
     }
 }
 
+/// The value of a scalar variable. `env` as a whole is no scalar.
 #[tactic(none)]
 fn read_plain(
     alloc: Global,
@@ -97,6 +102,7 @@ fn read_plain(
     value_at(alloc, variables, spelled, false, name)
 }
 
+/// The value of a variable of the environment, which the host is asked for.
 fn read_env<H: Host>(
     alloc: Global,
     variables: &Variables,
@@ -116,6 +122,7 @@ fn read_env<H: Host>(
     }
 }
 
+/// The value of the scalar or the element at a location. `env` is the one array; elements of others don't exist.
 #[tactic(none)]
 fn read_place<H: Host>(
     alloc: Global,
@@ -141,7 +148,10 @@ fn read_place<H: Host>(
     }
 }
 
-/// The value of the variable of this name.
+/// The value of the variable of this name, as `$name` has it (Tcl(n), rule 8).
+///
+/// Errors: those of Tcl for a variable that doesn't exist and for an array, both of which catch(n) sees; a halt where
+/// the name is unsupported or memory runs out.
 #[tactic(none)]
 pub fn read<H: Host>(
     alloc: Global,
@@ -159,13 +169,17 @@ pub fn read<H: Host>(
     read_place(alloc, variables, host, name, place)
 }
 
+/// The spelling `name(index)` of an element.
 fn spelled(alloc: Global, name: &str, index: &str) -> Result<String, AllocError>
     ensures { IfOk result (λ t. string_bytes t ≡ name.now ++ (codes "(" ++ (index.now ++ codes ")"))) }
 {
     format!(in alloc; "{name}({index})")
 }
 
-/// The value of the element of the array of this name.
+/// The value of an element of the array of this name, as `$name(index)` has it (Tcl(n), rule 8). `env` is the one
+/// array.
+///
+/// Errors: as of `read`.
 #[tactic(none)]
 pub fn read_element<H: Host>(
     alloc: Global,

@@ -1,4 +1,4 @@
-//! Why a script goes no further.
+//! Why a script ends before its last command: the completion codes of Tcl but `ok`, and halts, which no script catches.
 ghost use Rattle.std.specs.Prelude.{◌≡◌};
 ghost use Rattle.tclsteps.specs.Stops.{stop_of, text_stop};
 ghost use Rattle.tclsteps.specs.declared.stop.Stop.TheVariants.{Halted};
@@ -8,16 +8,16 @@ use std::alloc::{AllocError, AllocFailed};
 use tclchars::TextFault;
 use tclvalue::ValueFault;
 
-/// What nothing catches.
+/// Why an evaluation ends as a whole. No catch(n) sees it.
 #[derive(Drop)]
 pub enum Halt {
     /// A growth of memory was refused.
     OutOfMemory,
     /// A text can't be parsed.
     Text(TextFault),
-    /// The limit on commands was met.
+    /// The limit on commands and turns of loops was met.
     TooManyCommands,
-    /// The limit on depth was met.
+    /// The limit on the depth of scripts in one another was met.
     TooDeep,
     /// A value has more bytes than the limit.
     ValueTooLong,
@@ -25,26 +25,26 @@ pub enum Halt {
     NumberTooLarge,
     /// A number is spelled with a fraction or an exponent.
     FractionOperand,
-    /// This command, option or kind of variable is left out.
+    /// This command, option or kind of variable is unsupported on purpose.
     LeftOut(String),
-    /// The script stopped itself.
+    /// The script stopped itself by `exit`, or by `break` outside of loops.
     Stopped,
     /// The host refused a command by this number.
     Host(u16),
 }
 
-/// Why a script ends before its last command.
+/// How a script ended that didn't end with its last command: a completion code of Tcl (catch(n)), or a halt.
 #[derive(Drop)]
 pub enum Stop {
-    /// An error, with its message.
+    /// Code 1, an error, with its message.
     Raised(String),
-    /// `return`, with its result.
+    /// Code 2, `return`, with its result.
     Returned(String),
-    /// `break`
+    /// Code 3, `break`.
     Broken,
-    /// `continue`
+    /// Code 4, `continue`.
     Continued,
-    /// What nothing catches.
+    /// The evaluation as a whole is at its end, which has no code.
     Halted(Halt),
 }
 
@@ -81,7 +81,7 @@ impl From<ValueFault> for Stop {
 }
 
 impl Stop {
-    /// What a fault of a text stops.
+    /// The halt for a text that can't be parsed.
     pub fn of_text(fault: TextFault) -> Stop
         ensures { result ≡ text_stop fault }
     {

@@ -1,5 +1,5 @@
-//! Words and expressions, step by step: what waits for a value stands on a stack, so that no nesting takes a frame of
-//! the machine.
+//! The steps of a substitution. Each takes what is evaluated next and the stack of frames, and answers what is
+//! evaluated after it. By its clause a step follows the rules of evaluation, and what is still to be done weighs less.
 ghost use Rattle.std.specs.Prelude.{◌≡◌, ◌++◌, ◌+◌, ℕ, [], ◌∷◌, reverse, string_bytes, OnOk, OnErr, IfOk, IfErr, encode_utf8};
 ghost use Rattle.tclchars.specs.BracedText.{braced_text};
 ghost use Rattle.tclscript.specs.View.{part_view, parts_view};
@@ -27,14 +27,14 @@ use tclrules::Host;
 use tclscript::{ByteRange, Part};
 use tclvalue::{binary, truth, unary};
 
-// The piece of the source.
+/// The text of a piece of the source.
 fn piece<'a>(source: &'a str, range: ByteRange) -> &'a str
     ensures { result.now ≡ shown source.now range }
 {
     range.of(source)
 }
 
-// Lets a frame wait for the next value.
+/// Pushes a frame, which waits for the next value.
 fn wait<'a>(stack: &mut Vec<Frame<'a>>, frame: Frame<'a>) -> Result<(), Stop>
     ensures ok { OnOk result (stack.new.items ≡ stack.old.items ++ frame.entry ∷ []) }
     ensures err { IfErr result (λ stop. stop ≡ Halted OutOfMemory) }
@@ -43,6 +43,7 @@ fn wait<'a>(stack: &mut Vec<Frame<'a>>, frame: Frame<'a>) -> Result<(), Stop>
     Ok(())
 }
 
+/// A copy of a text.
 fn copy(alloc: Global, text: &str) -> Result<String, Stop>
     ensures ok { IfOk result (λ t. string_bytes t ≡ text.now) }
     ensures err { IfErr result (λ stop. stop ≡ Halted OutOfMemory) }
@@ -50,7 +51,7 @@ fn copy(alloc: Global, text: &str) -> Result<String, Stop>
     Ok(String::from_str(alloc, text)?)
 }
 
-// What a text in braces stands for.
+/// The value of a text in braces (Tcl(n), rule 6).
 fn braced(alloc: Global, text: &str) -> Result<String, Stop>
     ensures ok { IfOk result (λ t. string_bytes t ≡ braced_text text.now) }
     ensures err { IfErr result (λ stop. stop ≡ Halted OutOfMemory) }
@@ -60,6 +61,7 @@ fn braced(alloc: Global, text: &str) -> Result<String, Stop>
     Ok(value)
 }
 
+/// The text of one character.
 fn character(alloc: Global, character: char) -> Result<String, Stop>
     ensures ok { IfOk result (λ t. string_bytes t ≡ encode_utf8 character) }
     ensures err { IfErr result (λ stop. stop ≡ Halted OutOfMemory) }
@@ -69,6 +71,7 @@ fn character(alloc: Global, character: char) -> Result<String, Stop>
     Ok(value)
 }
 
+/// A truth value as operators write it, `1` or `0`.
 fn truth_text(alloc: Global, holds: bool) -> Result<String, Stop>
     ensures ok { IfOk result (λ t. string_bytes t ≡ truth_text holds) }
     ensures err { IfErr result (λ stop. stop ≡ Halted OutOfMemory) }
@@ -80,7 +83,7 @@ fn truth_text(alloc: Global, holds: bool) -> Result<String, Stop>
     }
 }
 
-// A text with a piece behind it.
+/// A text with a piece appended.
 fn with_piece(text: String, piece: &str) -> Result<String, Stop>
     ensures ok { IfOk result (λ t. string_bytes t ≡ string_bytes text ++ piece.now) }
     ensures err { IfErr result (λ stop. stop ≡ Halted OutOfMemory) }
@@ -90,7 +93,8 @@ fn with_piece(text: String, piece: &str) -> Result<String, Stop>
     Ok(text)
 }
 
-// The parts that follow go on behind a text and a piece.
+/// Appends the value of a part to the text of a word, which is judged by the limit on values; the rest of the word is
+/// next.
 #[tactic(none)]
 fn join<'a, H: Host>(
     context: Context<'a, '_>,
@@ -116,7 +120,7 @@ fn join<'a, H: Host>(
     Ok(Step::Next(Control::Parts(text, rest)))
 }
 
-// The step at a part, before which the text is made.
+/// The step at a part of a word; `text` is the value of the parts before it.
 #[tactic(none)]
 fn part<'a, H: Host>(
     context: Context<'a, '_>,
@@ -176,7 +180,7 @@ fn part<'a, H: Host>(
     }
 }
 
-// The step at an operand.
+/// The step at an operand.
 #[tactic(none)]
 fn operand<'a, H: Host>(
     context: Context<'a, '_>,
@@ -222,7 +226,7 @@ fn operand<'a, H: Host>(
     }
 }
 
-// The step at an expression.
+/// The step at an expression.
 #[tactic(none)]
 fn expression<'a, H: Host>(
     context: Context<'a, '_>,
@@ -247,21 +251,21 @@ fn expression<'a, H: Host>(
             wait(stack, Frame::Unary(*operator))?;
             Ok(Step::Next(Control::Expression(inner)))
         }
-        Expr::Binary(operator, left, right) => {
+        Expr::Binary(operator, lhs, right) => {
             if let Some(value) = compute_at_hand(context, expression)? {
                 let text = value.into_text(context.alloc)?;
                 return Ok(Step::Next(Control::Value(text)));
             }
             wait(stack, Frame::Left(*operator, right))?;
-            Ok(Step::Next(Control::Expression(left)))
+            Ok(Step::Next(Control::Expression(lhs)))
         }
-        Expr::And(left, right) => {
+        Expr::And(lhs, right) => {
             wait(stack, Frame::And(right))?;
-            Ok(Step::Next(Control::Expression(left)))
+            Ok(Step::Next(Control::Expression(lhs)))
         }
-        Expr::Or(left, right) => {
+        Expr::Or(lhs, right) => {
             wait(stack, Frame::Or(right))?;
-            Ok(Step::Next(Control::Expression(left)))
+            Ok(Step::Next(Control::Expression(lhs)))
         }
         Expr::Choice(condition, yes, no) => {
             wait(stack, Frame::Choice(yes, no))?;
@@ -270,7 +274,7 @@ fn expression<'a, H: Host>(
     }
 }
 
-// The step behind the left operand of `&&`.
+/// The step after the left operand of `&&`.
 #[tactic(none)]
 fn and<'a, H: Host>(
     context: Context<'a, '_>,
@@ -295,7 +299,7 @@ fn and<'a, H: Host>(
     Ok(Step::Next(Control::Value(copy(context.alloc, "0")?)))
 }
 
-// The step behind the left operand of `||`.
+/// The step after the left operand of `||`.
 #[tactic(none)]
 fn or<'a, H: Host>(
     context: Context<'a, '_>,
@@ -320,7 +324,7 @@ fn or<'a, H: Host>(
     Ok(Step::Next(Control::Expression(right)))
 }
 
-// The step behind the condition of `? :`.
+/// The step after the condition of `? :`.
 #[tactic(none)]
 fn choice<'a, H: Host>(
     context: Context<'a, '_>,
@@ -347,7 +351,7 @@ fn choice<'a, H: Host>(
     Ok(Step::Next(Control::Expression(no)))
 }
 
-// The step of what waits for a value, at the value.
+/// The step of the frame that waited for this value.
 #[tactic(none)]
 fn resume<'a, H: Host>(
     context: Context<'a, '_>,
@@ -384,8 +388,8 @@ fn resume<'a, H: Host>(
             wait(stack, Frame::Right(operator, value))?;
             Ok(Step::Next(Control::Expression(right)))
         }
-        Frame::Right(operator, left) => {
-            let value = binary(context.alloc, operator, left.as_str(), value.as_str())?;
+        Frame::Right(operator, lhs) => {
+            let value = binary(context.alloc, operator, lhs.as_str(), value.as_str())?;
             Ok(Step::Next(Control::Value(value)))
         }
         Frame::And(right) => and(context, host, stack, value, right),
@@ -398,7 +402,7 @@ fn resume<'a, H: Host>(
     }
 }
 
-// One step.
+/// One step.
 #[tactic(none)]
 fn step<'a, H: Host>(
     context: Context<'a, '_>,
@@ -427,7 +431,11 @@ fn step<'a, H: Host>(
     }
 }
 
-/// Steps up to the next bracket, or to the value.
+/// Takes steps up to the next bracket, whose script the caller evaluates, or to the value of the whole. After a bracket
+/// the caller continues with the result as `Control::Value`, on the same stack.
+///
+/// Errors: the errors of Tcl of variables and operators; a halt where a value is longer than the limit, a variable or
+/// an operand is unsupported, or memory runs out.
 #[tactic(none)]
 pub fn advance<'a, H: Host>(
     context: Context<'a, '_>,

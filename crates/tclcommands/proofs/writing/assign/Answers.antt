@@ -5,7 +5,7 @@ use Rattle.std.specs.Vec.Iter.{into_iter_items}
 use Rattle.tclrules.specs.Rules.{assign}
 use Rattle.tclrules.proofs.Leading.{stay, go_on}
 use Rattle.tclsteps.specs.Machine.{bounds}
-use Rattle.tclcommands.specs.Does.{named_values}
+use Rattle.tclcommands.specs.Continuations.{named_values}
 use Rattle.tclcommands.proofs.writing.assign.Goals as goal
 
 pub loop-name-init : goal.loop-name-init

@@ -6,7 +6,7 @@ use Rattle.tclrules.specs.Plans.{Job}
 use Rattle.tclrules.specs.Leads.{Leads, Point}
 use Rattle.tclrules.specs.Rules.{assign}
 use Rattle.tclsteps.specs.Machine.{bounds}
-use Rattle.tclcommands.specs.Does.{named_values}
+use Rattle.tclcommands.specs.Continuations.{named_values}
 use Rattle.tclcommands.proofs.writing.assign.Given as goal
 
 abbrev pub invariant-loop-name : goal.invariant-loop-name

@@ -1,5 +1,5 @@
 use Rattle.std.proofs.Common.{◌<◌, ◌≤◌, [], length, arith}
-use Rattle.tclcommands.specs.Does.{value_text}
+use Rattle.tclcommands.specs.Continuations.{value_text}
 use Rattle.tclsteps.proofs.Leading.{sized_on, sized_stops}
 use Rattle.std.proofs.lemmas.Result.{err_from_is_err_and}
 use Rattle.tclrules.proofs.Leading.{starve}

@@ -1,7 +1,7 @@
 use Rattle.tclrules.proofs.Leading.{go_on}
 use Rattle.tclsteps.proofs.Leading.{passed_on}
 use Rattle.std.proofs.Common.{[]}
-use Rattle.tclendings.specs.Runs.{sized_next}
+use Rattle.tclendings.specs.Completions.{sized_next}
 use Rattle.std.proofs.lemmas.Result.{err_from_is_err_and}
 use Rattle.tclendings.proofs.commands.plain.Goals as goal
 

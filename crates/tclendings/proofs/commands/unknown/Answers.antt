@@ -5,7 +5,7 @@ use Rattle.tclendings.proofs.Stopping.{fault_stops}
 use Rattle.tclrules.specs.Names.{is_among, left_out_commands}
 use Rattle.tclvalue.specs.Faults.{left_out}
 use Rattle.std.proofs.Common.{[]}
-use Rattle.tclendings.specs.Runs.{sized_next}
+use Rattle.tclendings.specs.Completions.{sized_next}
 use Rattle.std.proofs.lemmas.Result.{err_from_is_err_and}
 use Rattle.tclendings.proofs.commands.unknown.Goals as goal
 

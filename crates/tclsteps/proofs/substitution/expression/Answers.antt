@@ -52,19 +52,19 @@ returns-in_ok-wait-in-Unary g c =
 
 pub returns-in_ok-wait-in-Binary : goal.returns-in_ok-wait-in-Binary
 returns-in_ok-wait-in-Binary g c =
-    let v = ap (expr_view (shown c.args.context.source.now)) c.in-Binary.is ∙ view-Binary (shown c.args.context.source.now) c.in-Binary.operator c.in-Binary.left c.in-Binary.right in
+    let v = ap (expr_view (shown c.args.context.source.now)) c.in-Binary.is ∙ view-Binary (shown c.args.context.source.now) c.in-Binary.operator c.in-Binary.lhs c.in-Binary.right in
     let t = on_top _ _ _ c.in_ok-wait-in-Binary.ensures.ok in
     rw (v, t, c.deref-in-Binary.ensures, c.deref-in-Binary-2.ensures) (λ most used left r k. stay, omega arith)
 
 pub returns-in_ok-wait-in-And : goal.returns-in_ok-wait-in-And
 returns-in_ok-wait-in-And g c =
-    let v = ap (expr_view (shown c.args.context.source.now)) c.in-And.is ∙ view-And (shown c.args.context.source.now) c.in-And.left c.in-And.right in
+    let v = ap (expr_view (shown c.args.context.source.now)) c.in-And.is ∙ view-And (shown c.args.context.source.now) c.in-And.lhs c.in-And.right in
     let t = on_top _ _ _ c.in_ok-wait-in-And.ensures.ok in
     rw (v, t, c.deref-in-And.ensures, c.deref-in-And-2.ensures) (λ most used left r k. stay, omega arith)
 
 pub returns-in_ok-wait-in-Or : goal.returns-in_ok-wait-in-Or
 returns-in_ok-wait-in-Or g c =
-    let v = ap (expr_view (shown c.args.context.source.now)) c.in-Or.is ∙ view-Or (shown c.args.context.source.now) c.in-Or.left c.in-Or.right in
+    let v = ap (expr_view (shown c.args.context.source.now)) c.in-Or.is ∙ view-Or (shown c.args.context.source.now) c.in-Or.lhs c.in-Or.right in
     let t = on_top _ _ _ c.in_ok-wait-in-Or.ensures.ok in
     rw (v, t, c.deref-in-Or.ensures, c.deref-in-Or-2.ensures) (λ most used left r k. stay, omega arith)
 
@@ -92,7 +92,7 @@ returns-in_err-text-in-Binary g c =
 
 pub returns-in-Some : goal.returns-in-Some
 returns-in-Some g c =
-    let v = ap (expr_view (shown c.args.context.source.now)) c.in-Binary.is ∙ view-Binary (shown c.args.context.source.now) c.in-Binary.operator c.in-Binary.left c.in-Binary.right in
+    let v = ap (expr_view (shown c.args.context.source.now)) c.in-Binary.is ∙ view-Binary (shown c.args.context.source.now) c.in-Binary.operator c.in-Binary.lhs c.in-Binary.right in
     let made = rw c.in-Some.is at c.in_ok-value-in-Binary.ensures.some in (
       λ most used left r k.
           let next = behind_all c.args.context.source.now (bounds c.args.context.limits.value_bytes left) (reverse c.args.stack.now.items) k in

@@ -11,7 +11,7 @@ use Rattle.tclrules.specs.Plans.{Next, sized}
 use Rattle.tclrules.specs.Rules.{rule, called, turn}
 use Rattle.tclforms.specs.Views.{pair_texts}
 use Rattle.tclsteps.specs.Machine.{shown, bounds}
-use Rattle.tclendings.specs.Runs.{sized_next, guarded, decided}
+use Rattle.tclendings.specs.Completions.{sized_next, guarded, decided}
 use Rattle.tclsteps.proofs.AtHand.{from_same}
 use Rattle.tclrules.specs.Rules as table
 use Rattle.std.proofs.lemmas.Bool.{false≢true}

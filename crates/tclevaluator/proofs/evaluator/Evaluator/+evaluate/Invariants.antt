@@ -14,7 +14,7 @@ use Rattle.tclrules.specs.Plans.{Next, on_normal}
 use Rattle.tclrules.specs.Rules.{rule}
 use Rattle.tclforms.specs.Views.{pair_texts}
 use Rattle.tclsteps.specs.Machine.{shown, bounds, control_plan, behind_all, control_weight, frames_weight}
-use Rattle.tclendings.specs.Runs.{ComesToText, IsTreeOf}
+use Rattle.tclendings.specs.Completions.{ComesToText, IsTreeOf}
 use Rattle.tclevaluator.specs.Later.{Later}
 use Rattle.tclevaluator.proofs.evaluator.Evaluator.+evaluate.Given as goal
 

@@ -1,4 +1,5 @@
--- What is left of a plan after a script.
+-- How the rules of evaluation continue after a script (own), by its completion (catch(n)); and when the text of a
+-- result may be dropped.
 use Rattle.std.specs.Prelude.{◌≡◌, ℕ, ◌≤◌, length, [], Bool, true, false, Option, Some, None, Result, Ok, Err, string_bytes, String}
 use Rattle.std.specs.declared.alloc.Global.{Global}
 use Rattle.std.specs.declared.rc.Rc.{Rc}
@@ -23,29 +24,29 @@ use Rattle.tclsteps.specs.Stops.{halt_of}
 use Rattle.tclsteps.specs.declared.stop.Stop.{Stop}
 use Rattle.tclsteps.specs.declared.stop.Stop.TheVariants as stops
 
--- a script that ended with its result
+-- the plan of a script that ended with its last command, whose result is this text
 abbrev pub finish : Text → State → Step
 finish t s = ended (Normal t s)
 
--- what was parsed of a text, if anything, is its tree as a script
+-- a tree that was parsed already, if one was, is that of this text as a script
 abbrev pub IsTreeOf : Text → Option (Rc OwnedScript Global) → Type 0
 IsTreeOf text None = Unit {0}
 IsTreeOf text (Some tree) = script_of text ≡ Ok (scripts.owned_view tree.value)
 
--- what goes on with a result goes on with one within the limit
+-- what follows a result, with the result judged by the limit on values first
 abbrev pub sized_next : ℕ → Next → Next
 sized_next limit k t s = sized limit t (k t s)
 
--- the text of a result is within the limit, and is there where it is wanted
+-- this is the text of a result: it is within the limit, and where the result is needed the call gave it
 abbrev pub IsTextOfResult : Bool → ℕ → Text → Result (String Global) Stop → Type 0
 IsTextOfResult wanted limit t (Ok v) = (length t ≤ limit) × (wanted ≡ true → string_bytes v ≡ t)
 IsTextOfResult wanted limit t (Err f) = Unit {0}
 
--- it comes to a result with a text of which this holds
+-- a call has a result with such a text, of which this holds
 abbrev pub ComesToText : Bool → ℕ → Result (String Global) Stop → (Text → Type 0) → Type 0
 ComesToText wanted limit result p = (t : Text) × IsTextOfResult wanted limit t result × p t
 
--- what is left of a plan that goes on with how a script ended
+-- the plan that follows a script, by its completion; a halt ends it
 abbrev pub ran : Result (String Global) Stop → (Ending → Step) → State → Step
 ran (Ok t) k s = k (Normal (string_bytes t) s)
 ran (Err (stops.Raised m)) k s = k (Raised (string_bytes m) s)
@@ -54,26 +55,26 @@ ran (Err stops.Broken) k s = k (Broken s)
 ran (Err stops.Continued) k s = k (Continued s)
 ran (Err (stops.Halted h)) k s = halt (halt_of h)
 
--- a loop goes on with another turn, or has ended
-abbrev pub turned : (State → Step) → Bool → State → Step
-turned again true s = again s
-turned again false s = ended (Normal [] s)
+-- the plan of a loop that continues with another turn, or has ended with an empty result
+abbrev pub loop_continuation : (State → Step) → Bool → State → Step
+loop_continuation again true s = again s
+loop_continuation again false s = ended (Normal [] s)
 
--- a turn where a condition holds, else the loop has ended
+-- the plan of a loop after its condition: another turn where it holds, else the loop has ended with an empty result
 abbrev pub guarded : Bounds → Text → (State → Step) → Bool → State → Step
 guarded b body again = elim [ true ↦ (λ s. turn b body s again) | false ↦ (λ s. ended (Normal [] s)) ]
 
--- the fault of an evaluation of this text as an expression that has this fault, unless memory ran out
+-- the fault of an evaluation is that of a text that is no expression, or memory ran out
 abbrev pub IsReasonOf : Text → TextFault → ValueFault → Type 0
 IsReasonOf t texts.OutOfMemory e = e ≡ faults.OutOfMemory
 IsReasonOf t f e = HasReason (fault_of t f) e
 
--- and a fault of a text that is no expression
+-- the fault of an evaluation for a text that can't be parsed
 abbrev pub value_fault : TextFault → ValueFault
 value_fault texts.OutOfMemory = faults.OutOfMemory
 value_fault f = faults.Text f
 
--- the value of an expression, and whether it holds, once its text is parsed
+-- the plan for the value of an expression (expr(n)) whose text is parsed, and for the truth of a condition
 abbrev pub expressed : Bounds → Expr Operand → State → Next → Step
 expressed b e s k = expr b e s (λ v s'. given (normal v (numeral v)) s' (λ u. sized b.bytes u (k u s')))
 

@@ -1,4 +1,9 @@
-//! Scripts, commands, words and expressions, which evaluate one another.
+//! Scripts, commands, words and expressions, which evaluate one another: one cycle of methods, which ends since each
+//! script in another has less depth remaining, and each command and each turn of a loop is counted.
+//!
+//! Parameters that most methods have: `left` is how many scripts may still begin inside this one, `source`
+//! the text of which the pieces of the tree are ranges. `wanted` says whether the result is needed; where it
+//! isn't, an empty text may be answered instead.
 ghost use Rattle.std.specs.Prelude.{◌≡◌, ◌<◌, ◌∷◌, [], Bool, true, false, List, map, option_map, IfOk, string_bytes};
 ghost use Rattle.tclchars.specs.Runs.{Text};
 ghost use Rattle.tclscript.specs.Tree.{commands_of, words_of};
@@ -18,7 +23,7 @@ ghost use Rattle.tclforms.specs.Views.{form_view, pair_texts};
 ghost use Rattle.tclsteps.specs.Machine.{shown, bounds, control_plan};
 ghost use Rattle.tclsteps.specs.Stops.{after};
 ghost use Rattle.tclexpr.specs.Owned as expression;
-ghost use Rattle.tclendings.specs.Runs.{ComesToText, IsTreeOf, finish, sized_next, turned, guarded, expressed, decided};
+ghost use Rattle.tclendings.specs.Completions.{ComesToText, IsTreeOf, finish, sized_next, loop_continuation, guarded, expressed, decided};
 ghost use Rattle.tclevaluator.specs.Later.{Later};
 
 use crate::evaluator::{Evaluator, sized, within};
@@ -39,7 +44,7 @@ use tclvalue::{concatenated, truth, value_command};
 use tclvariables::Procedure;
 
 impl Evaluator {
-    /// A text evaluated as a script.
+    /// Evaluates a text as a script: a body, or the script of catch(n).
     #[cycle(evaluate)]
     #[tactic(none)]
     pub(crate) fn script<H: Host>(
@@ -74,7 +79,8 @@ impl Evaluator {
         }
     }
 
-    /// A text evaluated as a script again and again: it is parsed when that is first done.
+    /// Evaluates a text as a script that a loop evaluates in each turn. The first evaluation leaves its tree in
+    /// `parsed`. The result isn't needed.
     #[cycle(evaluate)]
     #[tactic(none)]
     fn script_again<H: Host>(
@@ -111,7 +117,7 @@ impl Evaluator {
         }
     }
 
-    /// The script of a bracket.
+    /// Evaluates the script of a bracket, which was parsed with what it stands in.
     #[cycle(evaluate)]
     #[tactic(none)]
     fn bracket<H: Host>(
@@ -135,7 +141,7 @@ impl Evaluator {
         self.commands(host, limits, left - 1, source, script, true)
     }
 
-    /// The commands of a script, one after the other.
+    /// Evaluates the commands of a script in turn; the result is the last command's.
     #[cycle(evaluate)]
     #[tactic(none)]
     fn commands<H: Host>(
@@ -163,7 +169,9 @@ impl Evaluator {
         Ok(last)
     }
 
-    /// A command, which is counted before its words are looked at.
+    /// Evaluates a command, which is counted before its words are substituted.
+    ///
+    /// Errors: the completion of the command where that isn't `ok`, or a halt.
     #[cycle(evaluate)]
     #[tactic(none)]
     pub fn command<H: Host>(
@@ -194,7 +202,7 @@ impl Evaluator {
         self.called(host, limits, left, &texts, wanted)
     }
 
-    /// The words of a command, with their values.
+    /// The values of the words of a command, from left to right, with the words that `{*}` makes.
     #[cycle(evaluate)]
     #[tactic(none)]
     fn words<H: Host>(
@@ -221,7 +229,7 @@ impl Evaluator {
         Ok(texts)
     }
 
-    /// The value of a word, which is copied at once where it is one literal part.
+    /// The value of a word. One that is a single literal part is copied without steps.
     #[cycle(evaluate)]
     #[tactic(none)]
     fn word<H: Host>(
@@ -248,7 +256,7 @@ impl Evaluator {
         self.value(host, limits, left, source, start)
     }
 
-    /// The value of a word or of an expression.
+    /// The value of a word or of an expression: steps of the substitution, between which brackets are evaluated.
     #[cycle(evaluate)]
     #[tactic(none)]
     fn value<'a, H: Host>(
@@ -286,7 +294,7 @@ impl Evaluator {
         }
     }
 
-    /// A text evaluated as an expression.
+    /// The value of a text as an expression (expr(n)).
     #[cycle(evaluate)]
     #[tactic(none)]
     fn express<H: Host>(
@@ -307,7 +315,7 @@ impl Evaluator {
         self.tree_value(host, limits, left, &tree)
     }
 
-    /// The value of a whole expression.
+    /// The value of an expression whose text is parsed; a whole number is written in decimal.
     #[cycle(evaluate)]
     #[tactic(none)]
     fn tree_value<H: Host>(
@@ -330,7 +338,7 @@ impl Evaluator {
         sized(limits, value)
     }
 
-    /// A text evaluated as a condition.
+    /// Whether a text holds as a condition.
     #[cycle(evaluate)]
     #[tactic(none)]
     fn decide<H: Host>(
@@ -351,7 +359,7 @@ impl Evaluator {
         self.holds(host, limits, left, &tree)
     }
 
-    /// Whether a condition holds.
+    /// Whether an expression whose text is parsed holds as a condition.
     #[cycle(evaluate)]
     #[tactic(none)]
     fn holds<H: Host>(
@@ -375,7 +383,7 @@ impl Evaluator {
         Ok(truth(self.alloc, value.as_str())?)
     }
 
-    /// A turn of a loop: whether the loop goes on.
+    /// A turn of a loop, which is counted as its body begins; whether the loop continues.
     #[cycle(evaluate)]
     #[tactic(none)]
     fn turn<H: Host>(
@@ -390,7 +398,7 @@ impl Evaluator {
         ensures comes { (again : State → plans.Step) → Leads limits.commands (rule limits.value_bytes)
             (turn (bounds limits.value_bytes left) body.now self.old.variables again)
             (point (H.oracle host.old) (H.told host.old) self.old.used)
-            (after result (turned again) self.new.variables)
+            (after result (loop_continuation again) self.new.variables)
             (point (H.oracle host.new) (H.told host.new) self.new.used) }
         ensures later { Later self.old self.new }
         ensures parsed { IsTreeOf body.now parsed.new }
@@ -400,7 +408,7 @@ impl Evaluator {
         after_turn(self.script_again(host, limits, left, body, parsed))
     }
 
-    /// A condition and, where it holds, a turn of a loop: whether the loop goes on.
+    /// The condition of a loop and, where it holds, a turn; whether the loop continues.
     #[cycle(evaluate)]
     #[tactic(none)]
     fn guarded_turn<H: Host>(
@@ -417,7 +425,7 @@ impl Evaluator {
             (decided (bounds limits.value_bytes left) (expression.owned_view condition.now) self.old.variables
             (guarded (bounds limits.value_bytes left) body.now again))
             (point (H.oracle host.old) (H.told host.old) self.old.used)
-            (after result (turned again) self.new.variables)
+            (after result (loop_continuation again) self.new.variables)
             (point (H.oracle host.new) (H.told host.new) self.new.used) }
         ensures later { Later self.old self.new }
         ensures parsed { IsTreeOf body.now parsed.new }
@@ -430,7 +438,7 @@ impl Evaluator {
         Ok(false)
     }
 
-    /// The turns of while(n) that are left.
+    /// while(n).
     #[cycle(evaluate)]
     #[tactic(none)]
     fn while_turns<H: Host>(
@@ -457,7 +465,7 @@ impl Evaluator {
         }
     }
 
-    /// for(n)
+    /// for(n): the script that begins it, and its turns.
     #[cycle(evaluate)]
     #[tactic(none)]
     fn for_loop<H: Host>(
@@ -482,7 +490,7 @@ impl Evaluator {
         self.for_turns(host, limits, left, condition, next, body)
     }
 
-    /// The turns of for(n) that are left.
+    /// The turns of for(n), with the script `next` between them.
     #[cycle(evaluate)]
     #[tactic(none)]
     fn for_turns<H: Host>(
@@ -514,7 +522,7 @@ impl Evaluator {
         }
     }
 
-    /// The body of if(n) or switch(n) that is chosen; without one the result is empty.
+    /// Evaluates the body that if(n) or switch(n) has chosen; without one the result is empty.
     #[cycle(evaluate)]
     #[tactic(none)]
     fn otherwise<H: Host>(
@@ -540,7 +548,7 @@ impl Evaluator {
         }
     }
 
-    /// if(n): the first body whose condition holds, or the last.
+    /// if(n): evaluates the first body whose condition holds, or else that after `else`.
     #[cycle(evaluate)]
     #[tactic(none)]
     fn branches<H: Host>(
@@ -570,7 +578,7 @@ impl Evaluator {
         self.otherwise(host, limits, left, other, wanted)
     }
 
-    /// catch(n)
+    /// catch(n). The result of its script is always made, also where no variable takes it.
     #[cycle(evaluate)]
     #[tactic(none)]
     fn catch<H: Host>(
@@ -593,7 +601,7 @@ impl Evaluator {
         after_catch(self.alloc, &mut self.variables, limits, name, outcome)
     }
 
-    /// What the form of a core command does.
+    /// Does a core command, by its form.
     #[cycle(evaluate)]
     #[tactic(none)]
     fn form<H: Host>(
@@ -650,7 +658,8 @@ impl Evaluator {
         }
     }
 
-    /// A command by its words, of which the first names it.
+    /// Does the command of these words, of which the first names it: one that takes values alone, a core command, a
+    /// procedure, or one that the host does. Without words the result is empty.
     #[cycle(evaluate)]
     #[tactic(none)]
     fn called<H: Host>(
@@ -679,7 +688,8 @@ impl Evaluator {
         }
     }
 
-    /// A core command, or one of another name.
+    /// Does a core command, or one of another name. `words` has all words, the name first, and `operands` those after
+    /// it.
     #[cycle(evaluate)]
     #[tactic(none)]
     fn core_command<H: Host>(
@@ -709,7 +719,8 @@ impl Evaluator {
         }
     }
 
-    /// A command of another name: a procedure, or one for the host.
+    /// Does a command whose name is no core command's: calls the procedure of this name, or hands the words to the
+    /// host.
     #[cycle(evaluate)]
     #[tactic(none)]
     fn other_command<H: Host>(
@@ -754,7 +765,7 @@ impl Evaluator {
         }
     }
 
-    /// A call of a procedure.
+    /// Calls a procedure with these words: binds its parameters in a frame of its own, and evaluates its body.
     #[cycle(evaluate)]
     #[tactic(none)]
     fn call<H: Host>(
@@ -783,7 +794,7 @@ impl Evaluator {
         after_call(self.alloc, outcome)
     }
 
-    /// foreach(n)
+    /// foreach(n): reads the lists of names and of items, and evaluates the turns.
     #[cycle(evaluate)]
     #[tactic(none)]
     fn foreach<H: Host>(
@@ -806,7 +817,7 @@ impl Evaluator {
         self.foreach_turns(host, limits, left, &mut loops, body)
     }
 
-    /// The turns of foreach(n) that are left.
+    /// The turns of foreach(n), until the items of all lists are used.
     #[cycle(evaluate)]
     #[tactic(none)]
     fn foreach_turns<H: Host>(

@@ -1,4 +1,5 @@
--- What a command of the program does, as the rules say it.
+-- How a command of the program follows the rules of evaluation (own; the commands are those of Tcl's pages): the plan
+-- of its form evaluates to whatever follows it, with the result and the variables that the call gave.
 use Rattle.std.specs.Prelude.{ℕ, Bool, List, [], ◌∷◌, map, String, string_bytes, Result, unwrap_or}
 use Rattle.std.specs.Borrow.{Bor}
 use Rattle.std.specs.declared.alloc.Global.{Global}
@@ -20,7 +21,7 @@ value_text (values.Text t) s = string_bytes t
 value_text (values.Word w) s = w.now
 value_text (values.Variable global name) s = unwrap_or (value_at s (global, name.now)) []
 
--- a command's name
+-- the first of the words, which is a command's name
 abbrev pub first_text : List Text → Text
 first_text [] = []
 first_text (w ∷ ws) = w
@@ -29,47 +30,48 @@ first_text (w ∷ ws) = w
 abbrev pub named_values : List (Bor (List ℕ) × String Global) → List (Text × Text)
 named_values ps = map (λ p. (p.0.now, string_bytes p.1)) ps
 
--- what a plan goes on with is the result, with the variables after it
+-- the plan continues with the text of the result, over the variables after the call; the host may have been asked
 abbrev pub Does : (Bounds → Next → plans.Step) → Result Value Stop → State → (ℕ → Point) → (ℕ → Point) → Type 0
 Does p result s x y =
     (most used : ℕ) (b : Bounds) (r : Job → plans.Step) (k : Next)
     → Leads most r (p b k) (x used) (after result (λ v s'. k (value_text v s') s') s) (y used)
 
--- the same where the host is left as it is
+-- the same where the host isn't asked
 abbrev pub DoesAlone : (Bounds → Next → plans.Step) → Result Value Stop → State → Type 0
 DoesAlone p result s =
     (most : ℕ) (b : Bounds) (r : Job → plans.Step) (k : Next) (x : Point)
     → Leads most r (p b k) x (after result (λ v s'. k (value_text v s') s') s) x
 
--- the same where a value is written that may have so many bytes
+-- the same where the host isn't asked and a value is written that may have so many bytes
 abbrev pub Writes : (Bounds → Next → plans.Step) → ℕ → Result Value Stop → State → Type 0
 Writes p limit result s =
     (most left : ℕ) (r : Job → plans.Step) (k : Next) (x : Point)
     → Leads most r (p (bounds limit left) k) x (after result (λ v s'. k (value_text v s') s') s) x
 
--- the same of what has no result: the plan goes on with this text of the variables after it
-abbrev pub Stores : (Bounds → Next → plans.Step) → ℕ → Result (Unit {0}) Stop → (State → Text) → State → Type 0
-Stores p limit result t s =
+-- the same of a call without a result: the plan continues with this text of the variables after the call
+abbrev pub ContinuesWithText : (Bounds → Next → plans.Step) → ℕ → Result (Unit {0}) Stop → (State → Text) → State → Type 0
+ContinuesWithText p limit result t s =
     (most left : ℕ) (r : Job → plans.Step) (k : Next) (x : Point)
     → Leads most r (p (bounds limit left) k) x (after result (λ u s'. k (t s') s') s) x
 
--- and with the variables alone
+-- the same where the plan continues with the variables alone
 abbrev pub Goes : ((State → plans.Step) → plans.Step) → Result (Unit {0}) Stop → State → Type 0
 Goes p result s =
     (most : ℕ) (r : Job → plans.Step) (k : State → plans.Step) (x : Point)
     → Leads most r (p k) x (after result (λ u s'. k s') s) x
 
+-- the same where values are written that may have so many bytes
 abbrev pub GoesWithin : (Bounds → (State → plans.Step) → plans.Step) → ℕ → Result (Unit {0}) Stop → State → Type 0
 GoesWithin p limit result s =
     (most left : ℕ) (r : Job → plans.Step) (k : State → plans.Step) (x : Point)
     → Leads most r (p (bounds limit left) k) x (after result (λ u s'. k s') s) x
 
--- what the host answers
+-- the plan continues with the text that the host answered
 abbrev pub Asks : (Next → plans.Step) → Result (String Global) Stop → State → (ℕ → Point) → (ℕ → Point) → Type 0
 Asks p result s x y =
     (most used : ℕ) (r : Job → plans.Step) (k : Next)
     → Leads most r (p k) (x used) (after result (λ t s'. k (string_bytes t) s') s) (y used)
 
--- elements behind those of the list at a place
+-- the plan that appends elements to the list in the variable at a location
 abbrev pub lengthen_at : Bounds → Bool × Text → List Text → State → Next → plans.Step
 lengthen_at b p xs s k = given (lengthened (value_or [] s p) xs) s (λ t. write_at b p t s k)
