@@ -1,6 +1,8 @@
-//! What modulefiles ask for, and what loading and unloading modules makes of an environment (modulefile(5), module(1)).
-//!
-//! There is no code here: the definitions are cited by the contracts of the crates above. The functions are laws.
+//! What modulefiles ask for, and what loads and unloads make of an environment (modulefile(5), module(1)): definitions and
+//! laws, without code.
+//! Touches nothing.
+//! Used by modulefile and modulerun, and by reversal and requests, which need records and nothing of Tcl: so it is a
+//! crate of its own.
 #![tactic(auto)]
 
 pub mod laws;

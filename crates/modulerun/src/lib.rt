@@ -8,12 +8,10 @@ mod entry;
 mod journal;
 mod made;
 mod questions;
-mod reports;
 mod run;
 mod run_fault;
 mod runner;
 
 pub use context::Context;
-pub use reports::{show_report, whatis_report};
 pub use run::{Ran, run_file};
 pub use run_fault::RunFault;

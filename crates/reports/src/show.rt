@@ -1,9 +1,10 @@
-//! What is reported of the records of a file.
-ghost use Rattle.std.specs.Prelude.{◌≡◌, ◌++◌, ◌∷◌, [], codes, map, string_bytes, IfOk, OnOk};
+//! The report of `show` (module(1)): the records of a modulefile, as its commands.
+ghost use Rattle.std.specs.Prelude.{◌≡◌, ◌∷◌, [], codes, map, string_bytes, IfOk};
 ghost use Rattle.tcllist.specs.Lists.{list_text};
 ghost use Rattle.modulefile.specs.RecordViews.{record_view};
-ghost use Rattle.modulefile.specs.Reports.{path_words, shown_words, line_of, show_text, whatis_text};
+ghost use Rattle.modulefile.specs.Reports.{path_words, shown_words, show_text};
 
+use crate::lines::push_line;
 use environment::fields::{join, slices};
 use modulefile::{Delimiter, PathEdit, Record};
 use std::alloc::{AllocError, Global};
@@ -92,14 +93,6 @@ fn shown(alloc: Global, kept: &Record) -> Result<String, AllocError>
     }
 }
 
-/// Writes a text as a line.
-fn push_line(report: &mut String, text: &str) -> Result<(), AllocError>
-    ensures { OnOk result (string_bytes report.new ≡ string_bytes report.old ++ line_of text.now) }
-{
-    report.push_str(text)?;
-    report.push('\n')
-}
-
 /// What is shown of a file by its path and records: a line of its path, and one for each record, its command and words
 /// in the writing of lists. Refused for want of memory alone.
 pub fn show_report(alloc: Global, path: &str, records: &[Record]) -> Result<String, AllocError>
@@ -111,40 +104,6 @@ pub fn show_report(alloc: Global, path: &str, records: &[Record]) -> Result<Stri
     while let [kept, after @ ..] = rest {
         let line = shown(alloc, kept)?;
         push_line(&mut report, &line)?;
-        rest = after;
-    }
-    Ok(report)
-}
-
-/// Writes a description behind the module's name, where the record is one.
-fn push_description(report: &mut String, name: &str, kept: &Record) -> Result<(), AllocError>
-    ensures { OnOk result (string_bytes report.new
-        ≡ string_bytes report.old ++ whatis_text name.now (record_view kept.now ∷ [])) }
-{
-    match kept {
-        Record::Whatis(text) => {
-            report.push_str(name)?;
-            report.push_str(": ")?;
-            push_line(report, text)
-        }
-        Record::Set { .. }
-        | Record::Unset { .. }
-        | Record::Push { .. }
-        | Record::Path { .. }
-        | Record::Conflict(_)
-        | Record::Prereq(_) => Ok(()),
-    }
-}
-
-/// The descriptions among the records of a file, each on a line behind the module's name. Refused for want of memory
-/// alone.
-pub fn whatis_report(alloc: Global, name: &str, records: &[Record]) -> Result<String, AllocError>
-    ensures { IfOk result (λ t. string_bytes t ≡ whatis_text name.now (map record_view records.now)) }
-{
-    let mut report = String::new(alloc);
-    let mut rest = records;
-    while let [kept, after @ ..] = rest {
-        push_description(&mut report, name, kept)?;
         rest = after;
     }
     Ok(report)

@@ -1,0 +1,42 @@
+//! The report of `whatis` (module(1)): the descriptions of a module.
+ghost use Rattle.std.specs.Prelude.{◌≡◌, ◌++◌, ◌∷◌, [], map, string_bytes, IfOk, OnOk};
+ghost use Rattle.modulefile.specs.RecordViews.{record_view};
+ghost use Rattle.modulefile.specs.Reports.{whatis_text};
+
+use crate::lines::push_line;
+use modulefile::Record;
+use std::alloc::{AllocError, Global};
+
+/// Writes a description behind the module's name, where the record is one.
+fn push_description(report: &mut String, name: &str, kept: &Record) -> Result<(), AllocError>
+    ensures { OnOk result (string_bytes report.new
+        ≡ string_bytes report.old ++ whatis_text name.now (record_view kept.now ∷ [])) }
+{
+    match kept {
+        Record::Whatis(text) => {
+            report.push_str(name)?;
+            report.push_str(": ")?;
+            push_line(report, text)
+        }
+        Record::Set { .. }
+        | Record::Unset { .. }
+        | Record::Push { .. }
+        | Record::Path { .. }
+        | Record::Conflict(_)
+        | Record::Prereq(_) => Ok(()),
+    }
+}
+
+/// The descriptions among the records of a file, each on a line behind the module's name. Refused for want of memory
+/// alone.
+pub fn whatis_report(alloc: Global, name: &str, records: &[Record]) -> Result<String, AllocError>
+    ensures { IfOk result (λ t. string_bytes t ≡ whatis_text name.now (map record_view records.now)) }
+{
+    let mut report = String::new(alloc);
+    let mut rest = records;
+    while let [kept, after @ ..] = rest {
+        push_description(&mut report, name, kept)?;
+        rest = after;
+    }
+    Ok(report)
+}
