@@ -88,9 +88,9 @@ pub ending_error : (e : Environment) → computed (loading e) (file (codes "sete
 unfolding computed
 ending_error e = refl
 
-pub refused_kept : (e : Environment) → computed (loading e) (file (codes "catch {setenv LOADEDMODULES x}")) 400 ≡ Some (Err (refused (record { number = 33; name = Some (codes "LOADEDMODULES") })))
+pub refused_protected : (e : Environment) → computed (loading e) (file (codes "catch {setenv LOADEDMODULES x}")) 400 ≡ Some (Err (refused (record { number = 33; name = Some (codes "LOADEDMODULES") })))
 unfolding computed
-refused_kept e = refl
+refused_protected e = refl
 
 pub refused_topic : (e : Environment) → computed (loading e) (file (codes "module-info nope x y")) 400 ≡ Some (Err (halted (LeftOut (codes "module-info nope"))))
 unfolding computed

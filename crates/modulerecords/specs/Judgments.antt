@@ -1,5 +1,5 @@
--- What forbids a record, whatever environment it finds (own): first its variable's name, then a protected variable, then
--- a value, a delimiter or an element; of names of modules the first that is ill-spelled.
+-- What forbids a record, whatever environment it finds (own): first its variable's name, then a protected variable,
+-- then a value, a delimiter or an element; of names of modules the first that is ill-spelled.
 use Rattle.std.specs.Prelude.{Bool, List, [], ◌∷◌, if◌then◌else◌, is_none, Option, Some, None}
 use Rattle.std.specs.List.{list_all}
 use Rattle.std.specs.Option.{option_map, option_or}

@@ -63,7 +63,7 @@ abbrev pub words_of : List Entry → List (List Text)
 words_of entries = map (λ entry. texts_in entry.words) entries
 
 abbrev pub records_of : List Entry → List records.Record
-records_of entries = map (λ entry. record_view entry.kept) entries
+records_of entries = map (λ entry. record_view entry.recorded) entries
 
 -- The records are those of the words, and the environment is their effects on the one before.
 abbrev pub IsKept : effects.Mode → Text → Environment → Environment → List Entry → Type 0

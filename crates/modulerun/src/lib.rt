@@ -1,13 +1,15 @@
-//! A modulefile evaluated: its commands done over an environment, from its text to its records and messages, or to why
-//! it is refused.
+//! The run of one modulefile: its text is evaluated as Tcl, and its commands have their effects (modulefile(5)), or the
+//! file is refused.
+//! Takes memory, and edits the variables that it is given, all at once where the file is accepted.
+//! Used by requeststep.
 #![tactic(auto)]
 
 mod command_refusal;
 mod context;
 mod entry;
 mod journal;
-mod made;
 mod questions;
+mod recording;
 mod run;
 mod run_fault;
 mod runner;
