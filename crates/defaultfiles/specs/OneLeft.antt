@@ -1,4 +1,4 @@
--- A default file leaves one thing, since its evaluation has one outcome.
+-- A default file has one result, since its evaluation has one outcome (own).
 use Rattle.std.proofs.Common.{◌≡◌, Option, ◌∙◌, sym, subst}
 use Rattle.modulename.specs.ModuleName.{Text}
 use Rattle.tclrules.specs.Derivation.{World}

@@ -181,7 +181,12 @@ fn load<V: Vars>(alloc: Global, owner: &str, recorded: &Record, env: &mut V) -> 
 }
 
 /// Edits the environment as the unload of a module with this record does.
-fn unload<V: Vars>(alloc: Global, owner: &str, recorded: &Record, env: &mut V) -> Result<(), EnvFault>
+fn unload<V: Vars>(
+    alloc: Global,
+    owner: &str,
+    recorded: &Record,
+    env: &mut V,
+) -> Result<(), EnvFault>
     ensures edits { Edits result (V.vars env.old) (V.vars env.new)
         (unloaded_by owner.now (record_view recorded.now) (V.vars env.old)) }
     ensures under { V.under env.new ≡ V.under env.old }

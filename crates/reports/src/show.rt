@@ -10,6 +10,7 @@ use modulefile::{Delimiter, PathEdit, Record};
 use std::alloc::{AllocError, Global};
 use tcllist::write_list;
 
+/// Three words, written as a list of Tcl.
 fn listed<'a>(
     alloc: Global,
     command: &'a str,
@@ -21,6 +22,7 @@ fn listed<'a>(
     write_list(alloc, &[command, var, value])
 }
 
+/// A path command with its option `--delim`, written as a list of Tcl.
 fn listed_with<'a>(
     alloc: Global,
     command: &'a str,
@@ -34,7 +36,8 @@ fn listed_with<'a>(
     write_list(alloc, &[command, "--delim", delim, var, value])
 }
 
-/// A path command: the elements are one value, and the delimiter is told where it isn't the colon.
+/// A path command, written as a list of Tcl: its elements are joined to one value, and `--delim` has the delimiter
+/// where it isn't the colon.
 fn shown_path(
     alloc: Global,
     command: &str,
@@ -55,7 +58,7 @@ fn shown_path(
     listed_with(alloc, command, &said, var, &value)
 }
 
-/// A command and names.
+/// A command and its names, written as a list of Tcl.
 fn shown_names(alloc: Global, command: &str, names: &[String]) -> Result<String, AllocError>
     ensures { IfOk result (λ t. string_bytes t ≡ list_text (command.now ∷ map string_bytes names.now)) }
 {
@@ -66,7 +69,7 @@ fn shown_names(alloc: Global, command: &str, names: &[String]) -> Result<String,
     write_list(alloc, words.as_slice())
 }
 
-/// A record as a command with its words.
+/// A record as the command that makes it, written as a list of Tcl.
 fn shown(alloc: Global, kept: &Record) -> Result<String, AllocError>
     ensures { IfOk result (λ t. string_bytes t ≡ list_text (shown_words (record_view kept.now))) }
 {
@@ -93,8 +96,8 @@ fn shown(alloc: Global, kept: &Record) -> Result<String, AllocError>
     }
 }
 
-/// What is shown of a file by its path and records: a line of its path, and one for each record, its command and words
-/// in the writing of lists. Refused for want of memory alone.
+/// The report of `show` on a file: a line `PATH:`, and one for each of its records, which is a command whose words are
+/// written as a list of Tcl. It fails for want of memory alone.
 pub fn show_report(alloc: Global, path: &str, records: &[Record]) -> Result<String, AllocError>
     ensures { IfOk result (λ t. string_bytes t ≡ show_text path.now (map record_view records.now)) }
 {

@@ -7,7 +7,7 @@ use crate::lines::push_line;
 use modulefile::Record;
 use std::alloc::{AllocError, Global};
 
-/// Writes a description behind the module's name, where the record is one.
+/// Adds a description after the module's name, where the record is one.
 fn push_description(report: &mut String, name: &str, kept: &Record) -> Result<(), AllocError>
     ensures { OnOk result (string_bytes report.new
         ≡ string_bytes report.old ++ whatis_text name.now (record_view kept.now ∷ [])) }
@@ -27,8 +27,8 @@ fn push_description(report: &mut String, name: &str, kept: &Record) -> Result<()
     }
 }
 
-/// The descriptions among the records of a file, each on a line behind the module's name. Refused for want of memory
-/// alone.
+/// The report of `whatis` on a file: its descriptions, each on a line after the module's name. It fails for want of
+/// memory alone.
 pub fn whatis_report(alloc: Global, name: &str, records: &[Record]) -> Result<String, AllocError>
     ensures { IfOk result (λ t. string_bytes t ≡ whatis_text name.now (map record_view records.now)) }
 {

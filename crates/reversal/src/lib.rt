@@ -1,6 +1,7 @@
-//! Loads and unloads of modules that are reversible and apart lead back to where they began.
-//!
-//! There is no code here: the functions are laws, each with its contract and no body.
+//! When unloads undo loads: after loads and unloads of modules that are reversible and apart the environment is the one
+//! before them. These are definitions and laws, without code, and the examples show why each premise is needed.
+//! Touches nothing.
+//! Used by requests, whose laws of sessions follow from these, and by modulecmd, which hands them on.
 #![tactic(auto)]
 
 pub mod examples;
