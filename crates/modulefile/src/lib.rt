@@ -1,5 +1,4 @@
-//! What the commands of modulefiles mean in every mode (modulefile(5)), and what a whole modulefile makes of an
-//! environment: the definitions and their laws, a command read from its words, and the effect of its record.
+//! What the commands of modulefiles mean in every mode (modulefile(5)), and what a whole file makes of an environment.
 //! Takes memory, and edits the variables that it is given.
 //! Used by modulerun, which evaluates modulefiles, and by reports, requests and requeststep.
 #![tactic(auto)]

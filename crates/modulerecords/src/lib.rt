@@ -1,8 +1,8 @@
-//! What modulefiles ask for, and what loads and unloads make of an environment (modulefile(5), module(1)): definitions
-//! and laws, without code.
-//! Touches nothing.
-//! Used by modulefile and modulerun, and by reversal and requests, which need records and nothing of Tcl: so it is a
-//! crate of its own.
+//! What modulefiles ask for, and what loads and unloads make of an environment (modulefile(5), module(1)).
+//! Touches nothing: these are definitions and laws, without code.
+//! Used by modulefile, modulerun, reversal and requests.
+//!
+//! It is a crate of its own, since reversal and requests need records and nothing of Tcl.
 #![tactic(auto)]
 
 pub mod laws;

@@ -1,5 +1,4 @@
-//! The run of one modulefile: its text is evaluated as Tcl, and its commands have their effects (modulefile(5)), or the
-//! file is refused.
+//! The run of one modulefile (modulefile(5)): its text is evaluated as Tcl, and its commands have their effects.
 //! Takes memory, and edits the variables that it is given, all at once where the file is accepted.
 //! Used by requeststep.
 #![tactic(auto)]

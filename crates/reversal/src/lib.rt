@@ -1,7 +1,6 @@
-//! When unloads undo loads: after loads and unloads of modules that are reversible and apart the environment is the one
-//! before them. These are definitions and laws, without code, and the examples show why each premise is needed.
-//! Touches nothing.
-//! Used by requests, whose laws of sessions follow from these, and by modulecmd, which hands them on.
+//! When unloads undo loads: those of modules that are reversible and apart give back the environment before them.
+//! Touches nothing: these are definitions and laws, without code, and examples of why each premise is needed.
+//! Used by requests and the crates above it, whose laws of sessions follow from these.
 #![tactic(auto)]
 
 pub mod examples;
