@@ -55,7 +55,7 @@ fn is_want_of_memory(fault: &EvalFault) -> bool
 }
 
 impl DefaultFiles for Evaluated {
-    ghost use Rattle.defaultfiles.specs.Leaves.{Leaves};
+    ghost use Rattle.defaultfiles.specs.DefaultFileResults.{Leaves};
     ghost use Rattle.defaultfiles.specs.OneLeft.{one_left};
 
     ghost leaves = { λ e. Leaves e.limits };

@@ -33,7 +33,7 @@ fn copy_words(alloc: Global, words: &[String]) -> Result<Vec<String>, AllocError
 impl DefaultHost {
     /// Adds a `module-version` command by its words.
     fn keep(&mut self, words: &[String]) -> Result<(), AllocError>
-        ensures kept { OnOk result (map texts_of_words self.new.commands.items
+        ensures added { OnOk result (map texts_of_words self.new.commands.items
             ≡ map texts_of_words self.old.commands.items ++ map string_bytes words.now ∷ []) }
         ensures same { OnErr result (self.new.commands.items ≡ self.old.commands.items) }
         ensures asked { self.new.asked ≡ self.old.asked }
@@ -48,7 +48,7 @@ impl DefaultHost {
 impl Host for DefaultHost {
     ghost use Rattle.std.specs.Prelude.{[], map, option_map};
     ghost use Rattle.tclrules.specs.Oracle.{unnamed};
-    ghost use Rattle.defaultfiles.specs.Leaves.{default_oracle};
+    ghost use Rattle.defaultfiles.specs.DefaultFileResults.{default_oracle};
     ghost use Rattle.defaultfiles.specs.Replies.{texts_of_words};
 
     ghost told = { λ h. record {

@@ -3,7 +3,7 @@ ghost use Rattle.std.specs.Prelude.{◌≡◌, Option};
 ghost use Rattle.modulename.specs.ModuleName.{Text};
 ghost use Rattle.tclrules.specs.declared.limits.Limits.{Limits};
 ghost use Rattle.modulesearch.specs.DefaultFiles.{Left};
-ghost use Rattle.defaultfiles.specs.Leaves.{Leaves};
+ghost use Rattle.defaultfiles.specs.DefaultFileResults.{Leaves};
 
 /// A default file has one result at most.
 pub fn one_left()

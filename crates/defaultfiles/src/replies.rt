@@ -1,7 +1,7 @@
 //! The answers to commands of default files, by their words alone (modulefile(5)).
 ghost use Rattle.std.specs.Prelude.{◌≡◌, map, string_bytes};
 ghost use Rattle.tclrules.specs.Names.{is_among};
-ghost use Rattle.defaultfiles.specs.Leaves.{version_answer, renaming_commands, named_answer, answer_to};
+ghost use Rattle.defaultfiles.specs.DefaultFileResults.{version_answer, renaming_commands, named_answer, answer_to};
 ghost use Rattle.defaultfiles.specs.Replies.{reply_view};
 
 use tclarguments::is_left_out_of_modules;
@@ -22,7 +22,7 @@ pub(crate) enum Reply<'a> {
 }
 
 /// Whether a command of this name gives a module another name, or hides, forbids or tags modules.
-#[tactic(auto, unfolding(crate::specs::Leaves::renaming_commands))]
+#[tactic(auto, unfolding(crate::specs::DefaultFileResults::renaming_commands))]
 fn is_renaming(name: &str) -> bool
     ensures { result ≡ is_among renaming_commands name.now }
 {

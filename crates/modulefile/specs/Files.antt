@@ -107,18 +107,18 @@ IsSameOrRefused ran o =
     ⊎ ((n : ℕ) × (refusal : Option Refusal) × (o ≡ Err (refused_by n refusal)))
 
 -- A file played: the definition as a function that computes. The number bounds the steps; None where it is too small.
-abbrev pub ran_shown : Result Ran CallReason → Option (Result Ran Stop)
-ran_shown (Ok ran) = Some (Ok ran)
-ran_shown (Err reason) = None
+abbrev pub played_ran : Result Ran CallReason → Option (Result Ran Stop)
+played_ran (Ok ran) = Some (Ok ran)
+played_ran (Err reason) = None
 
-abbrev pub shown : Context → Text → Played Ending → Option (Result Ran Stop)
-shown c text None = None
-shown c text (Some (Ended (Normal result s), w)) = ran_shown (ran_of c w.told)
-shown c text (Some (Ended (Raised message s), w)) = Some (Err (failed message (line_at text s.place)))
-shown c text (Some (Ended (Returned result s), w)) = None
-shown c text (Some (Ended (Broken s), w)) = None
-shown c text (Some (Ended (Continued s), w)) = None
-shown c text (Some (Halted halt, w)) = Some (Err (stop_by halt w.told.refused))
+abbrev pub played_outcome : Context → Text → Played Ending → Option (Result Ran Stop)
+played_outcome c text None = None
+played_outcome c text (Some (Ended (Normal result s), w)) = played_ran (ran_of c w.told)
+played_outcome c text (Some (Ended (Raised message s), w)) = Some (Err (failed message (line_at text s.place)))
+played_outcome c text (Some (Ended (Returned result s), w)) = None
+played_outcome c text (Some (Ended (Broken s), w)) = None
+played_outcome c text (Some (Ended (Continued s), w)) = None
+played_outcome c text (Some (Halted halt, w)) = Some (Err (stop_by halt w.told.refused))
 
 abbrev pub play : Limits → Context → Text → ℕ → Option (Result Ran Stop)
-play limits c text steps = shown c text (play_file (setting_of limits c text) steps)
+play limits c text steps = played_outcome c text (play_file (setting_of limits c text) steps)
