@@ -14,7 +14,7 @@ pub fn words()
 pub fn files()
     ensures one { OneOutcome }
     ensures some { SomeOutcome }
-    ensures make { RecordsMake }
+    ensures have_effects { RecordsMake }
     ensures proper { RecordsAreProper }
     ensures showing { ShowingLeaves }
 {

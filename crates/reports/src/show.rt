@@ -70,10 +70,10 @@ fn shown_names(alloc: Global, command: &str, names: &[String]) -> Result<String,
 }
 
 /// A record as the command that makes it, written as a list of Tcl.
-fn shown(alloc: Global, kept: &Record) -> Result<String, AllocError>
-    ensures { IfOk result (λ t. string_bytes t ≡ list_text (shown_words (record_view kept.now))) }
+fn shown(alloc: Global, recorded: &Record) -> Result<String, AllocError>
+    ensures { IfOk result (λ t. string_bytes t ≡ list_text (shown_words (record_view recorded.now))) }
 {
-    match kept {
+    match recorded {
         Record::Set { var, value } => write_list(alloc, &["setenv", var, value]),
         Record::Unset { var, value } => match value {
             None => write_list(alloc, &["unsetenv", var]),
@@ -104,8 +104,8 @@ pub fn show_report(alloc: Global, path: &str, records: &[Record]) -> Result<Stri
     let mut report = String::from_str(alloc, path)?;
     report.push_str(":\n")?;
     let mut rest = records;
-    while let [kept, after @ ..] = rest {
-        let line = shown(alloc, kept)?;
+    while let [recorded, after @ ..] = rest {
+        let line = shown(alloc, recorded)?;
         push_line(&mut report, &line)?;
         rest = after;
     }

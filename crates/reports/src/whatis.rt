@@ -8,11 +8,11 @@ use modulefile::Record;
 use std::alloc::{AllocError, Global};
 
 /// Adds a description after the module's name, where the record is one.
-fn push_description(report: &mut String, name: &str, kept: &Record) -> Result<(), AllocError>
+fn push_description(report: &mut String, name: &str, recorded: &Record) -> Result<(), AllocError>
     ensures { OnOk result (string_bytes report.new
-        ≡ string_bytes report.old ++ whatis_text name.now (record_view kept.now ∷ [])) }
+        ≡ string_bytes report.old ++ whatis_text name.now (record_view recorded.now ∷ [])) }
 {
-    match kept {
+    match recorded {
         Record::Whatis(text) => {
             report.push_str(name)?;
             report.push_str(": ")?;
@@ -34,8 +34,8 @@ pub fn whatis_report(alloc: Global, name: &str, records: &[Record]) -> Result<St
 {
     let mut report = String::new(alloc);
     let mut rest = records;
-    while let [kept, after @ ..] = rest {
-        push_description(&mut report, name, kept)?;
+    while let [recorded, after @ ..] = rest {
+        push_description(&mut report, name, recorded)?;
         rest = after;
     }
     Ok(report)
