@@ -55,7 +55,7 @@ pub fn refused_rows()
 
 /// The reports of `show` and `whatis`, whose words are written as a list of Tcl.
 pub fn report_rows()
-    ensures shown { show_text (codes "/m/d/1") (Whatis (codes "A B c")
+    ensures commands { show_text (codes "/m/d/1") (Whatis (codes "A B c")
         ∷ Back 58 (codes "P") (codes "/a" ∷ codes "/b" ∷ codes "/c" ∷ [])
         ∷ Prereq (codes "gcc" ∷ codes "icc" ∷ []) ∷ [])
         ≡ codes "/m/d/1:\nmodule-whatis {A B c}\nappend-path P /a:/b:/c\nprereq gcc icc\n" }
