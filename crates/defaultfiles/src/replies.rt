@@ -11,7 +11,7 @@ use tclarguments::is_left_out_of_modules;
 pub(crate) enum Reply<'a> {
     /// It is a `module-version` command, and is collected.
     Kept,
-    /// It is done, and nothing is left of it.
+    /// It is done, and adds nothing.
     Dropped,
     /// It is refused by the fault of this number.
     Refused(u16),

@@ -63,7 +63,7 @@ topic_test c mode word = is_mode c word
 topic_test c shell word = bytes_eq word (shell_name c.shell)
 topic_test c shell_type word = bytes_eq word (shell_family c.shell)
 
--- One of the names means a loaded module. No name asks for any module.
+-- Whether one of the names means a loaded module; without a name, whether any module is loaded.
 abbrev pub any_loaded : List Text → List Text → Bool
 any_loaded [] loaded = list_any (λ m. true) loaded
 any_loaded (name ∷ names) loaded = list_any (λ n. list_any (means n) loaded) (name ∷ names)

@@ -46,14 +46,14 @@ pub data Stop : Type 0 where
   refused : Refusal → Stop
   failed : (message : Text) (line : ℕ) → Stop
 
--- what an evaluation left, as records and their effects
+-- the records of an evaluation, and their effects
 abbrev pub ran_of : Context → Told → Result Ran CallReason
 ran_of c told =
     records_in told.records >>= (λ rs.
     by_record (effects c.mode c.name rs c.start) >>= (λ e.
     Ok (record { records = rs; messages = told.messages; asked = told.asked; env = e })))
 
--- a halt by the host is the refusal that the evaluation left
+-- a halt by the host is the refusal of a command, which the evaluation has by number and name
 abbrev pub refused_by : ℕ → Option Refusal → Stop
 refused_by n None = halted (ByHost n)
 refused_by n (Some refusal) = refused refusal
@@ -100,7 +100,7 @@ stop_number (halted halt) = halt_number halt
 stop_number (refused refusal) = refusal.number
 stop_number (failed message line) = 13
 
--- An evaluation left the same records as this one, or was refused by the host.
+-- An evaluation has the same records as this one, or the host refused a command of it.
 abbrev pub IsSameOrRefused : Ran → Result Ran Stop → Type 0
 IsSameOrRefused ran o =
     ((again : Ran) × (o ≡ Ok again) × (again.records ≡ ran.records))

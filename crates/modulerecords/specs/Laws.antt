@@ -32,7 +32,7 @@ LeadIsProper = (ms : List Move) (old new : Environment) → Lead ms old new → 
 abbrev pub LeadIsMade : Type 0
 LeadIsMade = (ms : List Move) (old new : Environment) → Lead ms old new → made ms old ≡ Ok new
 
--- What moves reach from where others arrive, both lists in a row reach.
+-- Where moves reach an environment, and more moves another one from there, both lists in a row reach that one.
 abbrev pub LeadsGoOn : Type 0
 LeadsGoOn =
     (ms more : List Move) (old mid new : Environment)

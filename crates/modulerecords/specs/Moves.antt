@@ -15,7 +15,7 @@ pub record Module : Type 0 where
   pub path : Text
   pub records : List Record
 
--- what the loaded list says of it: a repeated conflict once
+-- its entry in the loaded list, where a repeated conflict stands once
 abbrev pub entry_of : Module → Entry
 entry_of m =
     record {

@@ -1,4 +1,4 @@
-//! What modulefiles ask for by `module-info` and `is-loaded` (modulefile(5)), answered.
+//! The answers to `module-info` and `is-loaded` (modulefile(5)).
 ghost use Rattle.std.specs.Prelude.{◌≡◌, ◌||◌, ◌&&◌, true, bytes_eq, codes, map, string_bytes};
 ghost use Rattle.std.specs.List.{list_any};
 ghost use Rattle.environment.specs.Texts.{Text};

@@ -42,7 +42,7 @@ fn globals(alloc: Global, path: &str) -> Result<Vec<(String, String)>, AllocErro
     Ok(globals)
 }
 
-/// The fault of a file by that of its evaluation. Where a command was refused, `command` says why.
+/// The fault of a file by that of its evaluation. Where a command was refused, `command` is the command's own fault.
 pub(crate) fn refusal(fault: EvalFault, command: Option<CommandRefusal>) -> RunFault
     ensures { IfSome (stop_of result) (λ stop. eval_stop fault (refusal_view command) ≡ Some stop) }
 {
@@ -61,7 +61,7 @@ pub(crate) fn refusal(fault: EvalFault, command: Option<CommandRefusal>) -> RunF
     }
 }
 
-/// The fault of a file for a refused command: of its own fault, or of its number alone where there is none.
+/// The fault of a file for a refused command: the command's own, or its number where that is missing.
 fn refused(number: u16, command: Option<CommandRefusal>) -> RunFault
     ensures { IfSome (stop_of result) (λ stop. stop ≡ refused_by number (refusal_view command)) }
 {

@@ -1,4 +1,4 @@
--- The laws of loads and unloads that lead back (own).
+-- The laws of unloads that undo loads (own).
 use Rattle.std.specs.Prelude.{◌≡◌, List, [], ◌∷◌, ◌++◌, Some, Ok}
 use Rattle.environment.specs.Texts.{Text}
 use Rattle.environment.specs.Environment.{Environment}

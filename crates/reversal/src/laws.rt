@@ -1,4 +1,4 @@
-//! Laws of loads and unloads that lead back. Each function does nothing: its contract is the law.
+//! Laws of unloads that undo loads. Each function does nothing: its contract is the law.
 ghost use Rattle.reversal.specs.Laws.{RunsReturn, EachOnTheWay, RequestsReturn, StepsKeep, LoadsMake};
 ghost use Rattle.reversal.specs.Losses.{SetLosesValue, UnsetLosesValue, UnsetGivesAnother};
 
