@@ -36,7 +36,7 @@ is_played : (c : Context) (text : Text) (steps : ℕ) → play standard c text s
 unfolding computed
 is_played c text steps = refl
 
--- what a file comes to that was played in so many steps
+-- the outcome of a file that was played in so many steps
 pub comes : (c : Context) (text : Text) (steps : ℕ) (o : Result Ran Stop) → computed c text steps ≡ Some o → RunsFile standard c text o
 comes c text steps o e = played_runs standard c text steps o (is_played c text steps ∙ e)
 

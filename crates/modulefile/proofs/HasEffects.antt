@@ -1,4 +1,4 @@
--- The records of an evaluation have their effects: each was told only after its effect on what the ones before it made.
+-- The records of an evaluation have their effects: each was added only after its effect on what the ones before it made.
 use Rattle.std.proofs.Common.{◌≡◌, Bool, true, false, List, [], ◌∷◌, ◌++◌, Result, Ok, Err, is_ok, refl, ap, sym, subst}
 use Rattle.environment.specs.Texts.{Text}
 use Rattle.environment.specs.Names.{is_variable_name}
@@ -49,7 +49,7 @@ adds_nothing (bad_record reason) = refl
 keep_nothing : (c : Context) (rs : List oracle.CommandWords) (o : CallReason) → HasEffects c rs → HasEffects c (records_with rs (addition (not_done o)))
 keep_nothing c rs o h = subst (λ a. HasEffects c (records_with rs a)) (sym (adds_nothing o)) h
 
--- what is kept where the records so far have their effects
+-- what holds again after a command where the records so far have their effects
 pub record IsSoFar (c : Context) (rs : List oracle.CommandWords) : Type 0 where
   pub records : List Record
   pub env : Environment

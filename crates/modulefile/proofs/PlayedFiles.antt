@@ -1,4 +1,4 @@
--- What playing a file gives is what it comes to.
+-- What playing a file gives is its outcome.
 use Rattle.std.proofs.Common.{◌≡◌, ℕ, Some, None, Result, Ok, Err, refl}
 use Rattle.environment.specs.Texts.{Text}
 use Rattle.tclrules.specs.Derivation.{Outcome, Ended, Halted, World}

@@ -32,7 +32,7 @@ begun cx ctx start j e d =
 abbrev told_of : List (List Text) → List Text → Bool → Option Refusal → Told
 told_of words messages mark refusal = record { records = words; messages = messages; asked = mark; refused = refusal }
 
--- nothing is told before
+-- before the file nothing was done
 untold_at : (j : SoFar) (messages : Vec (String Global) Global) (mark : Bool) (refusal : Option CommandRefusal) → j.words ≡ [] → messages.items ≡ [] → mark ≡ false → refusal ≡ None → told_with j messages mark refusal ≡ untold
 untold_at j messages mark refusal e d b n =
     ap (λ (ws : List (List Text)). told_of ws (texts_in messages) mark (refusal_view refusal)) e

@@ -46,7 +46,7 @@ or_false : (b : Bool) → b ≡ (b || false)
 or_false true = refl
 or_false false = refl
 
--- a record that has its effect is kept
+-- a record that has its effect is added
 pub noted_reply : (s t : SoFar) (cx : Context) (messages : Vec (String Global) Global) (mark : Bool) (held : Option CommandRefusal) (words : List Text) (r : records.Record) (text : String Global) (e : Environment)
     → call_of words ≡ Ok (keeps r) → string_bytes text ≡ [] → t ≡ noted s words → effect_on s r ≡ Ok e
     → Replies (answered (context_with s cx) (found s) words (call_of words)) (Done text) (told_with s messages mark held) (told_with t messages mark held)
@@ -89,7 +89,7 @@ some_reason : (o : Option RecordReason) → is_none o ≡ false → (reason : Re
 some_reason None h reason e = absurd (cc)
 some_reason (Some r) h reason e = ap (λ x. Some x) e
 
--- a refusal that is kept is told, with its name
+-- a refusal that the host remembers is in what it has done, with its name
 pub refusal_told : (s : SoFar) (messages : Vec (String Global) Global) (mark : Bool) (held : Option CommandRefusal) (fault : RecordFault) (n : ℕ)
     → is_none (fault_reason fault) ≡ false → IfSome (fault_reason fault) (λ reason. n ≡ record_number reason)
     → (reason : RecordReason) → HasFault reason fault
