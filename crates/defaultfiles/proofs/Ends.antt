@@ -12,7 +12,7 @@ use Rattle.tclrules.specs.declared.outcome.Ending.{Ending}
 use Rattle.tclrules.specs.declared.outcome.EvalFault.{EvalFault}
 use Rattle.tclrules.specs.declared.outcome.EvalFault.TheVariants as fault
 use Rattle.modulesearch.specs.DefaultFiles.{Left}
-use Rattle.defaultfiles.specs.Leaves.{default_oracle, left_of, Leaves}
+use Rattle.defaultfiles.specs.DefaultFileResults.{default_oracle, left_of, Leaves}
 
 -- a fault but want of memory leaves nothing
 nothing_left : (script : Text) (f : EvalFault) (o : Outcome plans.Ending) (told : Told) → is_want_of_memory f ≡ false → ReportsFault script f o → left_of o told ≡ None

@@ -1,4 +1,4 @@
-pub mod Leaves
+pub mod DefaultFileResults
 pub mod OneLeft
 -- for this crate's own contracts alone
 pub mod Replies

@@ -1,11 +1,11 @@
--- A default file leaves one thing, since its evaluation has one outcome.
+-- A default file has one result, since its evaluation has one outcome (own).
 use Rattle.std.proofs.Common.{◌≡◌, Option, ◌∙◌, sym, subst}
 use Rattle.modulename.specs.ModuleName.{Text}
 use Rattle.tclrules.specs.Derivation.{World}
 use Rattle.tclrules.specs.declared.limits.Limits.{Limits}
 use Rattle.tclrules.proofs.Outcomes.{one_outcome}
 use Rattle.modulesearch.specs.DefaultFiles.{Left}
-use Rattle.defaultfiles.specs.Leaves.{left_of, Leaves}
+use Rattle.defaultfiles.specs.DefaultFileResults.{left_of, Leaves}
 
 pub one_left : (limits : Limits) (path text : Text) (o p : Option Left) → Leaves limits path text o
     → Leaves limits path text p → o ≡ p

@@ -1,4 +1,4 @@
--- Replies of the host, as answers.
+-- What the answers of the host mean in the rules of evaluation (own).
 use Rattle.std.specs.Prelude.{false, List, [], None, map, string_bytes, vec_items, String}
 use Rattle.std.specs.declared.vec.Vec.{Vec}
 use Rattle.std.specs.declared.alloc.Global.{Global}

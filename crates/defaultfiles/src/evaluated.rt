@@ -1,4 +1,4 @@
-//! Default files by their evaluation.
+//! What default files name as their versions, by their evaluation as Tcl.
 ghost use Rattle.std.specs.Prelude.{◌≡◌, ◌∷◌, [], codes, IfOk, option_map, string_bytes};
 ghost use Rattle.tclrules.specs.Promise.{texts_of, is_want_of_memory};
 ghost use Rattle.tclrules.specs.Variables.{lookup};
@@ -9,13 +9,13 @@ use std::alloc::{AllocError, Global};
 use tcleval::evaluate;
 use tclrules::{EvalFault, Limits};
 
-/// Evaluates default files within these limits, which are for each file anew.
+/// Evaluates default files within these limits. Each file has the whole of them.
 #[derive(Clone, Copy)]
 pub struct Evaluated {
     pub limits: Limits,
 }
 
-/// The global variables of a default file at first: its path.
+/// The global variables of a default file at its beginning: `ModulesCurrentModulefile` is its path.
 fn globals_at(alloc: Global, path: &str) -> Result<Vec<(String, String)>, AllocError>
     ensures { IfOk result (λ globals.
         texts_of globals.items ≡ (codes "ModulesCurrentModulefile", path.now) ∷ []) }
@@ -28,7 +28,7 @@ fn globals_at(alloc: Global, path: &str) -> Result<Vec<(String, String)>, AllocE
     Ok(globals)
 }
 
-/// The value of a global variable.
+/// The value of a global variable, copied; none where it is unset.
 fn value_of(
     alloc: Global,
     globals: &[(String, String)],
@@ -44,6 +44,7 @@ fn value_of(
     Ok(None)
 }
 
+/// Whether memory ran out. Any other fault is the file's own, and it names nothing then.
 fn is_want_of_memory(fault: &EvalFault) -> bool
     ensures { result ≡ is_want_of_memory fault.now }
 {
@@ -54,7 +55,7 @@ fn is_want_of_memory(fault: &EvalFault) -> bool
 }
 
 impl DefaultFiles for Evaluated {
-    ghost use Rattle.defaultfiles.specs.Leaves.{Leaves};
+    ghost use Rattle.defaultfiles.specs.DefaultFileResults.{Leaves};
     ghost use Rattle.defaultfiles.specs.OneLeft.{one_left};
 
     ghost leaves = { λ e. Leaves e.limits };

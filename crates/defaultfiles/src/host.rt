@@ -1,4 +1,4 @@
-//! The host of a default file.
+//! The host of a default file: it does the commands that Tcl hasn't (modulefile(5)).
 ghost use Rattle.std.specs.Prelude.{◌≡◌, ◌++◌, ◌∷◌, [], map, string_bytes, IfOk, OnOk, OnErr};
 ghost use Rattle.defaultfiles.specs.Replies.{texts_of_words};
 
@@ -6,7 +6,7 @@ use crate::replies::{Reply, reply_to};
 use std::alloc::{AllocError, Global};
 use tclrules::{Host, HostAnswer};
 
-/// Keeps the `module-version` commands of a default file. To the file each variable of the environment is unset, and
+/// Collects the `module-version` commands of a default file. To the file each variable of the environment is unset, and
 /// what it writes is dropped.
 #[derive(Drop)]
 pub(crate) struct DefaultHost {
@@ -15,10 +15,11 @@ pub(crate) struct DefaultHost {
     pub(crate) commands: Vec<Vec<String>>,
     /// Whether a variable of the environment was read.
     pub(crate) asked: bool,
-    /// The number that a command was refused by.
+    /// The number of the fault of a refused command.
     pub(crate) refused: Option<u16>,
 }
 
+/// Copies the words of a command.
 fn copy_words(alloc: Global, words: &[String]) -> Result<Vec<String>, AllocError>
     ensures { IfOk result (λ copies. map string_bytes copies.items ≡ map string_bytes words.now) }
 {
@@ -30,8 +31,9 @@ fn copy_words(alloc: Global, words: &[String]) -> Result<Vec<String>, AllocError
 }
 
 impl DefaultHost {
+    /// Adds a `module-version` command by its words.
     fn keep(&mut self, words: &[String]) -> Result<(), AllocError>
-        ensures kept { OnOk result (map texts_of_words self.new.commands.items
+        ensures added { OnOk result (map texts_of_words self.new.commands.items
             ≡ map texts_of_words self.old.commands.items ++ map string_bytes words.now ∷ []) }
         ensures same { OnErr result (self.new.commands.items ≡ self.old.commands.items) }
         ensures asked { self.new.asked ≡ self.old.asked }
@@ -46,7 +48,7 @@ impl DefaultHost {
 impl Host for DefaultHost {
     ghost use Rattle.std.specs.Prelude.{[], map, option_map};
     ghost use Rattle.tclrules.specs.Oracle.{unnamed};
-    ghost use Rattle.defaultfiles.specs.Leaves.{default_oracle};
+    ghost use Rattle.defaultfiles.specs.DefaultFileResults.{default_oracle};
     ghost use Rattle.defaultfiles.specs.Replies.{texts_of_words};
 
     ghost told = { λ h. record {

@@ -1,17 +1,17 @@
-//! What holds of the definitions that the contracts cite.
+//! Laws of default files. Each function does nothing: its contract is the law.
 ghost use Rattle.std.specs.Prelude.{◌≡◌, Option};
 ghost use Rattle.modulename.specs.ModuleName.{Text};
 ghost use Rattle.tclrules.specs.declared.limits.Limits.{Limits};
 ghost use Rattle.modulesearch.specs.DefaultFiles.{Left};
-ghost use Rattle.defaultfiles.specs.Leaves.{Leaves};
+ghost use Rattle.defaultfiles.specs.DefaultFileResults.{Leaves};
 
-/// A default file leaves one thing at most.
+/// A default file has one result at most.
 pub fn one_left()
     ensures { (limits : Limits) (path text : Text) (o p : Option Left)
         → Leaves limits path text o → Leaves limits path text p → o ≡ p }
 {}
 
-/// Each default file leaves something, or has a fault.
+/// Each default file has a result, which is none where it has a fault.
 pub fn some_left()
     ensures { (limits : Limits) (path text : Text) → (o : Option Left) × Leaves limits path text o }
 {

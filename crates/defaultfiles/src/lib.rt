@@ -1,4 +1,6 @@
-//! What evaluates default files, by the rules of evaluation, and what they leave.
+//! The evaluation of default files, `.modulerc` and `.version` (modulefile(5)), as Tcl within limits.
+//! Takes memory and touches nothing else: to a default file each variable of the environment is unset.
+//! Used by requests, requeststep and lookup, which search with it.
 #![tactic(auto)]
 
 mod evaluated;

@@ -1,28 +1,28 @@
-//! What commands of default files are answered.
+//! The answers to commands of default files, by their words alone (modulefile(5)).
 ghost use Rattle.std.specs.Prelude.{◌≡◌, map, string_bytes};
 ghost use Rattle.tclrules.specs.Names.{is_among};
-ghost use Rattle.defaultfiles.specs.Leaves.{version_answer, renaming_commands, named_answer, answer_to};
+ghost use Rattle.defaultfiles.specs.DefaultFileResults.{version_answer, renaming_commands, named_answer, answer_to};
 ghost use Rattle.defaultfiles.specs.Replies.{reply_view};
 
 use tclarguments::is_left_out_of_modules;
 
-/// What is answered to a command.
+/// The answer to a command.
 #[derive(Clone, Copy)]
 pub(crate) enum Reply<'a> {
-    /// It is kept.
+    /// It is a `module-version` command, and is collected.
     Kept,
-    /// It is done, and leaves nothing.
+    /// It is done, and adds nothing.
     Dropped,
-    /// It is refused by this number.
+    /// It is refused by the fault of this number.
     Refused(u16),
-    /// The command of this name is left out.
+    /// The command of this name is unsupported on purpose.
     LeftOut(&'a str),
     /// No such command is known.
     Unknown,
 }
 
-/// Whether a command of this name gives a module another name, or hides or tags modules.
-#[tactic(auto, unfolding(crate::specs::Leaves::renaming_commands))]
+/// Whether a command of this name gives a module another name, or hides, forbids or tags modules.
+#[tactic(auto, unfolding(crate::specs::DefaultFileResults::renaming_commands))]
 fn is_renaming(name: &str) -> bool
     ensures { result ≡ is_among renaming_commands name.now }
 {
@@ -33,7 +33,7 @@ fn is_renaming(name: &str) -> bool
     }
 }
 
-/// What `module-version` is answered, by all its words.
+/// The answer to `module-version`, by all its words.
 fn version_reply(words: &[String]) -> Reply<'static>
     ensures { reply_view result (map string_bytes words.now) ≡ version_answer (map string_bytes words.now) }
 {
@@ -43,7 +43,7 @@ fn version_reply(words: &[String]) -> Reply<'static>
     }
 }
 
-/// What a command is answered by its name and all its words.
+/// The answer to a command, by its name and all its words.
 fn named_reply<'a>(name: &'a str, words: &[String]) -> Reply<'a>
     ensures { reply_view result (map string_bytes words.now)
         ≡ named_answer name.entry.now (map string_bytes words.now) }
@@ -61,7 +61,7 @@ fn named_reply<'a>(name: &'a str, words: &[String]) -> Reply<'a>
     }
 }
 
-/// What a command is answered by its words.
+/// The answer to a command, by its words, the first of which is its name.
 pub(crate) fn reply_to<'a>(words: &'a [String]) -> Reply<'a>
     ensures { reply_view result (map string_bytes words.entry.now) ≡ answer_to (map string_bytes words.entry.now) }
 {

@@ -36,7 +36,7 @@ is_played : (c : Context) (text : Text) (steps : ℕ) → play standard c text s
 unfolding computed
 is_played c text steps = refl
 
--- what a file comes to that was played in so many steps
+-- the outcome of a file that was played in so many steps
 pub comes : (c : Context) (text : Text) (steps : ℕ) (o : Result Ran Stop) → computed c text steps ≡ Some o → RunsFile standard c text o
 comes c text steps o e = played_runs standard c text steps o (is_played c text steps ∙ e)
 
@@ -88,9 +88,9 @@ pub ending_error : (e : Environment) → computed (loading e) (file (codes "sete
 unfolding computed
 ending_error e = refl
 
-pub refused_kept : (e : Environment) → computed (loading e) (file (codes "catch {setenv LOADEDMODULES x}")) 400 ≡ Some (Err (refused (record { number = 33; name = Some (codes "LOADEDMODULES") })))
+pub refused_protected : (e : Environment) → computed (loading e) (file (codes "catch {setenv LOADEDMODULES x}")) 400 ≡ Some (Err (refused (record { number = 33; name = Some (codes "LOADEDMODULES") })))
 unfolding computed
-refused_kept e = refl
+refused_protected e = refl
 
 pub refused_topic : (e : Environment) → computed (loading e) (file (codes "module-info nope x y")) 400 ≡ Some (Err (halted (LeftOut (codes "module-info nope"))))
 unfolding computed

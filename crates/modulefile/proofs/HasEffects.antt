@@ -1,4 +1,4 @@
--- The records of an evaluation have their effects: each was told only after its effect on what the ones before it made.
+-- The records of an evaluation have their effects: each was added only after its effect on what the ones before it made.
 use Rattle.std.proofs.Common.{◌≡◌, Bool, true, false, List, [], ◌∷◌, ◌++◌, Result, Ok, Err, is_ok, refl, ap, sym, subst}
 use Rattle.environment.specs.Texts.{Text}
 use Rattle.environment.specs.Names.{is_variable_name}
@@ -12,7 +12,7 @@ use Rattle.modulerecords.proofs.Effected.{whole, effects_go_on}
 use Rattle.modulefile.specs.Results.{◌>>=◌}
 use Rattle.modulefile.specs.Calls as calls
 use Rattle.modulefile.specs.Calls.{keeps, says, getenv, is_loaded, own_name, typed_name, tells, tests, CallReason, unknown, left_out, bad_record, CallForm, call_of}
-use Rattle.modulefile.specs.Answers.{Context, not_done, kept, read, answered, recorded, records_in, by_record, effects_so_far, or_start, found_after, value_shown}
+use Rattle.modulefile.specs.Answers.{Context, not_done, record_answer, read, answered, record_of, records_in, by_record, effects_so_far, or_start, found_after, value_shown}
 use Rattle.modulefile.proofs.Bound.{bound, bind_ok}
 
 ok_value : {A R : Type 0} (r : Result A R) → is_ok r ≡ true → (a : A) × (r ≡ Ok a)
@@ -23,15 +23,15 @@ pub by_record_ok : (r : Result Environment RecordReason) (e : Environment) → b
 by_record_ok (Ok d) e h = cc
 by_record_ok (Err x) e h = absurd (cc)
 
-records_more : (rs : List oracle.CommandWords) (words : List Text) (ys : List Record) (r : Record) → records_in rs ≡ Ok ys → (call_of words >>= recorded) ≡ Ok r → records_in (rs ++ words ∷ []) ≡ Ok (ys ++ r ∷ [])
+records_more : (rs : List oracle.CommandWords) (words : List Text) (ys : List Record) (r : Record) → records_in rs ≡ Ok ys → (call_of words >>= record_of) ≡ Ok r → records_in (rs ++ words ∷ []) ≡ Ok (ys ++ r ∷ [])
 records_more [] words ys r h k =
     let e : ys ≡ [] = cc in
-    bind_ok (call_of words >>= recorded) (λ x. records_in [] >>= (λ xs. Ok (x ∷ xs))) r (ys ++ r ∷ []) k (ap (λ zs. Ok (zs ++ r ∷ [])) (sym e))
+    bind_ok (call_of words >>= record_of) (λ x. records_in [] >>= (λ xs. Ok (x ∷ xs))) r (ys ++ r ∷ []) k (ap (λ zs. Ok (zs ++ r ∷ [])) (sym e))
 records_more (v ∷ rs) words ys r h k =
-    let b = bound (call_of v >>= recorded) (λ x. records_in rs >>= (λ xs. Ok (x ∷ xs))) ys h in
+    let b = bound (call_of v >>= record_of) (λ x. records_in rs >>= (λ xs. Ok (x ∷ xs))) ys h in
     let d = bound (records_in rs) (λ xs. Ok (b.0 ∷ xs)) ys b.2 in
     let e : b.0 ∷ d.0 ≡ ys = cc in
-    bind_ok (call_of v >>= recorded) (λ x. records_in (rs ++ words ∷ []) >>= (λ xs. Ok (x ∷ xs))) b.0 (ys ++ r ∷ []) b.1
+    bind_ok (call_of v >>= record_of) (λ x. records_in (rs ++ words ∷ []) >>= (λ xs. Ok (x ∷ xs))) b.0 (ys ++ r ∷ []) b.1
     (bind_ok (records_in (rs ++ words ∷ [])) (λ xs. Ok (b.0 ∷ xs)) (d.0 ++ r ∷ []) (ys ++ r ∷ []) (records_more rs words d.0 r d.1 k) (ap (λ zs. Ok (zs ++ r ∷ [])) e))
 
 effects_more : (mode : Mode) (owner : Text) (ys : List Record) (r : Record) (e d t : Environment) → effects mode owner ys e ≡ Ok d → effect mode owner r d ≡ Ok t → effects mode owner (ys ++ r ∷ []) e ≡ Ok t
@@ -49,7 +49,7 @@ adds_nothing (bad_record reason) = refl
 keep_nothing : (c : Context) (rs : List oracle.CommandWords) (o : CallReason) → HasEffects c rs → HasEffects c (records_with rs (addition (not_done o)))
 keep_nothing c rs o h = subst (λ a. HasEffects c (records_with rs a)) (sym (adds_nothing o)) h
 
--- what is kept where the records so far have their effects
+-- what holds again after a command where the records so far have their effects
 pub record IsSoFar (c : Context) (rs : List oracle.CommandWords) : Type 0 where
   pub records : List Record
   pub env : Environment
@@ -71,7 +71,7 @@ keep_kept c rs words r k h (Ok t) e =
     let s = so_far c rs h in
     let f : found_after c rs ≡ s.env = ap (or_start c.start) (go_on c rs s.records s.env s.read s.made) in
     let g : effect c.mode c.name r s.env ≡ Ok t = subst (λ x. effect c.mode c.name r x ≡ Ok t) f e in
-    let m : records_in (rs ++ words ∷ []) ≡ Ok (s.records ++ r ∷ []) = records_more rs words s.records r s.read (bind_ok (call_of words) recorded (keeps r) r k refl) in
+    let m : records_in (rs ++ words ∷ []) ≡ Ok (s.records ++ r ∷ []) = records_more rs words s.records r s.read (bind_ok (call_of words) record_of (keeps r) r k refl) in
     ap (λ x. is_ok x) (go_on c (rs ++ words ∷ []) (s.records ++ r ∷ []) t m (effects_more c.mode c.name s.records r c.start s.env t s.made g))
 
 keep_read : (c : Context) (rs : List oracle.CommandWords) (var value : Text) → HasEffects c rs → HasEffects c (records_with rs (addition (read var value)))

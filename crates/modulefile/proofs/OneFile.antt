@@ -1,4 +1,4 @@
--- A modulefile comes to one outcome, since its evaluation does.
+-- A modulefile has one outcome, since its evaluation has one.
 use Rattle.std.proofs.Common.{◌≡◌, Result, Ok, ap, sym, ◌∙◌, subst}
 use Rattle.environment.specs.Texts.{Text}
 use Rattle.tclrules.specs.Oracle.{Told}

@@ -14,7 +14,7 @@ use Rattle.tclrules.specs.declared.limits.Limits.{Limits}
 use Rattle.modulerecords.specs.Judgments.{RecordReason, record_reason}
 use Rattle.modulerecords.specs.Effects.{edited, by_edit, permitted, effect}
 use Rattle.modulefile.specs.Calls.{keeps, says, getenv, is_loaded, own_name, typed_name, tells, tests, CallForm, call_of}
-use Rattle.modulefile.specs.Answers.{Context, record_number, record_name, kept, read, answered, records_in, found_after, oracle_of, value_shown}
+use Rattle.modulefile.specs.Answers.{Context, record_number, record_name, record_answer, read, answered, records_in, found_after, oracle_of, value_shown}
 use Rattle.modulefile.specs.Files.{Ran, Stop, ran_of, setting_of, FinishesFile, RunsFile, IsSameOrRefused}
 use Rattle.modulefile.specs.Laws.{PlainFilesAgree}
 use Rattle.modulefile.proofs.Bound.{same_value}
@@ -25,7 +25,7 @@ use Rattle.modulefile.proofs.WholeFiles.{ran_parts}
 abbrev Alike : OracleAnswer → OracleAnswer → Type 0
 Alike first second = (second ≡ first) ⊎ ((n : ℕ) × (name : Option Text) × (asks : Bool) × (second ≡ oracle.Refused n name asks))
 
-at_kept : (words : List Text) (o : Option RecordReason) (s t : Result Environment RecordReason) → is_refusal (kept words (permitted o s)) ≡ false → Alike (kept words (permitted o s)) (kept words (permitted o t))
+at_kept : (words : List Text) (o : Option RecordReason) (s t : Result Environment RecordReason) → is_refusal (record_answer words (permitted o s)) ≡ false → Alike (record_answer words (permitted o s)) (record_answer words (permitted o t))
 at_kept words (Some o) s t h = absurd (cc)
 at_kept words None (Err q) t h = absurd (cc)
 at_kept words None (Ok a) (Ok b) h = inl refl
@@ -41,7 +41,7 @@ at_read var u v h = go (is_variable_name var) refl
 at_call : (c d : Context) → d.name ≡ c.name → (x y : Environment) (words : List Text) (call : CallForm) → is_question (answered c x words call) ≡ false → is_refusal (answered c x words call) ≡ false → Alike (answered c x words call) (answered d y words call)
 at_call c d e x y words (Err o) q h = inl refl
 at_call c d e x y words (Ok (keeps r)) q h =
-    subst (λ n. Alike (kept words (effect c.mode c.name r x)) (kept words (effect d.mode n r y))) (sym e)
+    subst (λ n. Alike (record_answer words (effect c.mode c.name r x)) (record_answer words (effect d.mode n r y))) (sym e)
     (at_kept words (record_reason r) (by_edit (edited c.mode c.name r x)) (by_edit (edited d.mode c.name r y)) h)
 at_call c d e x y words (Ok (says message)) q h = inl refl
 at_call c d e x y words (Ok (getenv var default)) q h = inl (at_read var (value_shown c.mode x var default) (value_shown d.mode y var default) q)

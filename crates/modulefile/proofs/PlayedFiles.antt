@@ -1,4 +1,4 @@
--- What playing a file gives is what it comes to.
+-- What playing a file gives is its outcome.
 use Rattle.std.proofs.Common.{◌≡◌, ℕ, Some, None, Result, Ok, Err, refl}
 use Rattle.environment.specs.Texts.{Text}
 use Rattle.tclrules.specs.Derivation.{Outcome, Ended, Halted, World}
@@ -10,17 +10,17 @@ use Rattle.tclrules.specs.declared.limits.Limits.{Limits}
 use Rattle.tclrules.proofs.Plays.{derived}
 use Rattle.modulefile.specs.Calls.{CallReason}
 use Rattle.modulefile.specs.Answers.{Context}
-use Rattle.modulefile.specs.Files.{Ran, Stop, setting_of, ran_of, RunsFile, ran_shown, shown}
+use Rattle.modulefile.specs.Files.{Ran, Stop, setting_of, ran_of, RunsFile, played_ran, played_outcome}
 use Rattle.modulefile.specs.Laws.{PlayedRuns}
 
 comes_played : (s : Setting) (steps : ℕ) (o : Outcome Ending) (w : World) → play_file s steps ≡ Some (o, w) → ComesTo s o w
 comes_played s steps o w e = derived s.oracle s.limits.commands (rule s.limits.value_bytes) steps (plan_of s.limits s.script s.globals) (first s.told) o w e
 
-ok_shown : (r : Result Ran CallReason) (o : Result Ran Stop) → ran_shown r ≡ Some o → (ran : Ran) × (r ≡ Ok ran) × (o ≡ Ok ran)
+ok_shown : (r : Result Ran CallReason) (o : Result Ran Stop) → played_ran r ≡ Some o → (ran : Ran) × (r ≡ Ok ran) × (o ≡ Ok ran)
 ok_shown (Ok ran) o e = (ran, refl, cc)
 ok_shown (Err r) o e = absurd (cc)
 
-shown_runs : (limits : Limits) (c : Context) (text : Text) (steps : ℕ) (p : Played Ending) (o : Result Ran Stop) → play_file (setting_of limits c text) steps ≡ p → shown c text p ≡ Some o → RunsFile limits c text o
+shown_runs : (limits : Limits) (c : Context) (text : Text) (steps : ℕ) (p : Played Ending) (o : Result Ran Stop) → play_file (setting_of limits c text) steps ≡ p → played_outcome c text p ≡ Some o → RunsFile limits c text o
 shown_runs limits c text steps None o h e = absurd (cc)
 shown_runs limits c text steps (Some (Ended (Normal t s), w)) o h e =
     (Ended (Normal t s), w, comes_played (setting_of limits c text) steps (Ended (Normal t s)) w h, ok_shown (ran_of c w.told) o e)

@@ -1,4 +1,4 @@
--- What a file leaves that ended, and that each file comes to something.
+-- What an accepted file leaves, and that each file has an outcome.
 use Rattle.std.proofs.Common.{◌≡◌, List, Result, Ok, Err, is_ok, refl, ap, sym, ◌∙◌, subst}
 use Rattle.environment.specs.Texts.{Text}
 use Rattle.environment.specs.Environment.{Environment}

@@ -1,4 +1,4 @@
--- What the host of a modulefile answers (modulefile(5)), as an oracle over the records so far.
+-- What the host of a modulefile answers to its commands (modulefile(5)), as an oracle over the records so far.
 use Rattle.std.specs.Prelude.{ℕ, Bool, true, false, ◌||◌, ◌&&◌, List, [], ◌∷◌, ◌++◌, codes, bytes_eq, if◌then◌else◌, unwrap_or, Option, Some, None, Result, Ok, Err}
 use Rattle.std.specs.List.{list_any}
 use Rattle.modulename.specs.ModuleName.{means}
@@ -29,6 +29,7 @@ pub record Context : Type 0 where
   pub loaded : List Text
   pub start : Environment
 
+-- the word of a mode, as `module-info mode` has it
 abbrev pub mode_word : Mode → Text
 mode_word load = codes "load"
 mode_word unload = codes "unload"
@@ -47,10 +48,11 @@ abbrev pub is_mode : Context → Text → Bool
 is_mode c word =
     bytes_eq word (mode_word c.mode) || is_second_word c.mode word || (c.in_switch && bytes_eq word (codes "switch"))
 
--- what is so is 1, and else 0
+-- a truth value, as questions answer it
 abbrev pub truth : Bool → Text
 truth b = if b then codes "1" else codes "0"
 
+-- what `module-info` answers without a further word, and whether it is the further word
 abbrev pub topic_text : Context → Topic → Text
 topic_text c mode = mode_word c.mode
 topic_text c shell = shell_name c.shell
@@ -61,7 +63,7 @@ topic_test c mode word = is_mode c word
 topic_test c shell word = bytes_eq word (shell_name c.shell)
 topic_test c shell_type word = bytes_eq word (shell_family c.shell)
 
--- One of the names means a loaded module. No name asks for any module.
+-- Whether one of the names means a loaded module; without a name, whether any module is loaded.
 abbrev pub any_loaded : List Text → List Text → Bool
 any_loaded [] loaded = list_any (λ m. true) loaded
 any_loaded (name ∷ names) loaded = list_any (λ n. list_any (means n) loaded) (name ∷ names)
@@ -110,10 +112,10 @@ not_done (left_out name) = LeftOut name false
 not_done bad_arguments = Refused 56 None false
 not_done (bad_record reason) = Refused (record_number reason) (record_name reason) false
 
--- A command that leaves a record answers the empty text, and its words are kept, where the record has its effect.
-abbrev pub kept : List Text → Result Environment RecordReason → OracleAnswer
-kept words (Ok e) = Done [] (Kept words) false
-kept words (Err reason) = not_done (bad_record reason)
+-- A command that leaves a record answers the empty text, and its words are recorded, where the record has its effect.
+abbrev pub record_answer : List Text → Result Environment RecordReason → OracleAnswer
+record_answer words (Ok e) = Done [] (Kept words) false
+record_answer words (Err reason) = not_done (bad_record reason)
 
 -- the answer to a question
 abbrev pub asked : Text → OracleAnswer
@@ -126,7 +128,7 @@ read var value = if is_variable_name var then asked value else not_done (bad_rec
 -- Questions are those about the environment, the mode, the shell, the typed name or the loaded modules, and no others.
 abbrev pub answered : Context → Environment → List Text → CallForm → OracleAnswer
 answered c e words (Err reason) = not_done reason
-answered c e words (Ok (keeps r)) = kept words (effect c.mode c.name r e)
+answered c e words (Ok (keeps r)) = record_answer words (effect c.mode c.name r e)
 answered c e words (Ok (says message)) = Done [] (Message message) false
 answered c e words (Ok (getenv var default)) = read var (value_shown c.mode e var default)
 answered c e words (Ok (is_loaded names)) = asked (truth (any_loaded names c.loaded))
@@ -136,20 +138,20 @@ answered c e words (Ok (tells topic)) = asked (topic_text c topic)
 answered c e words (Ok (tests topic word)) = asked (truth (topic_test c topic word))
 
 -- the record of a command
-abbrev pub recorded : Call → Result Record CallReason
-recorded (keeps r) = Ok r
-recorded (says message) = Err unknown
-recorded (getenv var default) = Err unknown
-recorded (is_loaded names) = Err unknown
-recorded own_name = Err unknown
-recorded typed_name = Err unknown
-recorded (tells topic) = Err unknown
-recorded (tests topic word) = Err unknown
+abbrev pub record_of : Call → Result Record CallReason
+record_of (keeps r) = Ok r
+record_of (says message) = Err unknown
+record_of (getenv var default) = Err unknown
+record_of (is_loaded names) = Err unknown
+record_of own_name = Err unknown
+record_of typed_name = Err unknown
+record_of (tells topic) = Err unknown
+record_of (tests topic word) = Err unknown
 
--- the records of commands that were accepted, which are kept by their words
+-- the records of accepted commands, which the evaluation has by their words
 abbrev pub records_in : List oracle.CommandWords → Result (List Record) CallReason
 records_in [] = Ok []
-records_in (words ∷ more) = call_of words >>= recorded >>= (λ r. records_in more >>= (λ rs. Ok (r ∷ rs)))
+records_in (words ∷ more) = call_of words >>= record_of >>= (λ r. records_in more >>= (λ rs. Ok (r ∷ rs)))
 
 -- the effects of records, where the reasons are those of commands
 abbrev pub by_record : Result Environment RecordReason → Result Environment CallReason
@@ -160,12 +162,13 @@ by_record (Err reason) = Err (bad_record reason)
 abbrev pub effects_so_far : Context → List oracle.CommandWords → Result Environment CallReason
 effects_so_far c told = records_in told >>= (λ rs. by_record (effects c.mode c.name rs c.start))
 
+-- the environment of an outcome, or else the one before the file
 abbrev pub or_start : Environment → Result Environment CallReason → Environment
 or_start start (Ok e) = e
 or_start start (Err reason) = start
 
--- The environment that the file finds there. The records of accepted commands always have their effects, so the start
--- doesn't stand for them.
+-- The environment after these commands. The records of accepted commands always have their effects, so this is never
+-- the start in their stead.
 abbrev pub found_after : Context → List oracle.CommandWords → Environment
 found_after c told = or_start c.start (effects_so_far c told)
 
@@ -177,7 +180,7 @@ oracle_of c =
       variable = λ told name. lookup (found_after c told) name;
     }
 
--- what the words of a command add where it is done, and whether they ask
+-- what a command adds where it is done, and whether it is a question
 abbrev pub call_adds : List Text → CallForm → Addition
 call_adds words (Err reason) = Nothing
 call_adds words (Ok (keeps r)) = Kept words

@@ -1,4 +1,4 @@
--- The commands of the program, as the definitions see them.
+-- What the commands of the code stand for in the definitions (own).
 use Rattle.std.specs.Prelude.{◌≡◌, ℕ, List, [], ◌∷◌, ◌++◌, map, string_bytes, String, if◌then◌else◌, Option, Some, None, IfSome}
 use Rattle.std.specs.Option.{option_map}
 use Rattle.std.specs.declared.alloc.Global.{Global}
@@ -17,9 +17,11 @@ use Rattle.modulefile.specs.declared.call_fault.CallFault.TheVariants as faults
 use Rattle.modulefile.specs.Calls as calls
 use Rattle.modulefile.specs.Calls.{CallReason, elements_of, description}
 
+-- strings as their bytes
 abbrev pub texts_of : List (String Global) → List Text
 texts_of ws = map string_bytes ws
 
+-- what `module-info` is about
 abbrev pub topic_view : Topic → calls.Topic
 topic_view topics.Mode = calls.mode
 topic_view topics.Shell = calls.shell
@@ -31,9 +33,11 @@ edit_record edits.Front delim var xs = records.Front delim var xs
 edit_record edits.Back delim var xs = records.Back delim var xs
 edit_record edits.Remove delim var xs = records.Remove delim var xs
 
+-- the delimiter of a path command, and its words from VAR on
 abbrev pub path_words_view : PathWords → ℕ × List Text
 path_words_view d = (d.delim.character, texts_of d.words.now)
 
+-- the command of a call
 abbrev pub call_view : Call → calls.Call
 call_view (code.Set var value) = calls.keeps (records.Set var.now value.now)
 call_view (code.Unset var value) = calls.keeps (records.Unset var.now (option_map (λ v. v.now) value))

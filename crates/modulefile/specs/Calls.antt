@@ -12,12 +12,13 @@ use Rattle.modulerecords.specs.Records.{Record, Set, Unset, Push, Front, Back, R
 use Rattle.modulerecords.specs.Judgments.{RecordReason}
 use Rattle.modulefile.specs.Results.{◌>>=◌}
 
--- what a question of `module-info` is about
+-- what `module-info` answers, or tests by a further word
 pub data Topic : Type 0 where
   mode : Topic
   shell : Topic
   shell_type : Topic
 
+-- a command of a modulefile
 pub data Call : Type 0 where
   -- a command that leaves a record
   keeps : Record → Call
@@ -34,8 +35,8 @@ pub data Call : Type 0 where
   tells : Topic → Call
   tests : Topic → (word : Text) → Call
 
--- Why a command isn't done: no such command is known; it, or this part of it, is left out; its words don't fit it; or
--- its record has no effect.
+-- Why a command isn't done: no such command is known; it, or this part of it, is unsupported on purpose; its words
+-- don't fit it; or its record has no effect.
 pub data CallReason : Type 0 where
   unknown : CallReason
   left_out : (name : Text) → CallReason
@@ -66,12 +67,12 @@ var_and_perhaps (var ∷ []) = Ok (keeps (Unset var None))
 var_and_perhaps (var ∷ value ∷ []) = Ok (keeps (Unset var (Some value)))
 var_and_perhaps words = Err bad_arguments
 
--- the delimiter that a word says, one character from the space to the tilde, and the words behind it
+-- the delimiter that a text is, one character from the space to the tilde, and the words after it
 abbrev pub with_delimiter : Text → List Text → Result (ℕ × List Text) CallReason
 with_delimiter (c ∷ []) words = if is_delimiter c then Ok (c, words) else Err bad_arguments
 with_delimiter text words = Err bad_arguments
 
--- it stands in the next word, or in the same one
+-- the delimiter of an option, which is the next word or stands in the same one
 abbrev pub by_next_word : List Text → Result (ℕ × List Text) CallReason
 by_next_word [] = Err bad_arguments
 by_next_word (text ∷ words) = with_delimiter text words
@@ -100,6 +101,7 @@ abbrev pub var_and_values : (ℕ → Text → List Text → Record) → ℕ × L
 var_and_values make (delim, var ∷ value ∷ values) = Ok (keeps (make delim var (elements_of delim (value ∷ values))))
 var_and_values make (delim, words) = Err bad_arguments
 
+-- the words of a path command
 abbrev pub path_form : (ℕ → Text → List Text → Record) → List Text → CallForm
 path_form make words = delimited words >>= var_and_values make
 
@@ -118,7 +120,7 @@ getenv_form words = Err bad_arguments
 abbrev pub asked_of_loaded : List Text → CallForm
 asked_of_loaded names = Ok (is_loaded names)
 
--- the evaluator hands on a channel and a text, or `-nonewline` in front of these
+-- `puts`: the evaluator hands on a channel and a text, or `-nonewline` before these
 abbrev pub puts_form : List Text → CallForm
 puts_form (channel ∷ text ∷ []) = Ok (says (text ++ 10 ∷ []))
 puts_form (option ∷ channel ∷ text ∷ []) = Ok (says text)
@@ -135,7 +137,7 @@ told_or_tested topic [] = Ok (tells topic)
 told_or_tested topic (word ∷ []) = Ok (tests topic word)
 told_or_tested topic (word ∷ other ∷ others) = Err bad_arguments
 
--- `module-info`: what it is asked about else is left out
+-- `module-info`: with any other first word it is unsupported
 abbrev pub info_form : List Text → CallForm
 info_form [] = Err bad_arguments
 info_form (topic ∷ words) =
@@ -150,7 +152,7 @@ info_form (topic ∷ words) =
 abbrev pub description : List Text → Record
 description words = Whatis (join_with_byte 32 words)
 
--- why a name that is none of the commands' isn't one
+-- why a name is no command of this tool
 abbrev pub not_a_command : Text → CallReason
 not_a_command name = if is_among left_out_module_commands name then left_out name else unknown
 

@@ -1,5 +1,5 @@
--- A modulefile evaluated: from its text to its records, messages and effects, or to why it is refused. The rules are
--- those of Tcl.
+-- A modulefile evaluated: from its text to its records, messages and effects, or to why it is refused. The rules of
+-- evaluation are those of Tcl (Tcl(n)), and what the commands mean is in modulefile(5).
 use Rattle.std.specs.Prelude.{◌≡◌, ◌⊎◌, ℕ, Bool, false, List, [], ◌∷◌, codes, Option, Some, None, Result, Ok, Err}
 use Rattle.environment.specs.Texts.{Text}
 use Rattle.environment.specs.Environment.{Environment}
@@ -18,11 +18,11 @@ use Rattle.modulefile.specs.Results.{◌>>=◌}
 use Rattle.modulefile.specs.Calls.{CallReason}
 use Rattle.modulefile.specs.Answers.{Context, records_in, by_record, oracle_of}
 
--- nothing is told before
+-- before the file: no record, no message, no question, no refusal
 abbrev pub untold : Told
 untold = record { records = []; messages = []; asked = false; refused = None }
 
--- a file knows its own path
+-- the global variables at the beginning: a file has its own path
 abbrev pub globals_of : Text → Variables
 globals_of path = (codes "ModulesCurrentModulefile", path) ∷ []
 
@@ -31,7 +31,7 @@ abbrev pub setting_of : Limits → Context → Text → Setting
 setting_of limits c text =
     record { limits = limits; script = text; globals = globals_of c.path; oracle = oracle_of c; told = untold }
 
--- What a file leaves that ended: its records, its messages, whether it asked, and what the records made of the
+-- What an accepted file leaves: its records, its messages, whether it asked, and what the records made of the
 -- environment before it.
 pub record Ran : Type 0 where
   pub records : List Record
@@ -46,23 +46,25 @@ pub data Stop : Type 0 where
   refused : Refusal → Stop
   failed : (message : Text) (line : ℕ) → Stop
 
--- what was told, as records and their effects
+-- the records of an evaluation, and their effects
 abbrev pub ran_of : Context → Told → Result Ran CallReason
 ran_of c told =
     records_in told.records >>= (λ rs.
     by_record (effects c.mode c.name rs c.start) >>= (λ e.
     Ok (record { records = rs; messages = told.messages; asked = told.asked; env = e })))
 
--- a halt by the host is the refusal that it was told
+-- a halt by the host is the refusal of a command, which the evaluation has by number and name
 abbrev pub refused_by : ℕ → Option Refusal → Stop
 refused_by n None = halted (ByHost n)
 refused_by n (Some refusal) = refused refusal
 
+-- why a halted file is refused
 abbrev pub stop_by : Halt → Option Refusal → Stop
 stop_by (ByHost n) refusal = refused_by n refusal
 stop_by halt refusal = halted halt
 
--- From how the evaluation ended. A file ends by no return, break or continue: the rules of evaluation see to these.
+-- The outcome of a file by how its evaluation ended. No file ends by return, break or continue: the rules of evaluation
+-- make the end of the file or an error of them.
 abbrev pub FinishesFile : Context → Text → Outcome Ending → Told → Result Ran Stop → Type 0
 FinishesFile c text (Ended (Normal result s)) told o = (ran : Ran) × (ran_of c told ≡ Ok ran) × (o ≡ Ok ran)
 FinishesFile c text (Ended (Raised message s)) told o = o ≡ Err (failed message (line_at text s.place))
@@ -71,7 +73,7 @@ FinishesFile c text (Ended (Broken s)) told o = ⊥
 FinishesFile c text (Ended (Continued s)) told o = ⊥
 FinishesFile c text (Halted halt) told o = o ≡ Err (stop_by halt told.refused)
 
--- The text of a modulefile, evaluated in a context, comes to this.
+-- The text of a modulefile, evaluated in a context under these limits, has this outcome.
 abbrev pub RunsFile : Limits → Context → Text → Result Ran Stop → Type 0
 RunsFile limits c text o =
     (out : Outcome Ending) × (w : World) × ComesTo (setting_of limits c text) out w × FinishesFile c text out w.told o
@@ -80,7 +82,7 @@ RunsFile limits c text o =
 abbrev pub module_of : Context → Ran → Module
 module_of c ran = record { name = c.name; path = c.path; records = ran.records }
 
--- the numbers of the refusals
+-- the numbers by which files are refused
 abbrev pub halt_number : Halt → ℕ
 halt_number OutOfMemory = 31
 halt_number (BadText fault) = fault_number fault
@@ -98,26 +100,25 @@ stop_number (halted halt) = halt_number halt
 stop_number (refused refusal) = refusal.number
 stop_number (failed message line) = 13
 
--- An evaluation left the same records as this one, or was refused by the host.
+-- An evaluation has the same records as this one, or the host refused a command of it.
 abbrev pub IsSameOrRefused : Ran → Result Ran Stop → Type 0
 IsSameOrRefused ran o =
     ((again : Ran) × (o ≡ Ok again) × (again.records ≡ ran.records))
     ⊎ ((n : ℕ) × (refusal : Option Refusal) × (o ≡ Err (refused_by n refusal)))
 
--- A file played: the definition as a function that computes. The number bounds how long a way may be; None where that
--- is too little.
-abbrev pub ran_shown : Result Ran CallReason → Option (Result Ran Stop)
-ran_shown (Ok ran) = Some (Ok ran)
-ran_shown (Err reason) = None
+-- A file played: the definition as a function that computes. The number bounds the steps; None where it is too small.
+abbrev pub played_ran : Result Ran CallReason → Option (Result Ran Stop)
+played_ran (Ok ran) = Some (Ok ran)
+played_ran (Err reason) = None
 
-abbrev pub shown : Context → Text → Played Ending → Option (Result Ran Stop)
-shown c text None = None
-shown c text (Some (Ended (Normal result s), w)) = ran_shown (ran_of c w.told)
-shown c text (Some (Ended (Raised message s), w)) = Some (Err (failed message (line_at text s.place)))
-shown c text (Some (Ended (Returned result s), w)) = None
-shown c text (Some (Ended (Broken s), w)) = None
-shown c text (Some (Ended (Continued s), w)) = None
-shown c text (Some (Halted halt, w)) = Some (Err (stop_by halt w.told.refused))
+abbrev pub played_outcome : Context → Text → Played Ending → Option (Result Ran Stop)
+played_outcome c text None = None
+played_outcome c text (Some (Ended (Normal result s), w)) = played_ran (ran_of c w.told)
+played_outcome c text (Some (Ended (Raised message s), w)) = Some (Err (failed message (line_at text s.place)))
+played_outcome c text (Some (Ended (Returned result s), w)) = None
+played_outcome c text (Some (Ended (Broken s), w)) = None
+played_outcome c text (Some (Ended (Continued s), w)) = None
+played_outcome c text (Some (Halted halt, w)) = Some (Err (stop_by halt w.told.refused))
 
 abbrev pub play : Limits → Context → Text → ℕ → Option (Result Ran Stop)
-play limits c text steps = shown c text (play_file (setting_of limits c text) steps)
+play limits c text steps = played_outcome c text (play_file (setting_of limits c text) steps)

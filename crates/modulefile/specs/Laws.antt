@@ -1,4 +1,4 @@
--- The laws of modulefiles.
+-- The laws of modulefiles (own).
 use Rattle.std.specs.Prelude.{◌≡◌, ℕ, true, false, List, Some, Result, Ok}
 use Rattle.std.specs.List.{list_all}
 use Rattle.environment.specs.Texts.{Text}
@@ -11,7 +11,7 @@ use Rattle.modulefile.specs.Calls.{call_of}
 use Rattle.modulefile.specs.Answers.{Context, oracle_of, call_adds, call_asks}
 use Rattle.modulefile.specs.Files.{Ran, Stop, RunsFile, IsSameOrRefused, play}
 
--- A modulefile comes to one outcome, and there is one.
+-- A modulefile has one outcome at most, and has one.
 abbrev pub OneOutcome : Type 0
 OneOutcome =
     (limits : Limits) (c : Context) (text : Text) (o p : Result Ran Stop) → RunsFile limits c text o
@@ -28,15 +28,15 @@ IsDone (Unknown asks) = ⊥
 IsDone (LeftOut name asks) = ⊥
 IsDone (Refused n name asks) = ⊥
 
--- What a command that is done adds, and whether it asks, its words say: not the mode, the environment or what went
--- before.
+-- What a command adds that is done, and whether it is a question, depends on its words alone: not on the mode, the
+-- environment or the commands before it.
 abbrev pub WordsSay : Type 0
 WordsSay =
     (c : Context) (told : List oracle.CommandWords) (words : List Text) → IsDone ((oracle_of c).command told words)
     → (addition ((oracle_of c).command told words) ≡ call_adds words (call_of words))
     × (is_question ((oracle_of c).command told words) ≡ call_asks (call_of words))
 
--- A command that isn't done adds nothing and asks nothing.
+-- A command that isn't done adds nothing and is no question.
 abbrev pub NothingElseAdds : Type 0
 NothingElseAdds =
     (c : Context) (told : List oracle.CommandWords) (words : List Text)
@@ -62,7 +62,7 @@ ChangesNothing unload = ⊥
 ChangesNothing display = Unit {0}
 ChangesNothing whatis = Unit {0}
 
--- Where a file is shown, or asked for its description, the environment stays.
+-- In such a mode the environment is unchanged.
 abbrev pub ShowingLeaves : Type 0
 ShowingLeaves =
     (limits : Limits) (c : Context) (text : Text) (ran : Ran) → ChangesNothing c.mode → RunsFile limits c text (Ok ran)
@@ -75,7 +75,7 @@ PlainFilesAgree =
     (limits : Limits) (c d : Context) (text : Text) (ran : Ran) (o : Result Ran Stop) → RunsFile limits c text (Ok ran)
     → ran.asked ≡ false → d.name ≡ c.name → d.path ≡ c.path → RunsFile limits d text o → IsSameOrRefused ran o
 
--- What playing a file gives is what it comes to.
+-- What playing a file gives is its outcome.
 abbrev pub PlayedRuns : Type 0
 PlayedRuns =
     (limits : Limits) (c : Context) (text : Text) (steps : ℕ) (o : Result Ran Stop) → play limits c text steps ≡ Some o

@@ -1,4 +1,4 @@
--- The numbers of what refuses a record, and what it says: those of the variable's fault, or its own.
+-- The numbers and texts of the faults of records (own): those of the variable's fault, or 44.
 use Rattle.std.specs.Prelude.{ℕ, codes, string_bytes}
 use Rattle.message.specs.Messages.{Text, quoting}
 use Rattle.environment.specs.Reasons as edits

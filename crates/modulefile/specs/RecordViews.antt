@@ -1,4 +1,4 @@
--- The records of the program, as the definitions see them, and how their edits are answered.
+-- What the records of the code stand for in the definitions, and what its answers to their edits mean (own).
 use Rattle.std.specs.Prelude.{◌≡◌, string_bytes, Option, Some, None, IfSome, Result, Ok, Err}
 use Rattle.std.specs.Option.{option_map}
 use Rattle.environment.specs.Texts.{texts_in}
@@ -15,12 +15,14 @@ use Rattle.modulefile.specs.declared.record_fault.RecordFault.{RecordFault}
 use Rattle.modulefile.specs.declared.record_fault.RecordFault.TheVariants as faults
 use Rattle.modulefile.specs.CallViews.{edit_record}
 
+-- a mode
 abbrev pub mode_view : Mode → effects.Mode
 mode_view modes.Load = effects.load
 mode_view modes.Unload = effects.unload
 mode_view modes.Display = effects.display
 mode_view modes.Whatis = effects.whatis
 
+-- a record
 abbrev pub record_view : Record → records.Record
 record_view (code.Set var value) = records.Set (string_bytes var) (string_bytes value)
 record_view (code.Unset var value) = records.Unset (string_bytes var) (option_map string_bytes value)
@@ -39,12 +41,12 @@ fault_reason (faults.BadModuleName name) = Some (bad_module_name (string_bytes n
 abbrev pub HasFault : RecordReason → RecordFault → Type 0
 HasFault reason fault = IfSome (fault_reason fault) (λ r. r ≡ reason)
 
--- A judgment ends well where there is no reason against it, and else for that reason, or for want of memory.
+-- A judgment is good where there is no reason against it, and else has that reason, or memory ran out.
 abbrev pub IsJudged : Result (Unit {0}) RecordFault → Option RecordReason → Type 0
 IsJudged (Ok u) refusal = refusal ≡ None
 IsJudged (Err fault) refusal = IfSome (fault_reason fault) (λ r. refusal ≡ Some r)
 
--- An edit ends as the outcome says, or for want of memory. A refused edit leaves the environment as it was.
+-- An edit has this outcome, or memory ran out. A refused edit leaves the environment as it was.
 abbrev pub IsEdited : Result (Unit {0}) RecordFault → Environment → Environment → Result Environment RecordReason
     → Type 0
 IsEdited (Ok u) old new outcome = outcome ≡ Ok new

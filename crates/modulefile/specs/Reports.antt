@@ -1,5 +1,5 @@
--- What is reported of the records of a file (own): each as a command with its words, in the writing of lists, and the
--- descriptions.
+-- The reports of `show` and `whatis` (module(1); the layout is own): the records of a file, each as a command whose
+-- words are written as a list of Tcl, and its descriptions.
 use Rattle.std.specs.Prelude.{ℕ, ◌==◌, List, [], ◌∷◌, ◌++◌, codes, flat_map, if◌then◌else◌, Some, None}
 use Rattle.std.specs.List.{join_with_byte}
 use Rattle.tcllist.specs.Lists.{list_text}
@@ -33,6 +33,6 @@ line_of text = text ++ 10 ∷ []
 abbrev pub show_text : Text → List Record → Text
 show_text path rs = line_of (path ++ codes ":") ++ flat_map (λ r. line_of (list_text (shown_words r))) rs
 
--- a line for each description, behind the module's name
+-- a line for each description, after the module's name
 abbrev pub whatis_text : Text → List Record → Text
 whatis_text name rs = flat_map (λ text. line_of (name ++ codes ": " ++ text)) (whatis_texts rs)

@@ -1,4 +1,4 @@
--- One step after another, up to the first reason.
+-- Results one after another, up to the first reason (own).
 use Rattle.std.specs.Prelude.{Result, Ok, Err}
 
 infixl 10 ◌>>=◌

@@ -1,4 +1,4 @@
--- What worked files come to, in every environment.
+-- The words in which rows state the outcomes of worked files, in every environment (own).
 use Rattle.std.specs.Prelude.{ℕ, true, false, List, [], ◌∷◌, ◌++◌, codes, Some, None, Ok, Err}
 use Rattle.environment.specs.Texts.{Text}
 use Rattle.environment.specs.Environment.{Environment, with_value}
@@ -10,7 +10,7 @@ use Rattle.shells.specs.declared.shell.Shell.TheVariants.{Sh}
 use Rattle.modulefile.specs.Answers.{Context}
 use Rattle.modulefile.specs.Files.{halted, refused, failed, RunsFile}
 
--- what every command may use
+-- the limits of every command
 abbrev pub standard : Limits
 standard = record { commands = 100000; depth = 200; value_bytes = 1048576 }
 
@@ -41,11 +41,11 @@ unloading = context unload
 abbrev pub showing : Seat
 showing = context display
 
--- the file of these lines, behind the one that marks a modulefile
+-- the file of these lines, after the one that marks a modulefile
 abbrev pub file : Text → Text
 file lines = codes "#%Module\n" ++ lines
 
--- what the file makes of the environment
+-- what the file makes of the environment: nothing, a variable set, or one unset
 abbrev pub stays : Environment → Environment
 stays e = e
 
@@ -69,7 +69,7 @@ LeavesAsking seat lines records makes =
     → RunsFile standard (seat e) (file lines)
     (Ok (record { records = records; messages = []; asked = true; env = makes e }))
 
--- it leaves messages alone
+-- it leaves messages, and nothing else
 abbrev pub LeavesMessages : Seat → Text → List Text → Type 0
 LeavesMessages seat lines messages =
     (e : Environment)

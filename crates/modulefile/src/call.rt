@@ -1,4 +1,4 @@
-//! The commands of modulefiles, with their words in their places.
+//! The commands of modulefiles (modulefile(5)), read from their words.
 ghost use Rattle.std.specs.Prelude.{◌≡◌, map, string_bytes};
 ghost use Rattle.std.specs.Option.{option_map};
 ghost use Rattle.tclchars.specs.Runs.{begins};
@@ -15,15 +15,18 @@ use crate::delimiter::Delimiter;
 use std::alloc::Global;
 use tclarguments::is_left_out_of_modules;
 
-/// What a question of `module-info` is about.
+/// What `module-info` answers with its first word alone, and tests where a second word follows.
 #[derive(Clone, Copy, Debug, PartialEq, Eq)]
 pub enum Topic {
+    /// What the file is evaluated for, `load` or `unload` or another mode.
     Mode,
+    /// The shell that gets the text, by its name.
     Shell,
+    /// The family of that shell, by its name.
     ShellType,
 }
 
-/// What a path command does with its elements.
+/// Where a path command puts its elements, or that it drops them.
 #[derive(Clone, Copy, Debug, PartialEq, Eq)]
 pub enum PathEdit {
     /// `prepend-path`
@@ -34,7 +37,7 @@ pub enum PathEdit {
     Remove,
 }
 
-/// A command, with its words.
+/// A command of a modulefile, whose words fit it. It borrows them.
 #[derive(Clone, Copy)]
 pub enum Call<'a> {
     /// `setenv VAR value`
@@ -94,13 +97,14 @@ struct PathWords<'a> {
     words: &'a [String],
 }
 
+/// Whether a word is an option: it begins with `-`.
 fn is_option(word: &str) -> bool
     ensures { result ≡ begins 45 word.now }
 {
     matches!(word.as_bytes(), [b'-', ..])
 }
 
-/// The words, of which the first is no option.
+/// The words of a command that has no options: the first may not be one.
 fn no_option(words: &[String]) -> Result<&[String], CallFault>
     ensures { Gives reason_of (λ ws. texts_of ws.now) result (no_option (map string_bytes words.entry.now)) }
 {
@@ -110,6 +114,7 @@ fn no_option(words: &[String]) -> Result<&[String], CallFault>
     }
 }
 
+/// Reads the words of `setenv`.
 fn set_form(words: &[String]) -> Result<Call<'_>, CallFault>
     ensures { Gives reason_of call_view result (without_option (var_and_value Set) (map string_bytes words.entry.now)) }
 {
@@ -119,6 +124,7 @@ fn set_form(words: &[String]) -> Result<Call<'_>, CallFault>
     }
 }
 
+/// Reads the words of `pushenv`.
 fn push_form(words: &[String]) -> Result<Call<'_>, CallFault>
     ensures { Gives reason_of call_view result
         (without_option (var_and_value Push) (map string_bytes words.entry.now)) }
@@ -129,6 +135,7 @@ fn push_form(words: &[String]) -> Result<Call<'_>, CallFault>
     }
 }
 
+/// Reads the words of `unsetenv`.
 fn unset_form(words: &[String]) -> Result<Call<'_>, CallFault>
     ensures { Gives reason_of call_view result (without_option var_and_perhaps (map string_bytes words.entry.now)) }
 {
@@ -142,7 +149,7 @@ fn unset_form(words: &[String]) -> Result<Call<'_>, CallFault>
     }
 }
 
-/// The delimiter that a word says: one character from the space to the tilde.
+/// The delimiter that a text is, one character from the space to the tilde, and the words after it.
 fn with_delimiter<'a>(text: &str, words: &'a [String]) -> Result<PathWords<'a>, CallFault>
     ensures { Gives reason_of path_words_view result (with_delimiter text.now (map string_bytes words.entry.now)) }
 {
@@ -155,6 +162,7 @@ fn with_delimiter<'a>(text: &str, words: &'a [String]) -> Result<PathWords<'a>, 
     }
 }
 
+/// Reads a delimiter that is the next word, and the words after it.
 fn by_next_word(words: &[String]) -> Result<PathWords<'_>, CallFault>
     ensures { Gives reason_of path_words_view result (by_next_word (map string_bytes words.entry.now)) }
 {
@@ -164,6 +172,7 @@ fn by_next_word(words: &[String]) -> Result<PathWords<'_>, CallFault>
     }
 }
 
+/// Reads the option of a path command, which has its delimiter: `-d C`, `--delim C` or `--delim=C`.
 fn by_option<'a>(option: &str, words: &'a [String]) -> Result<PathWords<'a>, CallFault>
     ensures { Gives reason_of path_words_view result (by_option option.now (map string_bytes words.entry.now)) }
 {
@@ -176,6 +185,7 @@ fn by_option<'a>(option: &str, words: &'a [String]) -> Result<PathWords<'a>, Cal
     }
 }
 
+/// Reads the words of a path command up to VAR. Without an option its delimiter is the colon.
 fn delimited(words: &[String]) -> Result<PathWords<'_>, CallFault>
     ensures { Gives reason_of path_words_view result (delimited (map string_bytes words.entry.now)) }
 {
@@ -189,6 +199,7 @@ fn delimited(words: &[String]) -> Result<PathWords<'_>, CallFault>
     }
 }
 
+/// Reads the words of a path command, which has one value or more.
 fn path_form(edit: PathEdit, words: &[String]) -> Result<Call<'_>, CallFault>
     ensures { Gives reason_of call_view result (path_form (edit_record edit) (map string_bytes words.entry.now)) }
 {
@@ -204,6 +215,7 @@ fn path_form(edit: PathEdit, words: &[String]) -> Result<Call<'_>, CallFault>
     }
 }
 
+/// Reads the words of `conflict`.
 fn conflict_form(words: &[String]) -> Result<Call<'_>, CallFault>
     ensures { Gives reason_of call_view result
         (without_option (some_words Conflict) (map string_bytes words.entry.now)) }
@@ -214,6 +226,7 @@ fn conflict_form(words: &[String]) -> Result<Call<'_>, CallFault>
     }
 }
 
+/// Reads the words of `prereq`.
 fn prereq_form(words: &[String]) -> Result<Call<'_>, CallFault>
     ensures { Gives reason_of call_view result (without_option (some_words Prereq) (map string_bytes words.entry.now)) }
 {
@@ -223,6 +236,7 @@ fn prereq_form(words: &[String]) -> Result<Call<'_>, CallFault>
     }
 }
 
+/// Reads the words of `module-whatis`, which may begin with `-`.
 fn whatis_form(words: &[String]) -> Result<Call<'_>, CallFault>
     ensures { Gives reason_of call_view result (some_words description (map string_bytes words.entry.now)) }
 {
@@ -232,6 +246,7 @@ fn whatis_form(words: &[String]) -> Result<Call<'_>, CallFault>
     }
 }
 
+/// Reads the words of `getenv`.
 fn getenv_form(words: &[String]) -> Result<Call<'_>, CallFault>
     ensures { Gives reason_of call_view result (without_option getenv_form (map string_bytes words.entry.now)) }
 {
@@ -242,13 +257,14 @@ fn getenv_form(words: &[String]) -> Result<Call<'_>, CallFault>
     }
 }
 
+/// Reads the words of `is-loaded`.
 fn loaded_form(words: &[String]) -> Result<Call<'_>, CallFault>
     ensures { Gives reason_of call_view result (without_option asked_of_loaded (map string_bytes words.entry.now)) }
 {
     Ok(Call::IsLoaded(no_option(words)?))
 }
 
-/// The evaluator hands on a channel and a text, or an option before them.
+/// Reads the words of `puts`. The evaluator hands on only the channel `stderr` and a text, or `-nonewline` before them.
 fn puts_form(words: &[String]) -> Result<Call<'_>, CallFault>
     ensures { Gives reason_of call_view result (puts_form (map string_bytes words.entry.now)) }
 {
@@ -265,6 +281,7 @@ fn puts_form(words: &[String]) -> Result<Call<'_>, CallFault>
     }
 }
 
+/// Reads the words of `module-info` after its first: none, or one that is tested.
 fn told_or_tested(topic: Topic, words: &[String]) -> Result<Call<'_>, CallFault>
     ensures { Gives reason_of call_view result (told_or_tested (topic_view topic) (map string_bytes words.entry.now)) }
 {
@@ -275,7 +292,7 @@ fn told_or_tested(topic: Topic, words: &[String]) -> Result<Call<'_>, CallFault>
     }
 }
 
-/// The call, where no word follows.
+/// The call, which takes no further word.
 fn alone<'a>(call: Call<'a>, words: &[String]) -> Result<Call<'a>, CallFault>
     ensures { Gives reason_of call_view result (alone (call_view call.entry) (map string_bytes words.entry.now)) }
 {
@@ -285,6 +302,7 @@ fn alone<'a>(call: Call<'a>, words: &[String]) -> Result<Call<'a>, CallFault>
     }
 }
 
+/// Reads the words of `module-info`, of which the first names what it is about.
 fn info_form<'a>(alloc: Global, words: &'a [String]) -> Result<Call<'a>, CallFault>
     ensures { Gives reason_of call_view result (info_form (map string_bytes words.entry.now)) }
 {
@@ -301,7 +319,7 @@ fn info_form<'a>(alloc: Global, words: &'a [String]) -> Result<Call<'a>, CallFau
     }
 }
 
-/// Why a name that is none of the commands' isn't one.
+/// The fault of a name that is no command of this tool: unsupported on purpose, or unknown.
 fn unknown_or_left_out(alloc: Global, name: &str) -> CallFault
     ensures { HasReason (not_a_command name.now) result }
 {
@@ -314,9 +332,9 @@ fn unknown_or_left_out(alloc: Global, name: &str) -> CallFault
 
 /// The command that these words call, the first of which is its name. Nothing of the environment is looked at.
 ///
-/// Errors: `Unknown`, no such command is known; `LeftOut` (19), it, or this part of it, is left out; `BadArguments`
-/// (56), the words don't fit it, as a wrong number of them, an option, or a delimiter that isn't one character from the
-/// space to the tilde; or want of memory.
+/// Errors: `Unknown`, no such command is known; `LeftOut` (19), the command, or this part of it, is unsupported;
+/// `BadArguments` (56), the words don't fit the command, as a wrong number of them, an option, or a delimiter that
+/// isn't one character from the space to the tilde; or `OutOfMemory`.
 #[tactic(auto, unfolding(crate::specs::Calls::call_of))]
 pub fn call_of<'a>(alloc: Global, words: &'a [String]) -> Result<Call<'a>, CallFault>
     ensures { Gives reason_of call_view result (call_of (map string_bytes words.entry.now)) }

@@ -1,25 +1,25 @@
-//! Why a command of a modulefile isn't done, whatever environment it finds.
+//! Why the words of a command of a modulefile call none.
 ghost use Rattle.std.specs.Prelude.{◌++◌, codes};
 ghost use Rattle.modulefile.specs.Calls.{left_out};
 ghost use Rattle.modulefile.specs.CallViews.{HasReason};
 
 use std::alloc::{AllocError, Global};
 
-/// Why the words of a command call none.
+/// Why the words of a command call none, whatever environment it finds.
 #[derive(Debug, Drop)]
 pub enum CallFault {
     /// Memory ran out.
     OutOfMemory,
     /// No such command is known.
     Unknown,
-    /// The command, or this part of it, is left out.
+    /// The command of this name, or this part of it, is unsupported on purpose.
     LeftOut(String),
     /// The words don't fit the command.
     BadArguments,
 }
 
 impl CallFault {
-    /// What has this name is left out.
+    /// The fault that the command of this name is unsupported.
     pub(crate) fn left_out(alloc: Global, name: &str) -> CallFault
         ensures { HasReason (left_out name.now) result }
     {
@@ -29,7 +29,7 @@ impl CallFault {
         }
     }
 
-    /// `module-info` about this is left out.
+    /// The fault that `module-info` is unsupported with this first word.
     pub(crate) fn left_out_info(alloc: Global, topic: &str) -> CallFault
         ensures { HasReason (left_out (codes "module-info " ++ topic.now)) result }
     {

@@ -1,9 +1,9 @@
-//! What parts the elements of a path.
+//! The delimiters of path variables (modulefile(5), the option `--delim`).
 ghost use Rattle.std.specs.Prelude.{◌≡◌, ◌≤◌, if◌then◌else◌, Some, None};
 ghost use Rattle.std.specs.Option.{option_map};
 ghost use Rattle.pathstate.specs.PathTexts.{is_delimiter};
 
-/// What parts the elements of a path: one character, from the space to the tilde.
+/// The character between the elements of a path variable, one from the space to the tilde of ASCII.
 #[derive(Clone, Copy, Debug)]
 pub struct Delimiter {
     pub character: char,
@@ -12,7 +12,7 @@ pub struct Delimiter {
 }
 
 impl Delimiter {
-    /// The colon, where a command says no other.
+    /// The colon, the delimiter of a command without the option.
     pub const COLON: Delimiter = Delimiter { character: ':' };
 
     /// The delimiter of this character, if it may be one.

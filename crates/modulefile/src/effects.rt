@@ -1,4 +1,4 @@
-//! The effects of records on an environment, by mode.
+//! The effects of records on an environment, by mode (modulefile(5)).
 ghost use Rattle.std.specs.Prelude.{◌≡◌, ◌<◌, map, string_bytes};
 ghost use Rattle.std.specs.List.{list_all};
 ghost use Rattle.std.specs.Option.{option_map};
@@ -19,7 +19,7 @@ use pathstate::{End, add_path, drop_path};
 use stackstate::{pop_value, push_value};
 use std::alloc::Global;
 
-/// The variable can't take a value.
+/// The fault of a variable that can't take a value (37).
 fn bad_value(alloc: Global, var: &str) -> RecordFault
     ensures { HasFault (bad_edit (bad_value var.now)) result }
 {
@@ -29,7 +29,7 @@ fn bad_value(alloc: Global, var: &str) -> RecordFault
     }
 }
 
-/// Refuses variables that can't be edited, and then a value with NUL.
+/// Refuses a variable that can't be edited, and then a value with NUL.
 fn judge_plain(alloc: Global, var: &str, value: Option<&str>) -> Result<(), RecordFault>
     ensures { IsJudged result
         (option_map bad_edit (plain_reason var.now (values_of (option_map (λ v. v.now) value.entry)))) }
@@ -43,6 +43,7 @@ fn judge_plain(alloc: Global, var: &str, value: Option<&str>) -> Result<(), Reco
     }
 }
 
+/// Whether a text is an element of a path: it has no NUL and no delimiter.
 fn is_element(delim: Delimiter, text: &str) -> bool
     ensures { result ≡ is_element delim.character text.now }
 {
@@ -50,6 +51,7 @@ fn is_element(delim: Delimiter, text: &str) -> bool
     text.as_bytes().iter().all(|b| !(*b == delim || *b == 0))
 }
 
+/// Whether all texts are elements of a path.
 fn are_elements(delim: Delimiter, texts: &[String]) -> bool
     ensures { result ≡ list_all (is_element delim.character) (map string_bytes texts.now) }
 {
@@ -63,7 +65,7 @@ fn are_elements(delim: Delimiter, texts: &[String]) -> bool
     true
 }
 
-/// Refuses variables that can't be edited, and then elements.
+/// Refuses a variable that can't be edited, and then texts that aren't elements.
 fn judge_path(
     alloc: Global,
     var: &str,
@@ -82,7 +84,7 @@ fn judge_path(
     Ok(())
 }
 
-/// Refuses the first name that is ill spelled.
+/// Refuses the first name of a module that is ill spelled.
 fn judge_names(alloc: Global, names: &[String]) -> Result<(), RecordFault>
     ensures { IsJudged result (names_reason (map string_bytes names.now)) }
 {
@@ -99,11 +101,11 @@ fn judge_names(alloc: Global, names: &[String]) -> Result<(), RecordFault>
     Ok(())
 }
 
-/// Refuses a record that is forbidden whatever environment it finds.
-fn judge(alloc: Global, kept: &Record) -> Result<(), RecordFault>
-    ensures { IsJudged result (record_reason (record_view kept.now)) }
+/// Refuses a record that no environment would take.
+fn judge(alloc: Global, recorded: &Record) -> Result<(), RecordFault>
+    ensures { IsJudged result (record_reason (record_view recorded.now)) }
 {
-    match kept {
+    match recorded {
         Record::Set { var, value } => judge_plain(alloc, var, Some(value.as_str())),
         Record::Unset { var, value } => judge_plain(alloc, var, value.as_deref()),
         Record::Push { var, value } => judge_plain(alloc, var, Some(value.as_str())),
@@ -119,6 +121,7 @@ fn judge(alloc: Global, kept: &Record) -> Result<(), RecordFault>
     }
 }
 
+/// Adds elements to a path variable, at its front or its back.
 fn add<V: Vars>(
     alloc: Global,
     env: &mut V,
@@ -135,6 +138,7 @@ fn add<V: Vars>(
     add_path(alloc, env, var, delim.character, slices.as_slice(), end)
 }
 
+/// Drops elements from a path variable.
 fn drop<V: Vars>(
     alloc: Global,
     env: &mut V,
@@ -150,13 +154,13 @@ fn drop<V: Vars>(
     drop_path(alloc, env, var, delim.character, slices.as_slice())
 }
 
-/// What loading makes of a record.
-fn load<V: Vars>(alloc: Global, owner: &str, kept: &Record, env: &mut V) -> Result<(), EnvFault>
+/// Edits the environment as the load of a module with this record does.
+fn load<V: Vars>(alloc: Global, owner: &str, recorded: &Record, env: &mut V) -> Result<(), EnvFault>
     ensures edits { Edits result (V.vars env.old) (V.vars env.new)
-        (loaded_by owner.now (record_view kept.now) (V.vars env.old)) }
+        (loaded_by owner.now (record_view recorded.now) (V.vars env.old)) }
     ensures under { V.under env.new ≡ V.under env.old }
 {
-    match kept {
+    match recorded {
         Record::Set { var, value } => env.set(var, value),
         Record::Unset { var, .. } => env.unset(var),
         Record::Push { var, value } => push_value(alloc, env, var, owner, value),
@@ -176,13 +180,18 @@ fn load<V: Vars>(alloc: Global, owner: &str, kept: &Record, env: &mut V) -> Resu
     }
 }
 
-/// What unloading makes of a record.
-fn unload<V: Vars>(alloc: Global, owner: &str, kept: &Record, env: &mut V) -> Result<(), EnvFault>
+/// Edits the environment as the unload of a module with this record does.
+fn unload<V: Vars>(
+    alloc: Global,
+    owner: &str,
+    recorded: &Record,
+    env: &mut V,
+) -> Result<(), EnvFault>
     ensures edits { Edits result (V.vars env.old) (V.vars env.new)
-        (unloaded_by owner.now (record_view kept.now) (V.vars env.old)) }
+        (unloaded_by owner.now (record_view recorded.now) (V.vars env.old)) }
     ensures under { V.under env.new ≡ V.under env.old }
 {
-    match kept {
+    match recorded {
         Record::Set { var, .. } => env.unset(var),
         Record::Unset { var, value } => match value {
             Some(value) => env.set(var, value),
@@ -205,21 +214,21 @@ fn unload<V: Vars>(alloc: Global, owner: &str, kept: &Record, env: &mut V) -> Re
     }
 }
 
-/// What the mode makes of a record.
+/// Edits the environment as a file with this record does in the mode: only loads and unloads change it.
 fn edit<V: Vars>(
     alloc: Global,
     mode: Mode,
     owner: &str,
-    kept: &Record,
+    recorded: &Record,
     env: &mut V,
 ) -> Result<(), EnvFault>
     ensures edits { Edits result (V.vars env.old) (V.vars env.new)
-        (edited (mode_view mode) owner.now (record_view kept.now) (V.vars env.old)) }
+        (edited (mode_view mode) owner.now (record_view recorded.now) (V.vars env.old)) }
     ensures under { V.under env.new ≡ V.under env.old }
 {
     match mode {
-        Mode::Load => load(alloc, owner, kept, env),
-        Mode::Unload => unload(alloc, owner, kept, env),
+        Mode::Load => load(alloc, owner, recorded, env),
+        Mode::Unload => unload(alloc, owner, recorded, env),
         Mode::Display => Ok(()),
         Mode::Whatis => Ok(()),
     }
@@ -229,21 +238,21 @@ fn edit<V: Vars>(
 /// unloading edits the environment.
 ///
 /// It is refused, in this order, by `BadVariable` (32), `Protected` (33) and `BadValue` (37), or by `BadModuleName`
-/// (44) of the first name that is ill spelled, in every mode, and then by `CounterFull` (34) or `BadStack` (36); or for
-/// want of memory. The environment is then as it was.
+/// (44) of the first name that is ill spelled, in every mode, and then by `CounterFull` (34) or `BadStack` (36); or by
+/// `OutOfMemory`. The environment is then as it was.
 pub fn effect<V: Vars>(
     alloc: Global,
     mode: Mode,
     owner: &str,
-    kept: &Record,
+    recorded: &Record,
     env: &mut V,
 ) -> Result<(), RecordFault>
     ensures edits { IsEdited result (V.vars env.old) (V.vars env.new)
-        (effect (mode_view mode) owner.now (record_view kept.now) (V.vars env.old)) }
+        (effect (mode_view mode) owner.now (record_view recorded.now) (V.vars env.old)) }
     ensures under { V.under env.new ≡ V.under env.old }
 {
-    judge(alloc, kept)?;
-    match edit(alloc, mode, owner, kept, env) {
+    judge(alloc, recorded)?;
+    match edit(alloc, mode, owner, recorded, env) {
         Ok(()) => Ok(()),
         Err(fault) => Err(RecordFault::Env(fault)),
     }

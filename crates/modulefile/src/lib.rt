@@ -1,4 +1,6 @@
-//! What the commands of modulefiles mean (modulefile(5)): the definitions, and what holds of them.
+//! What the commands of modulefiles mean in every mode (modulefile(5)), and what a whole file makes of an environment.
+//! Takes memory, and edits the variables that it is given.
+//! Used by modulerun, which evaluates modulefiles, and by reports, requests and requeststep.
 #![tactic(auto)]
 
 mod call;

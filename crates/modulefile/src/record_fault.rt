@@ -1,4 +1,4 @@
-//! Why a record has no effect.
+//! Why a record of a modulefile has no effect.
 ghost use Rattle.std.specs.Prelude.{◌≡◌, Some, IfSome};
 ghost use Rattle.message.specs.Messages.{text_of};
 ghost use Rattle.modulefile.specs.Answers.{record_number};
@@ -14,9 +14,9 @@ use std::fmt::Display;
 /// Why a record has no effect. Its `Display` is what follows `ERROR: `.
 #[derive(Debug, Drop)]
 pub enum RecordFault {
-    /// The variable can't be edited so, or memory ran out.
+    /// The variable can't be edited so, or memory ran out (31).
     Env(EnvFault),
-    /// The name of a module is ill spelled.
+    /// This name of a module is ill spelled.
     BadModuleName(String),
 }
 
@@ -32,7 +32,7 @@ impl RecordFault {
         }
     }
 
-    /// What the fault says.
+    /// The text of the fault.
     pub fn message(&self) -> Message<'_>
         ensures { text_of result ≡ message_of self.now }
     {

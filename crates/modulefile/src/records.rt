@@ -1,17 +1,21 @@
-//! What accepted commands leave on record.
+//! What accepted commands of modulefiles leave on record.
 use crate::call::PathEdit;
 use crate::delimiter::Delimiter;
 
 /// What a file is evaluated for.
 #[derive(Clone, Copy, Debug, PartialEq, Eq)]
 pub enum Mode {
+    /// Its module is loaded.
     Load,
+    /// Its module is unloaded.
     Unload,
+    /// Its commands are shown, by `show`.
     Display,
+    /// Its descriptions are shown, by `whatis`.
     Whatis,
 }
 
-/// What a command leaves on record.
+/// What an accepted command leaves on record: what it does, whatever the mode.
 #[derive(Debug, Drop)]
 pub enum Record {
     /// `setenv VAR value`

@@ -1,4 +1,5 @@
-//! Worked modulefiles and what they come to, by computation, in every environment. More are rows of `cases_requests`.
+//! Worked modulefiles with their outcomes in every environment, computed from the definitions. More are rows of
+//! `cases_requests`.
 ghost use Rattle.std.specs.Prelude.{◌≡◌, [], ◌∷◌, codes, Some, None};
 ghost use Rattle.tclrules.specs.Derivation.{LeftOut};
 ghost use Rattle.modulerecords.specs.Records.{Set, Unset, Front, Back, Conflict, Prereq, Whatis};
@@ -18,7 +19,7 @@ pub fn file_rows()
         (Unset (codes "LANG") (Some (codes "C")) ∷ []) (sets (codes "LANG") (codes "C")) }
 {}
 
-/// Paths and their delimiters.
+/// Path commands and their delimiters.
 pub fn path_rows()
     ensures delimiters { LeavesRecords showing (codes "prepend-path -d {;} Q {a:b;c}\nappend-path --delim=: Q a:b")
         (Front 59 (codes "Q") (codes "a:b" ∷ codes "c" ∷ []) ∷ Back 58 (codes "Q") (codes "a" ∷ codes "b" ∷ [])
@@ -27,7 +28,7 @@ pub fn path_rows()
         (Front 58 (codes "P") (codes "-d" ∷ codes "a" ∷ []) ∷ []) stays }
 {}
 
-/// Questions, and their mark.
+/// Questions, which leave the mark that the file asked.
 pub fn question_rows()
     ensures mode_unload { LeavesAsking unloading (codes "if {[module-info mode load]} {setenv X 1}") [] stays }
     ensures loaded { LeavesAsking loading
@@ -37,7 +38,7 @@ pub fn question_rows()
         (Set (codes "H") (codes "$HOME") ∷ []) stays }
 {}
 
-/// How files end, and what they say.
+/// How files end, and their messages.
 pub fn ending_rows()
     ensures messages { LeavesMessages loading (codes "puts stderr hi\nputs -nonewline stderr ho")
         (codes "hi\n" ∷ codes "ho" ∷ []) }
@@ -46,15 +47,15 @@ pub fn ending_rows()
     ensures error { FailsOnLine loading (codes "setenv A 1\n\nerror {no such thing}") (codes "no such thing") 4 }
 {}
 
-/// What is refused, by which number and for which name.
+/// Files that are refused, by which number and for which name.
 pub fn refused_rows()
-    ensures kept { IsRefusedFor loading (codes "catch {setenv LOADEDMODULES x}") 33 (codes "LOADEDMODULES") }
+    ensures protected { IsRefusedFor loading (codes "catch {setenv LOADEDMODULES x}") 33 (codes "LOADEDMODULES") }
     ensures topic { IsHalted loading (codes "module-info nope x y") (LeftOut (codes "module-info nope")) }
 {}
 
-/// Reports of records, in the writing of lists.
+/// The reports of `show` and `whatis`, whose words are written as a list of Tcl.
 pub fn report_rows()
-    ensures shown { show_text (codes "/m/d/1") (Whatis (codes "A B c")
+    ensures commands { show_text (codes "/m/d/1") (Whatis (codes "A B c")
         ∷ Back 58 (codes "P") (codes "/a" ∷ codes "/b" ∷ codes "/c" ∷ [])
         ∷ Prereq (codes "gcc" ∷ codes "icc" ∷ []) ∷ [])
         ≡ codes "/m/d/1:\nmodule-whatis {A B c}\nappend-path P /a:/b:/c\nprereq gcc icc\n" }

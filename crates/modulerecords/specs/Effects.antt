@@ -16,6 +16,7 @@ pub data Mode : Type 0 where
   display : Mode
   whatis : Mode
 
+-- Loading does what the command of the record does.
 abbrev pub loaded_by : Text → Record → Environment → Result Environment EnvReason
 loaded_by owner (Set var value) e = Ok (with_value e var (Some value))
 loaded_by owner (Unset var value) e = Ok (with_value e var None)
@@ -47,7 +48,7 @@ edited unload owner r e = unloaded_by owner r e
 edited display owner r e = Ok e
 edited whatis owner r e = Ok e
 
--- the outcome of an edit
+-- the outcome of an edit, whose reason is then one of records
 abbrev pub by_edit : Result Environment EnvReason → Result Environment RecordReason
 by_edit (Ok e) = Ok e
 by_edit (Err r) = Err (bad_edit r)

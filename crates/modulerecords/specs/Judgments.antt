@@ -1,4 +1,4 @@
--- What forbids a record, whatever environment it finds: first its variable's name, then a variable that the tool keeps,
+-- What forbids a record, whatever environment it finds (own): first its variable's name, then a protected variable,
 -- then a value, a delimiter or an element; of names of modules the first that is ill-spelled.
 use Rattle.std.specs.Prelude.{Bool, List, [], ◌∷◌, if◌then◌else◌, is_none, Option, Some, None}
 use Rattle.std.specs.List.{list_all}

@@ -1,4 +1,4 @@
--- The laws of records and moves.
+-- The laws of records and moves (own).
 use Rattle.std.specs.Prelude.{◌≡◌, true, List, ◌++◌, Ok}
 use Rattle.std.specs.List.{list_all}
 use Rattle.environment.specs.Texts.{Text}
@@ -25,14 +25,14 @@ EffectsGoOn =
 abbrev pub MovedIsProper : Type 0
 MovedIsProper = (m : Move) (old new : Environment) → moved m old ≡ Ok new → IsProper m
 
--- Moves that lead somewhere are proper, and make it.
+-- Moves that reach an environment are proper, and it is their outcome.
 abbrev pub LeadIsProper : Type 0
 LeadIsProper = (ms : List Move) (old new : Environment) → Lead ms old new → AreProper ms
 
 abbrev pub LeadIsMade : Type 0
 LeadIsMade = (ms : List Move) (old new : Environment) → Lead ms old new → made ms old ≡ Ok new
 
--- Moves lead on from where others led.
+-- Where moves reach an environment, and more moves another one from there, both lists in a row reach that one.
 abbrev pub LeadsGoOn : Type 0
 LeadsGoOn =
     (ms more : List Move) (old mid new : Environment)

@@ -15,7 +15,7 @@ pub record Module : Type 0 where
   pub path : Text
   pub records : List Record
 
--- what the loaded list says of it: a repeated conflict once
+-- its entry in the loaded list, where a repeated conflict stands once
 abbrev pub entry_of : Module → Entry
 entry_of m =
     record {
@@ -25,10 +25,12 @@ entry_of m =
       prereqs = prereq_groups m.records;
     }
 
+-- a load or an unload of one module
 pub data Move : Type 0 where
   Loads : Module → Move
   Unloads : Module → Move
 
+-- its module, and the mode in which its file is evaluated
 abbrev pub module_of : Move → Module
 module_of (Loads m) = m
 module_of (Unloads m) = m
@@ -46,7 +48,7 @@ listed (Unloads m) e = by_edit (dropped_loaded e m.name)
 abbrev pub moved : Move → Environment → Result Environment RecordReason
 moved m e = and_then (effects (mode_of m) (module_of m).name (module_of m).records e) (listed m)
 
--- what moves make, the first of them first
+-- the outcome of several moves, the first of them first
 abbrev pub made : List Move → Environment → Result Environment RecordReason
 made [] e = Ok e
 made (m ∷ ms) e = and_then (moved m e) (made ms)
@@ -72,7 +74,7 @@ Fits (Loads m) e = (xs : List Entry) × (loaded_in e ≡ Some xs) × (has m.name
 Fits (Unloads m) e = (xs : List Entry) × (loaded_in e ≡ Some xs)
     × (list_any (λ x. bytes_eq m.name x.name && bytes_eq m.path x.path) xs ≡ true)
 
--- The moves lead from one environment to the other, and each fits where it is made.
+-- The moves reach the second environment from the first, and each fits the environment that it finds.
 abbrev pub Lead : List Move → Environment → Environment → Type 0
 Lead [] old new = new ≡ old
 Lead (m ∷ ms) old new = Fits m old × ((mid : Environment) × (moved m old ≡ Ok mid) × Lead ms mid new)

@@ -1,14 +1,16 @@
-//! Laws about the definitions alone. Each is a function that does nothing: its contract is the law.
+//! Laws of records and of moves. Each function does nothing: its contract is the law.
 ghost use Rattle.modulerecords.specs.Laws.{EffectsAreProper, EffectsGoOn, MovedIsProper, LeadIsProper, LeadIsMade, LeadsGoOn};
 
 /// Records that all have their effects are proper: their variables may be edited, their values and elements can be
-/// held, and their names of modules are well spelled. The effects of lists go on.
+/// held, and their names of modules are well spelled. The effects of one list and then of another are those of both
+/// lists in a row.
 pub fn effects()
     ensures proper { EffectsAreProper }
     ensures go_on { EffectsGoOn }
 {}
 
-/// An accepted move is proper. Moves that lead somewhere make it, each is proper, and others lead on from there.
+/// An accepted move is proper. Where moves reach an environment from another, each of them is proper, their outcome is
+/// that environment, and moves that go on from there reach what the whole list reaches.
 pub fn moves()
     ensures proper { MovedIsProper }
     ensures all_proper { LeadIsProper }

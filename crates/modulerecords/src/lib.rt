@@ -1,6 +1,8 @@
-//! What modulefiles ask for, and what loading and unloading modules makes of an environment (modulefile(5), module(1)).
+//! What modulefiles ask for, and what loads and unloads make of an environment (modulefile(5), module(1)).
+//! Touches nothing: these are definitions and laws, without code.
+//! Used by modulefile, modulerun, reversal and requests.
 //!
-//! There is no code here: the definitions are cited by the contracts of the crates above. The functions are laws.
+//! It is a crate of its own, since reversal and requests need records and nothing of Tcl.
 #![tactic(auto)]
 
 pub mod laws;

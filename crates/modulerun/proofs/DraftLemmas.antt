@@ -32,23 +32,23 @@ begun cx ctx start j e d =
 abbrev told_of : List (List Text) → List Text → Bool → Option Refusal → Told
 told_of words messages mark refusal = record { records = words; messages = messages; asked = mark; refused = refusal }
 
--- nothing is told before
-untold_at : (j : SoFar) (messages : Vec (String Global) Global) (mark : Bool) (kept : Option CommandRefusal) → j.words ≡ [] → messages.items ≡ [] → mark ≡ false → kept ≡ None → told_with j messages mark kept ≡ untold
-untold_at j messages mark kept e d b n =
-    ap (λ (ws : List (List Text)). told_of ws (texts_in messages) mark (refusal_view kept)) e
-    ∙ ap (λ (ms : List (String Global)). told_of [] (map string_bytes ms) mark (refusal_view kept)) d
-    ∙ ap (λ (m : Bool). told_of [] [] m (refusal_view kept)) b
+-- before the file nothing was done
+untold_at : (j : SoFar) (messages : Vec (String Global) Global) (mark : Bool) (refusal : Option CommandRefusal) → j.words ≡ [] → messages.items ≡ [] → mark ≡ false → refusal ≡ None → told_with j messages mark refusal ≡ untold
+untold_at j messages mark refusal e d b n =
+    ap (λ (ws : List (List Text)). told_of ws (texts_in messages) mark (refusal_view refusal)) e
+    ∙ ap (λ (ms : List (String Global)). told_of [] (map string_bytes ms) mark (refusal_view refusal)) d
+    ∙ ap (λ (m : Bool). told_of [] [] m (refusal_view refusal)) b
     ∙ ap (λ (k : Option CommandRefusal). told_of [] [] false (refusal_view k)) n
 
 -- the evaluation is that of the file
-pub started : (limits : Limits) (text : Text) (cx ctx : Context) (start : Environment) (j : SoFar) (messages : Vec (String Global) Global) (mark : Bool) (kept : Option CommandRefusal) (gs : Variables) (r : Result Ending EvalFault) (new : Told)
-    → j ≡ so_far_of cx.mode cx.name.now start [] → ctx ≡ cx → messages.items ≡ [] → mark ≡ false → kept ≡ None → gs ≡ globals_of cx.path.now
-    → Evaluates limits text gs (oracle_of (context_with j ctx)) (told_with j messages mark kept) r new
+pub started : (limits : Limits) (text : Text) (cx ctx : Context) (start : Environment) (j : SoFar) (messages : Vec (String Global) Global) (mark : Bool) (refusal : Option CommandRefusal) (gs : Variables) (r : Result Ending EvalFault) (new : Told)
+    → j ≡ so_far_of cx.mode cx.name.now start [] → ctx ≡ cx → messages.items ≡ [] → mark ≡ false → refusal ≡ None → gs ≡ globals_of cx.path.now
+    → Evaluates limits text gs (oracle_of (context_with j ctx)) (told_with j messages mark refusal) r new
     → Evaluates limits text (globals_of cx.path.now) (oracle_of (context_view cx start)) untold r new
-started limits text cx ctx start j messages mark kept gs r new e d m b n k h =
-    subst (λ (t : Told). Evaluates limits text (globals_of cx.path.now) (oracle_of (context_view cx start)) t r new) (untold_at j messages mark kept (ap (λ (s : SoFar). s.words) e) m b n)
-    (subst (λ (c : answers.Context). Evaluates limits text (globals_of cx.path.now) (oracle_of c) (told_with j messages mark kept) r new) (begun cx ctx start j e d)
-    (subst (λ (vs : Variables). Evaluates limits text vs (oracle_of (context_with j ctx)) (told_with j messages mark kept) r new) k h))
+started limits text cx ctx start j messages mark refusal gs r new e d m b n k h =
+    subst (λ (t : Told). Evaluates limits text (globals_of cx.path.now) (oracle_of (context_view cx start)) t r new) (untold_at j messages mark refusal (ap (λ (s : SoFar). s.words) e) m b n)
+    (subst (λ (c : answers.Context). Evaluates limits text (globals_of cx.path.now) (oracle_of c) (told_with j messages mark refusal) r new) (begun cx ctx start j e d)
+    (subst (λ (vs : Variables). Evaluates limits text vs (oracle_of (context_with j ctx)) (told_with j messages mark refusal) r new) k h))
 
 pub drafts_ok : (limits : Limits) (c d : answers.Context) (text : Text) (told : Told) (end : Ending) (r : Result Draft RunFault)
     → Evaluates limits text (globals_of c.path) (oracle_of c) untold (Ok end) told → oracle_of d ≡ oracle_of c

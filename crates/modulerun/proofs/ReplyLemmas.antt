@@ -24,7 +24,7 @@ use Rattle.modulefile.specs.Calls.{CallReason, bad_record, bad_arguments, unknow
 use Rattle.modulefile.specs.CallViews.{reason_of, call_view, HasReason}
 use Rattle.modulefile.specs.RecordViews.{record_view, fault_reason, HasFault}
 use Rattle.modulefile.specs.Answers as answers
-use Rattle.modulefile.specs.Answers.{answered, asked, kept, not_done, read, record_name, record_number, refusal_of}
+use Rattle.modulefile.specs.Answers.{answered, asked, record_answer, not_done, read, record_name, record_number, refusal_of}
 use Rattle.modulerun.specs.declared.command_refusal.CommandRefusal.{CommandRefusal}
 use Rattle.modulerun.specs.declared.command_refusal.CommandRefusal.TheVariants.{BadRecord}
 use Rattle.modulerun.specs.declared.context.Context.{Context}
@@ -46,13 +46,13 @@ or_false : (b : Bool) → b ≡ (b || false)
 or_false true = refl
 or_false false = refl
 
--- a record that has its effect is kept
+-- a record that has its effect is added
 pub noted_reply : (s t : SoFar) (cx : Context) (messages : Vec (String Global) Global) (mark : Bool) (held : Option CommandRefusal) (words : List Text) (r : records.Record) (text : String Global) (e : Environment)
     → call_of words ≡ Ok (keeps r) → string_bytes text ≡ [] → t ≡ noted s words → effect_on s r ≡ Ok e
     → Replies (answered (context_with s cx) (found s) words (call_of words)) (Done text) (told_with s messages mark held) (told_with t messages mark held)
 noted_reply s t cx messages mark held words r text e call empty note effect =
     by_answer _ (oracle.Done [] (Kept words) false) (Done text) (told_with s messages mark held) (told_with t messages mark held)
-    (ap (answered (context_with s cx) (found s) words) call ∙ ap (kept words) effect) (
+    (ap (answered (context_with s cx) (found s) words) call ∙ ap (record_answer words) effect) (
       Kept words,
       false,
       (
@@ -89,7 +89,7 @@ some_reason : (o : Option RecordReason) → is_none o ≡ false → (reason : Re
 some_reason None h reason e = absurd (cc)
 some_reason (Some r) h reason e = ap (λ x. Some x) e
 
--- a refusal that is kept is told, with its name
+-- a refusal that the host remembers is in what it has done, with its name
 pub refusal_told : (s : SoFar) (messages : Vec (String Global) Global) (mark : Bool) (held : Option CommandRefusal) (fault : RecordFault) (n : ℕ)
     → is_none (fault_reason fault) ≡ false → IfSome (fault_reason fault) (λ reason. n ≡ record_number reason)
     → (reason : RecordReason) → HasFault reason fault
@@ -121,11 +121,11 @@ refused_reply s t cx messages mark held words r fault h new call same e f = go (
     go (Some reason) q =
         let d : effect_on s r ≡ Err reason = subst (λ o. IfSome o (λ x. effect_on s r ≡ Err x)) q e in
         by_answer _ (not_done (bad_record reason)) h (told_with s messages mark held) new
-        (ap (answered (context_with s cx) (found s) words) call ∙ ap (kept words) d)
+        (ap (answered (context_with s cx) (found s) words) call ∙ ap (record_answer words) d)
         (at reason (subst (λ o. IfSome o (λ x. x ≡ reason)) (sym q) refl))
 
-pub call_made : (made : Result Record AllocError) (kept : Record) (words : List Text) → made ≡ Ok kept → IfOk made (λ r. call_of words ≡ Ok (keeps (record_view r))) → call_of words ≡ Ok (keeps (record_view kept))
-call_made made kept words e h = subst (λ (m : Result Record AllocError). IfOk m (λ r. call_of words ≡ Ok (keeps (record_view r)))) e h
+pub call_made : (made : Result Record AllocError) (accepted : Record) (words : List Text) → made ≡ Ok accepted → IfOk made (λ r. call_of words ≡ Ok (keeps (record_view r))) → call_of words ≡ Ok (keeps (record_view accepted))
+call_made made accepted words e h = subst (λ (m : Result Record AllocError). IfOk m (λ r. call_of words ≡ Ok (keeps (record_view r)))) e h
 
 pub read_named : (var value : Text) → is_variable_name var ≡ true → read var value ≡ asked value
 read_named var value e = ap (λ b. if b then asked value else not_done (bad_record (bad_edit (bad_variable var)))) e

@@ -1,4 +1,4 @@
--- What an evaluation by the host says of a file.
+-- What follows for a file from its evaluation by the host.
 use Rattle.std.proofs.Common.{◌≡◌, ℕ, false, [], ◌∷◌, codes, bytes_eq, string_bytes, if◌then◌else◌, Option, Some, None, IfSome, Ok, Err, refl, ap, sym, subst, ◌∙◌}
 use Rattle.environment.specs.Texts.{Text}
 use Rattle.environment.proofs.EnvLemmas.{same_environment}
@@ -54,7 +54,7 @@ pub of_stop : (p o : Option Stop) (Q : Stop → Type 0) → IfSome o (λ stop. p
 of_stop p None Q e h = tt
 of_stop p (Some stop) Q e h = subst (λ x. IfSome x Q) e h
 
--- An oracle says what it is of: the module's name, the mode and the environment before the file.
+-- An oracle gives back what it was made of: the module's name, the mode and the environment before the file.
 name_call : call_of (codes "module-info" ∷ codes "name" ∷ []) ≡ Ok own_name
 unfolding call_of
 name_call = refl
@@ -92,7 +92,7 @@ same_mode c d e =
     let w : mode_word c.mode ≡ mode_word d.mode = sym (ap (λ f. done_text (answered c c.start words f)) mode_call) ∙ ap (λ (o : Oracle). done_text (o.command [] words)) e ∙ ap (λ f. done_text (answered d d.start words f)) mode_call in
     sym (named_again c.mode) ∙ ap mode_named w ∙ named_again d.mode
 
--- so what was told comes to the same
+-- so the records have the same outcome
 pub same_ran : (c d : Context) (told : Told) → oracle_of c ≡ oracle_of d → ran_of c told ≡ ran_of d told
 same_ran c d told e =
     ap (λ m. ran_of (record c { mode = m }) told) (same_mode c d e)

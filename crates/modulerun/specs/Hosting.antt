@@ -1,4 +1,4 @@
--- How the host of a modulefile answers.
+-- How the host of a modulefile answers to its commands (own): what it has done, and what its answers mean.
 use Rattle.std.specs.Prelude.{◌≡◌, Bool, [], ◌∷◌, ◌++◌, map, string_bytes, String, if◌then◌else◌, Option, Some, None}
 use Rattle.std.specs.Option.{option_map}
 use Rattle.std.specs.declared.vec.Vec.{Vec}
@@ -33,18 +33,18 @@ context_with s c =
       start = s.start;
     }
 
--- the refusal that the host keeps behind its number, by number and name
+-- the refusal that the host remembers, by number and name
 abbrev pub refusal_view : Option CommandRefusal → Option Refusal
 refusal_view None = None
 refusal_view (Some BadArguments) = Some (unnamed 56)
 refusal_view (Some (BadRecord fault)) = option_map refusal_of (fault_reason fault)
 
--- what the host was told
+-- the records, messages and mark of a file, by the fields of its host
 abbrev pub told_with : SoFar → Vec (String Global) Global → Bool → Option CommandRefusal → Told
 told_with s messages asked refusal =
     record { records = s.words; messages = texts_in messages; asked = asked; refused = refusal_view refusal }
 
--- what a host was told, and the context of the file with what it has done
+-- the same of a host, and the context of its file with what it has done
 abbrev pub told_by : {V : Type 0} → Runner V → Told
 told_by runner = told_with runner.journal runner.messages runner.asked runner.refusal
 
@@ -55,7 +55,7 @@ context_of runner = context_with runner.journal runner.context
 abbrev pub message_of : Text → Bool → Text
 message_of text newline = if newline then text ++ 10 ∷ [] else text
 
--- The host replies by this answer, and it is told; or memory runs out.
+-- The host replies by this answer, and what it has done grows by it; or memory runs out.
 abbrev pub Replies : OracleAnswer → HostAnswer → Told → Told → Type 0
 Replies answer (Done t) old new =
     (adds : oracle.Addition) × (asks : Bool) × IsTold answer (oracle.Done (string_bytes t) adds asks) old new

@@ -1,4 +1,4 @@
--- What a file has done so far.
+-- What a file has done so far (own).
 use Rattle.std.specs.Prelude.{◌≡◌, ℕ, ◌==◌, List, ◌∷◌, [], ◌++◌, map, IfSome, if◌then◌else◌, Result, Ok, Err, refl}
 use Rattle.std.specs.Coded.{Coded, code_by, coded×, coded_ℕ, coded_list}
 use Rattle.environment.specs.Texts.{Text, texts_in}
@@ -32,9 +32,11 @@ mode_number Whatis = 3
 abbrev pub numbered_mode : ℕ → Mode
 numbered_mode n = if n == 0 then Load else if n == 1 then Unload else if n == 2 then Display else Whatis
 
+-- what was done, by its parts
 abbrev pub so_far_of : Mode → Text → Environment → List (List Text) → SoFar
 so_far_of mode owner start words = record { mode = mode; owner = owner; start = start; words = words }
 
+-- coding a mode by its number and back gives the same
 abbrev pub same_again : (m : Mode) (owner : Text) (start : Environment) (words : List (List Text))
     → so_far_of (numbered_mode (mode_number m)) owner start words
     ≡ so_far_of m owner start words
@@ -43,6 +45,7 @@ same_again Unload owner start words = refl
 same_again Display owner start words = refl
 same_again Whatis owner start words = refl
 
+-- the codings of texts and of the whole
 abbrev pub text_code : Coded Text
 text_code = coded_list coded_ℕ
 
@@ -63,22 +66,22 @@ abbrev pub words_of : List Entry → List (List Text)
 words_of entries = map (λ entry. texts_in entry.words) entries
 
 abbrev pub records_of : List Entry → List records.Record
-records_of entries = map (λ entry. record_view entry.kept) entries
+records_of entries = map (λ entry. record_view entry.recorded) entries
 
--- The records are those of the words, and the environment is their effects on the one before.
+-- The records of the entries are those of their words, and the environment is their effects on the one before.
 abbrev pub IsKept : effects.Mode → Text → Environment → Environment → List Entry → Type 0
 IsKept mode owner start now entries =
     (records_in (words_of entries) ≡ Ok (records_of entries)) × (effects mode owner (records_of entries) start ≡ Ok now)
 
--- with one command more
+-- the same with one command more
 abbrev pub noted : SoFar → List Text → SoFar
 noted s words = record { mode = s.mode; owner = s.owner; start = s.start; words = s.words ++ words ∷ [] }
 
--- what a record makes of what the file finds
+-- the effect of a record on the environment that the file finds
 abbrev pub effect_on : SoFar → records.Record → Result Environment RecordReason
 effect_on s r = effect (mode_view s.mode) s.owner r (found s)
 
--- A command is noted where its record has its effect, and else nothing changes.
+-- A command is added where its record has its effect, and else nothing changes.
 abbrev pub IsNoted : Result (Unit {0}) RecordFault → List Text → records.Record → SoFar → SoFar → Type 0
 IsNoted (Ok u) words r old new = (new ≡ noted old words) × ((e : Environment) × (effect_on old r ≡ Ok e))
 IsNoted (Err fault) words r old new = (new ≡ old) × IfSome (fault_reason fault) (λ reason. effect_on old r ≡ Err reason)

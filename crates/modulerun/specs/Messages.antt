@@ -1,4 +1,4 @@
--- The numbers of what refuses a modulefile, and what each says: the text of its layer's fault, or its own.
+-- The numbers and texts of the faults of modulefiles (own): those of the fault below, or their own.
 use Rattle.std.specs.Prelude.{ℕ, codes}
 use Rattle.message.specs.Messages.{Text}
 use Rattle.tclchars.specs.Faults.{fault_number}
@@ -9,7 +9,7 @@ use Rattle.modulefile.specs.RecordFaults as record_faults
 use Rattle.modulerun.specs.declared.run_fault.RunFault.{RunFault}
 use Rattle.modulerun.specs.declared.run_fault.RunFault.TheVariants as runs
 
--- that of a text, or of what a command was refused by, is its own
+-- the number of a fault of the evaluation: that of a text or of a refused command is its own
 abbrev pub eval_number : EvalFault → ℕ
 eval_number (evals.Text fault) = fault_number fault
 eval_number (evals.Host number) = number

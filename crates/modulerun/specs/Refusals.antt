@@ -1,4 +1,4 @@
--- The refusals of a file by those of its commands and of its edits.
+-- The fault of a file for the fault of a command or of an edit (own).
 use Rattle.environment.specs.declared.fault.EnvFault.{EnvFault}
 use Rattle.environment.specs.declared.fault.EnvFault.TheVariants as edits
 use Rattle.modulefile.specs.declared.record_fault.RecordFault.TheVariants.{Env}
@@ -7,7 +7,7 @@ use Rattle.modulerun.specs.declared.run_fault.RunFault.TheVariants as runs
 use Rattle.modulerun.specs.declared.command_refusal.CommandRefusal.{CommandRefusal}
 use Rattle.modulerun.specs.declared.command_refusal.CommandRefusal.TheVariants as refusals
 
--- the refusal of a file for that of an edit of its variables
+-- for an edit of the variables
 abbrev pub fault_of_edit : EnvFault → RunFault
 fault_of_edit edits.OutOfMemory = runs.OutOfMemory
 fault_of_edit (edits.BadVariable name) = runs.BadRecord (Env (edits.BadVariable name))
@@ -17,7 +17,7 @@ fault_of_edit edits.Inconsistent = runs.BadRecord (Env edits.Inconsistent)
 fault_of_edit (edits.BadStack name) = runs.BadRecord (Env (edits.BadStack name))
 fault_of_edit (edits.BadValue name) = runs.BadRecord (Env (edits.BadValue name))
 
--- the refusal of a file for that of a command
+-- for a refused command
 abbrev pub fault_of : CommandRefusal → RunFault
 fault_of refusals.BadArguments = runs.BadArguments
 fault_of (refusals.BadRecord fault) = runs.BadRecord fault

@@ -1,4 +1,4 @@
--- What a call that runs a modulefile says of it.
+-- What the result of a run means by the definitions of modulefiles (own).
 use Rattle.std.specs.Prelude.{◌≡◌, map, string_bytes, Option, Some, None, IfSome, Result, Ok, Err}
 use Rattle.std.specs.Option.{option_map}
 use Rattle.environment.specs.Texts.{Text}
@@ -35,7 +35,7 @@ context_view c start =
       start = start;
     }
 
--- what a file left, with the environment after it
+-- what an accepted file leaves, with the environment after it
 abbrev pub ran_view : Ran → Environment → files.Ran
 ran_view ran env =
     record {
@@ -45,7 +45,7 @@ ran_view ran env =
       env = env;
     }
 
--- the stop that a fault of the evaluation says, with the refusal that the host was told; want of memory is none
+-- the reason of a fault of the evaluation, with the refusal that the host remembers; OutOfMemory has none
 abbrev pub eval_stop : EvalFault → Option Refusal → Option Stop
 eval_stop faults.OutOfMemory refusal = None
 eval_stop (faults.Text fault) refusal = Some (halted (halts.BadText fault))
@@ -59,21 +59,21 @@ eval_stop (faults.LeftOut name) refusal = Some (halted (halts.LeftOut (string_by
 eval_stop faults.Stopped refusal = Some (halted halts.Stopped)
 eval_stop (faults.Host n) refusal = Some (refused_by n refusal)
 
--- the stop that a fault says. That of a refused command has its number, and the name that it is refused for
+-- the reason of a fault. That of a refused command has its number, and the name that it is refused for
 abbrev pub stop_of : RunFault → Option Stop
 stop_of OutOfMemory = None
 stop_of (Eval fault) = eval_stop fault None
 stop_of BadArguments = Some (refused (unnamed 56))
 stop_of (BadRecord fault) = option_map (λ reason. refused (refusal_of reason)) (fault_reason fault)
 
--- What a call returned is what the text comes to in the context, or want of memory. The environment after an accepted
--- file is the one that it left, and after a refused one the old one.
+-- The result of a call is the outcome of the text in the context, or OutOfMemory. The environment after an accepted
+-- file is the one that it leaves, and after a refused one the old one.
 abbrev pub RunsTo : Limits → answers.Context → Text → Result Ran RunFault → Environment → Type 0
 RunsTo limits c text (Ok ran) new = RunsFile limits c text (Ok (ran_view ran new))
 RunsTo limits c text (Err fault) new = (new ≡ c.start) × IfSome (stop_of fault)
     (λ stop. RunsFile limits c text (Err stop))
 
--- The same of a file whose changes aren't made yet.
+-- The same of a file whose changes aren't applied yet.
 abbrev pub Drafts : Limits → answers.Context → Text → Result Draft RunFault → Type 0
 Drafts limits c text (Ok draft) =
     RunsFile limits c text (Ok (ran_view draft.ran (applied (new_values_in draft.changes) c.start)))

@@ -1,8 +1,8 @@
-//! Why a command of a modulefile is refused by a number.
+//! Why a command of a modulefile is refused, by its own fault.
 use crate::run_fault::RunFault;
 use modulefile::RecordFault;
 
-/// Why a command of a modulefile is refused. The evaluation is told its number alone.
+/// Why a command of a modulefile is refused. The evaluator gets the number of this alone, and halts.
 #[derive(Debug, Drop)]
 pub(crate) enum CommandRefusal {
     /// The words don't fit the command.
@@ -15,7 +15,7 @@ impl CommandRefusal {
     ghost use Rattle.std.specs.Prelude.{◌≡◌};
     ghost use Rattle.modulerun.specs.Refusals.{fault_of};
 
-    /// The refusal of the file.
+    /// The fault of the whole file.
     pub(crate) fn into_fault(self) -> RunFault
         ensures { result ≡ fault_of self }
     {

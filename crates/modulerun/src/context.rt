@@ -1,8 +1,8 @@
-//! What a file is evaluated in.
+//! The context that a modulefile is evaluated in.
 use modulefile::Mode;
 use shells::Shell;
 
-/// What a file is evaluated in, but for the environment before it.
+/// The context that a modulefile is evaluated in, but for the environment before it.
 #[derive(Clone, Copy)]
 pub struct Context<'a> {
     /// What it is evaluated for.
@@ -11,9 +11,9 @@ pub struct Context<'a> {
     pub in_switch: bool,
     /// The full name of its module.
     pub name: &'a str,
-    /// Where it lies.
+    /// The path of the file.
     pub path: &'a str,
-    /// The shell that asks.
+    /// The shell that the request is for.
     pub shell: Shell,
     /// The name of the module as it was typed.
     pub typed: &'a str,

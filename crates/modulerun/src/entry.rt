@@ -1,9 +1,9 @@
-//! A command that was accepted.
+//! An accepted command of a modulefile.
 use modulefile::Record;
 
-/// A command that was accepted: its words, and what it left on record.
+/// An accepted command: its words, and its record.
 #[derive(Drop)]
 pub(crate) struct Entry {
     pub words: Vec<String>,
-    pub kept: Record,
+    pub recorded: Record,
 }

@@ -1,4 +1,4 @@
-//! What a file has done so far: the commands that were accepted, and the environment that they make.
+//! What a modulefile has done so far: its accepted commands, and the environment that they make.
 ghost use Rattle.std.specs.Prelude.{◌≡◌, ◌++◌, ◌∷◌, [], Ok, map, string_bytes, OnOk, OnErr, IfOk, IfErr};
 ghost use Rattle.std.specs.Option.{option_map};
 ghost use Rattle.environment.specs.Texts.{texts_in};
@@ -12,14 +12,14 @@ ghost use Rattle.modulefile.specs.RecordViews.{mode_view, record_view, IsEdited}
 ghost use Rattle.modulerun.specs.Journals.{found, so_far_of, IsNoted};
 
 use crate::entry::Entry;
-use crate::made::copied;
+use crate::recording::copied;
 use environment::{Change, EnvFault, Vars, Working};
 use modulefile::{Mode, Record, RecordFault, effect};
 use std::alloc::{AllocError, Global};
 use std::marker::Model;
 
-/// The commands of a module's file that were accepted so far, and the environment that their records make of the one
-/// before the file, which stays as it is.
+/// The accepted commands of a module's file so far, and the environment that their records make of the one before the
+/// file, which is unchanged.
 pub(crate) struct Journal<'a, V: Vars> {
     alloc: Global,
     mode: Mode,
@@ -28,7 +28,7 @@ pub(crate) struct Journal<'a, V: Vars> {
     working: Working<'a, V>,
 }
 
-// By hand, since the variables below needn't be let go.
+// By hand: `derive(Drop)` would ask for `V: Drop`, and the variables are borrowed.
 impl<'a, V: Vars> Drop for Journal<'a, V> {
     fn drop(self) {
         let Journal {
@@ -54,14 +54,14 @@ impl<'a, V: Vars> Model for Journal<'a, V> {
     ghost invariant = { λ a. IsKept (mode_view a.mode) a.owner.now a.working.old a.working.new a.entries.items };
 }
 
-/// The records of a file that ended, and what they changed.
+/// The records of an accepted file, and the changes that they make of the environment.
 #[derive(Drop)]
-pub(crate) struct Made {
+pub(crate) struct FinishedFile {
     pub records: Vec<Record>,
     pub changes: Vec<Change>,
 }
 
-/// Enters a command where its record has its effect.
+/// Adds an entry, where its record has its effect on `env`. Else neither changes.
 fn enter<V: Vars>(
     alloc: Global,
     mode: Mode,
@@ -73,13 +73,13 @@ fn enter<V: Vars>(
     ensures ok { OnOk result (entries.new.items ≡ entries.old.items ++ entry ∷ []) }
     ensures err { OnErr result (entries.new.items ≡ entries.old.items) }
     ensures edits { IsEdited result (V.vars env.old) (V.vars env.new)
-        (effect (mode_view mode) owner.now (record_view entry.kept) (V.vars env.old)) }
+        (effect (mode_view mode) owner.now (record_view entry.recorded) (V.vars env.old)) }
     ensures under { V.under env.new ≡ V.under env.old }
 {
     if entries.reserve(1).is_err() {
         return Err(RecordFault::Env(EnvFault::OutOfMemory));
     }
-    match effect(alloc, mode, owner, &entry.kept, env) {
+    match effect(alloc, mode, owner, &entry.recorded, env) {
         Ok(()) => {
             entries.push_reserved(entry);
             Ok(())
@@ -88,22 +88,23 @@ fn enter<V: Vars>(
     }
 }
 
+/// The records of the entries, in order.
 fn records_of(alloc: Global, entries: Vec<Entry>) -> Result<Vec<Record>, AllocError>
-    ensures { IfOk result (λ v. v.items ≡ map (λ entry. entry.kept) entries.items) }
+    ensures { IfOk result (λ v. v.items ≡ map (λ entry. entry.recorded) entries.items) }
 {
     let mut records = Vec::new(alloc);
     for entry in entries {
         let Entry {
             words: _words,
-            kept,
+            recorded,
         } = entry;
-        records.push(kept)?;
+        records.push(recorded)?;
     }
     Ok(records)
 }
 
 impl<'a, V: Vars> Journal<'a, V> {
-    /// No command was accepted yet.
+    /// A journal without entries over the environment before the file.
     pub(crate) fn over(alloc: Global, mode: Mode, owner: &'a str, start: &'a V) -> Self
         ensures { result ≡ so_far_of mode owner.entry.now (V.vars start.entry.now) [] }
     {
@@ -137,20 +138,21 @@ impl<'a, V: Vars> Journal<'a, V> {
         self.working.get(name)
     }
 
-    /// Notes a command by its words, where its record has its effect. Else nothing changes.
-    pub(crate) fn note(&mut self, words: &[String], kept: Record) -> Result<(), RecordFault>
-        requires { call_of (map string_bytes words.now) ≡ Ok (keeps (record_view kept)) }
-        ensures { IsNoted result (map string_bytes words.now) (record_view kept) self.old self.new }
+    /// Adds an accepted command by its words and its record, where the record has its effect. Else nothing changes.
+    pub(crate) fn note(&mut self, words: &[String], recorded: Record) -> Result<(), RecordFault>
+        requires { call_of (map string_bytes words.now) ≡ Ok (keeps (record_view recorded)) }
+        ensures { IsNoted result (map string_bytes words.now) (record_view recorded) self.old self.new }
     {
         match copied(self.alloc, words) {
-            Ok(words) => self.enter(Entry { words, kept }),
+            Ok(words) => self.enter(Entry { words, recorded }),
             Err(_) => Err(RecordFault::Env(EnvFault::OutOfMemory)),
         }
     }
 
+    /// Adds an entry, where its record has its effect.
     fn enter(&mut self, entry: Entry) -> Result<(), RecordFault>
-        requires { call_of (texts_in entry.words) ≡ Ok (keeps (record_view entry.kept)) }
-        ensures { IsNoted result (texts_in entry.words) (record_view entry.kept) self.old self.new }
+        requires { call_of (texts_in entry.words) ≡ Ok (keeps (record_view entry.recorded)) }
+        ensures { IsNoted result (texts_in entry.words) (record_view entry.recorded) self.old self.new }
     {
         enter(
             self.alloc,
@@ -162,12 +164,12 @@ impl<'a, V: Vars> Journal<'a, V> {
         )
     }
 
-    /// The records, and what they changed.
-    pub(crate) fn finish(self) -> Result<Made, EnvFault>
-        ensures records { IfOk result (λ made. records_in self.entry.words ≡ Ok (map record_view made.records.items)) }
-        ensures changes { IfOk result (λ made. effects (mode_view self.entry.mode) self.entry.owner
-            (map record_view made.records.items) self.entry.start
-            ≡ Ok (applied (new_values_in made.changes) self.entry.start)) }
+    /// The records, and their changes of the environment. It fails for `OutOfMemory` alone.
+    pub(crate) fn finish(self) -> Result<FinishedFile, EnvFault>
+        ensures records { IfOk result (λ file. records_in self.entry.words ≡ Ok (map record_view file.records.items)) }
+        ensures changes { IfOk result (λ file. effects (mode_view self.entry.mode) self.entry.owner
+            (map record_view file.records.items) self.entry.start
+            ≡ Ok (applied (new_values_in file.changes) self.entry.start)) }
         ensures only { IfErr result (λ e. e ≡ OutOfMemory) }
     {
         let Journal {
@@ -179,6 +181,6 @@ impl<'a, V: Vars> Journal<'a, V> {
         } = self;
         let records = records_of(alloc, entries)?;
         let changes = working.into_changes()?;
-        Ok(Made { records, changes })
+        Ok(FinishedFile { records, changes })
     }
 }

@@ -1,19 +1,18 @@
-//! A modulefile evaluated: its commands done over an environment, from its text to its records and messages, or to why
-//! it is refused.
+//! The run of one modulefile (modulefile(5)): its text is evaluated as Tcl, and its commands have their effects.
+//! Takes memory, and edits the variables that it is given, all at once where the file is accepted.
+//! Used by requeststep.
 #![tactic(auto)]
 
 mod command_refusal;
 mod context;
 mod entry;
 mod journal;
-mod made;
 mod questions;
-mod reports;
+mod recording;
 mod run;
 mod run_fault;
 mod runner;
 
 pub use context::Context;
-pub use reports::{show_report, whatis_report};
 pub use run::{Ran, run_file};
 pub use run_fault::RunFault;

@@ -1,4 +1,4 @@
-//! The answers to questions.
+//! The answers to `module-info` and `is-loaded` (modulefile(5)).
 ghost use Rattle.std.specs.Prelude.{◌≡◌, ◌||◌, ◌&&◌, true, bytes_eq, codes, map, string_bytes};
 ghost use Rattle.std.specs.List.{list_any};
 ghost use Rattle.environment.specs.Texts.{Text};
@@ -9,14 +9,14 @@ ghost use Rattle.modulefile.specs.RecordViews.{mode_view};
 use modulefile::Mode;
 use modulename::means;
 
-/// What is so is 1, and else 0.
+/// The text that answers a question: `1` for yes and `0` for no.
 pub(crate) fn truth(so: bool) -> &'static str
     ensures { result.now ≡ truth so }
 {
     if so { "1" } else { "0" }
 }
 
-/// The word of a mode.
+/// The word of a mode, as `module-info mode` has it.
 pub(crate) fn mode_word(mode: Mode) -> &'static str
     ensures { result.now ≡ mode_word (mode_view mode) }
 {
@@ -28,7 +28,7 @@ pub(crate) fn mode_word(mode: Mode) -> &'static str
     }
 }
 
-/// Whether this is the second word of a mode.
+/// Whether a word is another one for the mode: unloading is `remove` as well.
 fn is_second_word(mode: Mode, word: &str) -> bool
     ensures { result ≡ is_second_word (mode_view mode) word.now }
 {
@@ -38,7 +38,7 @@ fn is_second_word(mode: Mode, word: &str) -> bool
     }
 }
 
-/// Whether this is a word of the mode, or of both halves of a switch.
+/// Whether a word is one for the mode. Both halves of a switch are `switch` as well.
 pub(crate) fn is_mode(mode: Mode, in_switch: bool, word: &str) -> bool
     ensures { result ≡ (bytes_eq word.now (mode_word (mode_view mode)) || is_second_word (mode_view mode) word.now
         || (in_switch && bytes_eq word.now (codes "switch"))) }
@@ -75,7 +75,7 @@ fn is_any_meant(names: &[String], loaded: &[String]) -> bool
     false
 }
 
-/// Whether there is any.
+/// Whether any module is loaded.
 fn is_any(loaded: &[String]) -> bool
     ensures { result ≡ list_any (λ (text : Text). true) (map string_bytes loaded.now) }
 {

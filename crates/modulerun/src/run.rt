@@ -1,4 +1,4 @@
-//! A modulefile, run.
+//! The run of a modulefile over an environment.
 ghost use Rattle.std.specs.Prelude.{◌≡◌, Some, IfOk, IfSome};
 ghost use Rattle.tclrules.specs.Promise.{texts_of};
 ghost use Rattle.modulefile.specs.Files.{globals_of, refused_by};
@@ -15,7 +15,7 @@ use std::alloc::{AllocError, Global};
 use tcleval::evaluate;
 use tclrules::{EvalFault, Limits};
 
-/// What a file left that ended: the records of its commands, its messages, and whether it asked about the environment,
+/// What an accepted file leaves: the records of its commands, its messages, and whether it asked about the environment,
 /// the mode, the shell, the typed name or the loaded modules.
 #[derive(Debug, Drop)]
 pub struct Ran {
@@ -24,14 +24,14 @@ pub struct Ran {
     pub asked: bool,
 }
 
-/// What a file left that ended, and what it changes.
+/// What an accepted file leaves, and the changes that its environment doesn't have yet.
 #[derive(Drop)]
 pub(crate) struct Draft {
     pub ran: Ran,
     pub changes: Vec<Change>,
 }
 
-/// A file knows its own path.
+/// The global variables of a modulefile at its beginning: `ModulesCurrentModulefile` is its path.
 fn globals(alloc: Global, path: &str) -> Result<Vec<(String, String)>, AllocError>
     ensures { IfOk result (λ v. texts_of v.items ≡ globals_of path.now) }
 {
@@ -42,12 +42,12 @@ fn globals(alloc: Global, path: &str) -> Result<Vec<(String, String)>, AllocErro
     Ok(globals)
 }
 
-/// The refusal behind a fault of the evaluation: for a number of the host the one that it kept.
-pub(crate) fn refusal(fault: EvalFault, kept: Option<CommandRefusal>) -> RunFault
-    ensures { IfSome (stop_of result) (λ stop. eval_stop fault (refusal_view kept) ≡ Some stop) }
+/// The fault of a file by that of its evaluation. Where a command was refused, `command` is the command's own fault.
+pub(crate) fn refusal(fault: EvalFault, command: Option<CommandRefusal>) -> RunFault
+    ensures { IfSome (stop_of result) (λ stop. eval_stop fault (refusal_view command) ≡ Some stop) }
 {
     match fault {
-        EvalFault::Host(number) => refused(number, kept),
+        EvalFault::Host(number) => refused(number, command),
         EvalFault::OutOfMemory
         | EvalFault::Text(_)
         | EvalFault::TclError(_, _)
@@ -61,17 +61,17 @@ pub(crate) fn refusal(fault: EvalFault, kept: Option<CommandRefusal>) -> RunFaul
     }
 }
 
-/// The refusal of a command: the one that was kept behind the number.
-fn refused(number: u16, kept: Option<CommandRefusal>) -> RunFault
-    ensures { IfSome (stop_of result) (λ stop. stop ≡ refused_by number (refusal_view kept)) }
+/// The fault of a file for a refused command: the command's own, or its number where that is missing.
+fn refused(number: u16, command: Option<CommandRefusal>) -> RunFault
+    ensures { IfSome (stop_of result) (λ stop. stop ≡ refused_by number (refusal_view command)) }
 {
-    match kept {
+    match command {
         Some(refusal) => refusal.into_fault(),
         None => RunFault::Eval(EvalFault::Host(number)),
     }
 }
 
-/// Evaluates a file over an environment, which stays as it is.
+/// Evaluates a file over an environment, which is unchanged.
 fn drafted<V: Vars>(
     alloc: Global,
     context: &Context<'_>,
@@ -92,9 +92,9 @@ fn drafted<V: Vars>(
 /// Runs the text of a modulefile (modulefile(5)): its commands have their effects on the environment, in the mode at
 /// hand.
 ///
-/// Errors: want of memory (11 in the evaluation, and else 31); what ends the evaluation early (2 to 9 and 13 to 20);
-/// words that don't fit a command (56); and what a command may not name, or an effect that can't be had (32, 33, 34, 36,
-/// 37, 44). The environment is then as it was.
+/// Errors: memory ran out (11 in the evaluation, and else 31); what ends the evaluation early (2 to 9 and 13 to 20);
+/// words that don't fit a command (56); and what a command may not name, or an effect that can't be had (32, 33, 34,
+/// 36, 37, 44). The environment is then as it was.
 pub fn run_file<V: Vars>(
     alloc: Global,
     context: &Context<'_>,

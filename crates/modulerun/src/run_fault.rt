@@ -17,7 +17,7 @@ use tclrules::EvalFault;
 pub enum RunFault {
     /// Memory ran out.
     OutOfMemory,
-    /// The evaluation ended early.
+    /// The evaluation of its text ended early.
     Eval(EvalFault),
     /// The words of a command don't fit it.
     BadArguments,
@@ -25,6 +25,7 @@ pub enum RunFault {
     BadRecord(RecordFault),
 }
 
+/// The number of a fault of the evaluation. That of a refused command is the command's own.
 fn eval_number(fault: &EvalFault) -> u16
     ensures { result ≡ texts.eval_number fault.now }
 {
@@ -47,7 +48,7 @@ impl RunFault {
     ghost use Rattle.modulefile.specs.Files.{stop_number};
     ghost use Rattle.modulerun.specs.Running.{stop_of};
 
-    /// The number of the fault: that of the stop, or 11 or 31 for want of memory.
+    /// The number of the fault: that of the reason, or 11 or 31 where memory ran out.
     pub fn number(&self) -> u16
         ensures exact { result ≡ texts.number_of self.now }
         ensures by_stop { IfSome (stop_of self.now) (λ stop. result ≡ stop_number stop) }
@@ -60,7 +61,7 @@ impl RunFault {
         }
     }
 
-    /// What the fault says.
+    /// The text of the fault.
     pub fn message(&self) -> Message<'_>
         ensures { text_of result ≡ texts.message_of self.now }
     {

@@ -1,4 +1,4 @@
-//! The host of a modulefile.
+//! The host of a modulefile: it does the commands that Tcl hasn't (modulefile(5)).
 ghost use Rattle.std.specs.Prelude.{◌≡◌, ◌++◌, ◌∷◌, [], None, Some, Ok, map, string_bytes, is_none, IfOk, IfErr, IfSome, OnOk, OnErr, false};
 ghost use Rattle.environment.specs.Texts.{Text, texts_in};
 ghost use Rattle.environment.specs.Reasons.{bad_variable};
@@ -18,9 +18,9 @@ ghost use Rattle.modulerun.specs.Hosting.{context_of, told_by, refusal_view, mes
 
 use crate::command_refusal::CommandRefusal;
 use crate::context::Context;
-use crate::journal::{Journal, Made};
-use crate::made;
+use crate::journal::{FinishedFile, Journal};
 use crate::questions::{any_loaded, is_mode, mode_word, truth};
+use crate::recording;
 use crate::run::{Draft, Ran, refusal};
 use crate::run_fault::RunFault;
 use environment::{EnvFault, Vars, is_variable_name};
@@ -28,18 +28,18 @@ use modulefile::{Call, CallFault, Mode, Record, RecordFault, Topic, call_of};
 use std::alloc::{AllocError, Global};
 use tclrules::{EvalFault, Host, HostAnswer};
 
-/// Does the commands of a file over the environment from before it.
+/// Does the commands of a file, over the environment from before it.
 pub(crate) struct Runner<'a, V: Vars> {
     pub alloc: Global,
     pub context: Context<'a>,
     pub journal: Journal<'a, V>,
     pub messages: Vec<String>,
     pub asked: bool,
-    /// The refusal behind the number that the evaluation was told last.
+    /// Why the last refused command was refused: the evaluator has its number alone, and this has the name as well.
     pub refusal: Option<CommandRefusal>,
 }
 
-// By hand, since the variables below needn't be let go.
+// By hand: `derive(Drop)` would ask for `V: Drop`, and the variables are borrowed.
 impl<'a, V: Vars> Drop for Runner<'a, V> {
     fn drop(self) {
         let Runner {
@@ -53,7 +53,7 @@ impl<'a, V: Vars> Drop for Runner<'a, V> {
     }
 }
 
-/// Whether the fault is want of memory, and no reason.
+/// Whether memory ran out, which refuses no command.
 fn is_want_of_memory(fault: &RecordFault) -> bool
     ensures { result ≡ is_none (fault_reason fault.now) }
 {
@@ -63,7 +63,7 @@ fn is_want_of_memory(fault: &RecordFault) -> bool
     }
 }
 
-/// The name is none of a variable.
+/// The fault of a name that isn't spelled as a variable's (32).
 fn bad_variable(alloc: Global, var: &str) -> RecordFault
     ensures { HasFault (bad_edit (bad_variable var.now)) result }
 {
@@ -74,7 +74,7 @@ fn bad_variable(alloc: Global, var: &str) -> RecordFault
 }
 
 impl<'a, V: Vars> Runner<'a, V> {
-    /// Nothing is told yet.
+    /// The host of a file before its first command.
     pub(crate) fn over(alloc: Global, context: Context<'a>, start: &'a V) -> Self
         ensures journal { result.journal
             ≡ so_far_of context.entry.mode context.entry.name.now (V.vars start.entry.now) [] }
@@ -93,7 +93,7 @@ impl<'a, V: Vars> Runner<'a, V> {
         }
     }
 
-    /// Answers words that call no command.
+    /// The answer to words that call no command.
     fn not_done(&mut self, fault: CallFault) -> HostAnswer
         ensures replies { (reason : CallReason) → HasReason reason fault → Replies (not_done reason) result
             (told_by self.old) (told_by self.new) }
@@ -110,7 +110,7 @@ impl<'a, V: Vars> Runner<'a, V> {
         }
     }
 
-    /// Refuses a command by the number of the fault, which is kept.
+    /// Refuses a command by the number of the fault, and remembers the fault for the refusal of the file.
     fn refuse(&mut self, fault: RecordFault) -> HostAnswer
         ensures replies { (reason : RecordReason) → HasFault reason fault
             → Replies (not_done (bad_record reason)) result (told_by self.old) (told_by self.new) }
@@ -124,15 +124,15 @@ impl<'a, V: Vars> Runner<'a, V> {
         HostAnswer::Refused(number)
     }
 
-    /// Keeps a record, where it has its effect.
-    fn keep(&mut self, words: &[String], made: Result<Record, AllocError>) -> HostAnswer
-        requires { IfOk made (λ r. call_of (map string_bytes words.now) ≡ Ok (keeps (record_view r))) }
+    /// Adds the record of a command to the journal, where it has its effect.
+    fn keep(&mut self, words: &[String], recorded: Result<Record, AllocError>) -> HostAnswer
+        requires { IfOk recorded (λ r. call_of (map string_bytes words.now) ≡ Ok (keeps (record_view r))) }
         ensures replies { Replies (answered (context_of self.old) (found self.old.journal)
             (map string_bytes words.now) (call_of (map string_bytes words.now))) result
             (told_by self.old) (told_by self.new) }
         ensures same { context_of self.new ≡ context_of self.old }
     {
-        match made {
+        match recorded {
             Err(_) => HostAnswer::OutOfMemory,
             Ok(record) => match self.journal.note(words, record) {
                 Ok(()) => HostAnswer::Done(String::new(self.alloc)),
@@ -141,7 +141,7 @@ impl<'a, V: Vars> Runner<'a, V> {
         }
     }
 
-    /// A message, with a newline or without.
+    /// Adds a message, with a newline or without.
     fn say(&mut self, text: &str, newline: bool) -> HostAnswer
         ensures replies { Replies (Done [] (Message (message_of text.now newline)) false) result
             (told_by self.old) (told_by self.new) }
@@ -153,7 +153,7 @@ impl<'a, V: Vars> Runner<'a, V> {
         }
     }
 
-    /// The answer to a question.
+    /// Answers a question, and marks that the file asked.
     fn ask(&mut self, text: Result<String, AllocError>) -> HostAnswer
         ensures replies { (t : Text) → IfOk text (λ s. string_bytes s ≡ t) → Replies (asked t) result
             (told_by self.old) (told_by self.new) }
@@ -166,7 +166,7 @@ impl<'a, V: Vars> Runner<'a, V> {
         }
     }
 
-    /// The module's own name, which is no question.
+    /// Answers `module-info name`, which is no question: a name is the same in every context of the file.
     fn own_name(&self) -> HostAnswer
         ensures replies { Replies (Done self.now.journal.owner Nothing false) result
             (told_by self.now) (told_by self.now) }
@@ -177,7 +177,7 @@ impl<'a, V: Vars> Runner<'a, V> {
         }
     }
 
-    /// The value of a variable, or in the mode `display` the variable itself.
+    /// The value of a variable, or else the default; in the mode `display` the variable itself, as `$VAR`.
     fn value_shown(&self, var: &str, default: &str) -> Result<String, AllocError>
         ensures { IfOk result (λ t. string_bytes t
             ≡ value_shown (mode_view self.now.journal.mode) (found self.now.journal) var.now default.now) }
@@ -191,6 +191,7 @@ impl<'a, V: Vars> Runner<'a, V> {
         }
     }
 
+    /// Answers `getenv`.
     fn getenv(&mut self, var: &str, default: &str) -> HostAnswer
         ensures replies { Replies (read var.now
             (value_shown (mode_view self.old.journal.mode) (found self.old.journal) var.now default.now)) result
@@ -206,6 +207,7 @@ impl<'a, V: Vars> Runner<'a, V> {
         }
     }
 
+    /// What `module-info` answers with its first word alone.
     fn topic_text(&self, topic: Topic) -> &'static str
         ensures { result.now ≡ topic_text (context_of self.now) (topic_view topic) }
     {
@@ -216,6 +218,7 @@ impl<'a, V: Vars> Runner<'a, V> {
         }
     }
 
+    /// Whether what `module-info` is about has this word.
     fn topic_test(&self, topic: Topic, word: &str) -> bool
         ensures { result ≡ topic_test (context_of self.now) (topic_view topic) word.now }
     {
@@ -226,7 +229,7 @@ impl<'a, V: Vars> Runner<'a, V> {
         }
     }
 
-    /// Answers whether a name means a loaded module, or without a name whether any is loaded.
+    /// Answers `is-loaded`: whether a name means a loaded module, or without a name whether any is loaded.
     fn is_loaded(&mut self, names: &[String]) -> HostAnswer
         ensures replies { Replies (asked (truth (any_loaded (map string_bytes names.now)
             (map string_bytes self.old.context.loaded.now)))) result
@@ -237,7 +240,7 @@ impl<'a, V: Vars> Runner<'a, V> {
         self.ask(String::from_str(self.alloc, truth(so)))
     }
 
-    /// What the file leaves where it ends.
+    /// What the file leaves, where its evaluation ended without a fault. It fails for `OutOfMemory` alone.
     pub(crate) fn finish(self) -> Result<Draft, RunFault>
         ensures ok { IfOk result (λ draft. ran_of (context_of self.entry) (told_by self.entry)
             ≡ Ok (ran_view draft.ran (applied (new_values_in draft.changes) self.entry.journal.start))) }
@@ -251,7 +254,7 @@ impl<'a, V: Vars> Runner<'a, V> {
             asked,
             refusal: _refusal,
         } = self;
-        let Made { records, changes } = journal.finish()?;
+        let FinishedFile { records, changes } = journal.finish()?;
         let ran = Ran {
             records,
             messages,
@@ -260,7 +263,7 @@ impl<'a, V: Vars> Runner<'a, V> {
         Ok(Draft { ran, changes })
     }
 
-    /// Why the file is refused whose evaluation ended with this fault: for a number the refusal that was kept last.
+    /// Why the file is refused whose evaluation ended with this fault.
     pub(crate) fn into_fault(self, fault: EvalFault) -> RunFault
         ensures { IfSome (stop_of result) (λ stop. eval_stop fault (refusal_view self.entry.refusal) ≡ Some stop) }
     {
@@ -270,12 +273,12 @@ impl<'a, V: Vars> Runner<'a, V> {
             journal: _journal,
             messages: _messages,
             asked: _asked,
-            refusal: kept,
+            refusal: command,
         } = self;
-        refusal(fault, kept)
+        refusal(fault, command)
     }
 
-    /// Answers a command.
+    /// Does a command, and answers it.
     fn answer(&mut self, words: &[String], call: Call<'_>) -> HostAnswer
         requires { call_of (map string_bytes words.now) ≡ Ok (call_view call) }
         ensures replies { Replies (answered (context_of self.old) (found self.old.journal)
@@ -285,18 +288,18 @@ impl<'a, V: Vars> Runner<'a, V> {
     {
         let alloc = self.alloc;
         match call {
-            Call::Set { var, value } => self.keep(words, made::set(alloc, var, value)),
-            Call::Unset { var, value } => self.keep(words, made::unset(alloc, var, value)),
-            Call::Push { var, value } => self.keep(words, made::push(alloc, var, value)),
+            Call::Set { var, value } => self.keep(words, recording::set(alloc, var, value)),
+            Call::Unset { var, value } => self.keep(words, recording::unset(alloc, var, value)),
+            Call::Push { var, value } => self.keep(words, recording::push(alloc, var, value)),
             Call::Path {
                 edit,
                 delim,
                 var,
                 values,
-            } => self.keep(words, made::path(alloc, edit, delim, var, values)),
-            Call::Conflict(names) => self.keep(words, made::conflict(alloc, names)),
-            Call::Prereq(names) => self.keep(words, made::prereq(alloc, names)),
-            Call::Whatis(texts) => self.keep(words, made::whatis(alloc, texts)),
+            } => self.keep(words, recording::path(alloc, edit, delim, var, values)),
+            Call::Conflict(names) => self.keep(words, recording::conflict(alloc, names)),
+            Call::Prereq(names) => self.keep(words, recording::prereq(alloc, names)),
+            Call::Whatis(texts) => self.keep(words, recording::whatis(alloc, texts)),
             Call::Say { text, newline } => self.say(text, newline),
             Call::Getenv { var, default } => self.getenv(var, default),
             Call::OwnName => self.own_name(),
@@ -317,7 +320,7 @@ impl<'a, V: Vars> Runner<'a, V> {
     }
 }
 
-/// Pushes a message, with a newline or without.
+/// Adds a message, with a newline or without.
 fn push_message(
     alloc: Global,
     messages: &mut Vec<String>,
@@ -332,6 +335,7 @@ fn push_message(
     Ok(())
 }
 
+/// The text of a message, with a newline or without.
 fn message(alloc: Global, text: &str, newline: bool) -> Result<String, AllocError>
     ensures { IfOk result (λ m. string_bytes m ≡ message_of text.now newline) }
 {
@@ -358,8 +362,6 @@ impl<'a, V: Vars> Host for Runner<'a, V> {
         ensures answer { Answers (oracle_of (context_of self.old)) (map string_bytes words.now) result
             (told_by self.old) (told_by self.new) }
         ensures same { oracle_of (context_of self.new) ≡ oracle_of (context_of self.old) }
-
-    // What refuses keeps the reason, with its name, behind the number.
     {
         match call_of(self.alloc, words) {
             Ok(call) => self.answer(words, call),

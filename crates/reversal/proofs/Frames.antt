@@ -44,7 +44,7 @@ first_none (Some x) p h = absurd (cc)
 plain_editable : (v : Text) (xs : List Text) → option_map bad_edit (plain_reason v xs) ≡ None → is_editable v ≡ true
 plain_editable v xs h = (no_reason_against v).1 (first_none (name_reason v) _ (mapped_none (plain_reason v xs) h))
 
--- nothing but the variable, and what is kept for it
+-- nothing but the variable, its counters and its stack
 abbrev pub Touched : Option Text → Environment → Environment → Type 0
 Touched None old new = new ≡ old
 Touched (Some v) old new = EditsVariable old new v

@@ -47,7 +47,7 @@ pub lookup_seen : (h : History) (q : Text) → lookup (env h) q ≡ seen h q
 lookup_seen [] q = nothing_set q
 lookup_seen (c ∷ h) q = lookup-with_value (env h) c.0 c.1 q ∙ ap (cond (bytes_eq q c.0) c.1) (lookup_seen h q)
 
--- the edit comes to this history, where there is one
+-- the outcome of the edit is the environment of this history, where there is one
 abbrev pub Comes : Option History → Result Environment EnvReason → Type 0
 Comes None r = Unit {0}
 Comes (Some h) r = r ≡ Ok (env h)

@@ -25,7 +25,7 @@ use Rattle.reversal.proofs.Frames.{accepted, same_accepted, effect_edits, Side, 
 use Rattle.reversal.proofs.Loads.{parts}
 use Rattle.reversal.proofs.Uses.{unnamed, uses_fixed, uses_path, set_by_none, adds_by_none}
 
--- either way of a test
+-- by both results of a test
 pub by_test : (t : Bool) (P : Type 0) → (t ≡ true → P) → (t ≡ false → P) → P
 by_test true P f g = f refl
 by_test false P f g = g refl

@@ -59,7 +59,7 @@ all_through mode side ways owner (r ∷ rs) old new s e =
       rest = λ q h. i.rest q h ∙ kept_rest (variable_of r) old p.0 q t h;
     }
 
--- one variable, by its way, with what is in order
+-- one variable, by its use, with what is in order
 
 pub record StackHeld (b e : Environment) (w : Text) (loaded : List Text) (live : List Module) : Type 0 where
   pub under : StackState

@@ -1,4 +1,4 @@
--- What a record does to the variable that it names, by the way of the variable.
+-- What a record does to the variable that it names, by the use of the variable.
 use Rattle.std.proofs.Common.{◌≡◌, ℕ, Bool, true, false, cond, List, refl, sym, ap, ◌∙◌, Option, Some, None}
 use Rattle.std.specs.Prelude.{bytes_eq, count_by}
 use Rattle.std.proofs.lemmas.Bool.{false≢true}

@@ -1,4 +1,4 @@
--- Whole runs, and what follows from what is kept.
+-- Whole runs, and what follows from what each step preserves.
 use Rattle.std.proofs.Common.{◌≡◌, ℕ, true, List, [], ◌∷◌, ◌++◌, refl, sym, ap, ◌∙◌, subst, Some, Result, Ok}
 use Rattle.std.specs.Prelude.{bytes_eq}
 use Rattle.std.proofs.lemmas.Option.{same_Some, none-some}
@@ -33,7 +33,7 @@ use Rattle.reversal.proofs.Steps.{Kept, Held, Begun, kept_load, kept_unload}
 begun : (ways : Text → Way) (b : Environment) → IsStart ways b → (xs : List Entry) × Begun ways b xs
 begun ways b s = let p = list_in_order b s.order.loaded in (p.0, record { start = s; list = p.1; sound = p.2 })
 
--- what is kept from in order, standing and fit, and the other way
+-- what steps preserve, from its parts and into them
 
 kept_from : (ways : Text → Way) (b e : Environment) (xs : List Entry) (live : List Module) → loaded_in b ≡ Some xs → IsInOrder ways e → Stands ways b live e → AreFit ways live → Kept ways b xs live e
 kept_from ways b e xs live l o s a = record {
@@ -83,7 +83,7 @@ stands ways b e xs live l k = record {
     go v (Pathed d) h = record { state = h.state; stack = h.stack }
     go v Stacked h = record { under = h.under; found = h.found; pushes = h.pushes; order = h.order; state = h.at_.state; counters = h.at_.counters }
 
--- the start stands over itself
+-- the start is the start with no live module
 
 kept_start : (ways : Text → Way) (b : Environment) (xs : List Entry) → Begun ways b xs → Kept ways b xs [] b
 kept_start ways b xs g = record {

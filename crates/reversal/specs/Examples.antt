@@ -1,4 +1,4 @@
--- Worked examples of what is lost where one premise doesn't hold, each over one variable and one or two modules.
+-- Worked examples of what is lost where one premise doesn't hold (own), each over one variable and one or two modules.
 use Rattle.std.specs.Prelude.{◌≡◌, ◌≢◌, true, List, [], ◌∷◌, bytes_eq, codes, if◌then◌else◌, is_some, Some, None}
 use Rattle.std.specs.FinMap as finite
 use Rattle.std.specs.List.{list_all}
@@ -18,11 +18,11 @@ abbrev pub held : List (Text × Text) → Environment
 held [] = finite.empty
 held (p ∷ ps) = with_value (held ps) p.0 (Some p.1)
 
--- this variable is used in this way, and no other is used
+-- the uses of variables where this one has this use, and no other is used
 abbrev pub only_way : Text → Way → Text → Way
 only_way name way v = if bytes_eq v name then way else Untouched
 
--- The moves are accepted and leave no module live, and they lead elsewhere than to the start.
+-- The moves are accepted and leave no module live, and they don't reach the start.
 pub record Lose (start : Environment) (ms : List Move) : Type 0 where
   pub end : Environment
   pub lead : Lead ms start end
@@ -40,11 +40,11 @@ pub record LoseUnlisted (start : Environment) (ms : List Move) : Type 0 where
   pub reversible : AreReversible (λ v. Untouched) [] ms
   pub lose : Lose start ms
 
--- The parts of what is asked of moves.
+-- The parts of the premises about moves.
 pub data Part : Type 0 where
   -- A module that is loaded has records of the kinds alone that unloading undoes;
   of_kind : Part
-  -- it uses each variable in the variable's way;
+  -- it follows the use of each variable;
   in_way : Part
   -- and it sets or unsets none that a live module sets or unsets.
   apart : Part
@@ -53,12 +53,12 @@ pub data Part : Type 0 where
   -- and it has the records of its load.
   unchanged : Part
 
--- all records use their variables in the variables' ways
+-- all records follow the uses of their variables
 abbrev pub AllInWay : (Text → Way) → List Record → Type 0
 AllInWay ways [] = Unit {0}
 AllInWay ways (r ∷ rs) = IsInWay ways r × AllInWay ways rs
 
--- what a part says of a load, and of an unload, while these modules are live
+-- what a part means for a load, and for an unload, while these modules are live
 abbrev pub OfLoad : Part → (Text → Way) → List Module → Module → Type 0
 OfLoad of_kind ways live m = list_all is_reversible m.records ≡ true
 OfLoad in_way ways live m = AllInWay ways m.records
@@ -73,13 +73,13 @@ OfUnload apart live m = Unit {0}
 OfUnload alive live m = (loaded : Module) × (live_named m.name live ≡ Some loaded)
 OfUnload unchanged live m = (loaded : Module) → live_named m.name live ≡ Some loaded → m.records ≡ loaded.records
 
--- it says so of each move
+-- the part holds for each move
 abbrev pub HasPart : Part → (Text → Way) → List Module → List Move → Type 0
 HasPart p ways live [] = Unit {0}
 HasPart p ways live (Loads m ∷ ms) = OfLoad p ways live m × HasPart p ways (m ∷ live) ms
 HasPart p ways live (Unloads m ∷ ms) = OfUnload p live m × HasPart p ways (without_live m.name live) ms
 
--- All parts together are what is asked.
+-- All parts together are the premises.
 abbrev pub PartsAreAll : Type 0
 PartsAreAll =
     (ways : Text → Way) (ms : List Move) → ((part : Part) → HasPart part ways [] ms) → AreReversible ways [] ms
@@ -94,8 +94,8 @@ pub record LoseIrreversible (part : Part) (ways : Text → Way) (start : Environ
   pub others : OtherParts part ways ms
   pub lose : Lose start ms
 
--- The same where they don't lead elsewhere in the end, but on the way to an environment that doesn't stand over the
--- start.
+-- The same where the start isn't lost in the end: the moves reach an environment that isn't the start with the live
+-- modules over it.
 pub record LoseStanding (part : Part) (ways : Text → Way) (start : Environment) (ms : List Move) : Type 0 where
   pub begins : IsStart ways start
   pub others : OtherParts part ways ms
@@ -192,7 +192,7 @@ EmptyLists = LoseUnlisted (held ((codes "LOADEDMODULES", codes "") ∷ (codes "_
 abbrev pub NeedsOfNone : Type 0
 NeedsOfNone = LoseUnlisted (held ((codes "__MODULES_LMPREREQ", codes "z/1&k") ∷ [])) nothing_asked
 
--- A conflict that stands twice is kept once.
+-- A conflict that stands twice stands once in the end.
 abbrev pub ConflictTwice : Type 0
 ConflictTwice = LoseUnlisted (listed_with ((codes "__MODULES_LMCONFLICT", codes "a/1&k&k") ∷ [])) nothing_asked
 
@@ -227,7 +227,7 @@ StartUnloaded =
     LoseIrreversible alive (only_way variable Untouched) (listed_with [])
     (Unloads (record { name = codes "a/1"; path = codes "/m/a/1"; records = [] }) ∷ [])
 
--- Two ways of one variable: the start is one in either, and the record of each module suits one of them.
+-- Two uses of one variable: the start is one by either, and the record of each module suits one of them.
 pub record LoseInTwoWays (one other : Way) (start : Environment) (r s : Record) : Type 0 where
   pub in_one : LoseIrreversible in_way (only_way variable one) start (crossed r s)
   pub in_other : IsStart (only_way variable other) start

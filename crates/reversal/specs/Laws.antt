@@ -1,4 +1,4 @@
--- The laws of runs.
+-- The laws of unloads that undo loads (own).
 use Rattle.std.specs.Prelude.{◌≡◌, List, [], ◌∷◌, ◌++◌, Some, Ok}
 use Rattle.environment.specs.Texts.{Text}
 use Rattle.environment.specs.Environment.{Environment}
@@ -11,27 +11,27 @@ use Rattle.reversal.specs.Standing.{IsInOrder, IsStart, Stands}
 use Rattle.reversal.specs.Requests.{RequestOutcome, all_moves, RunLeads}
 use Rattle.reversal.specs.Runs.{live_after, AreFit, AreReversible}
 
--- in order, standing over the start, and the start itself where no module is live
+-- in order, the start with the live modules over it, and the start itself where no module is live
 pub record Holds (ways : Text → Way) (start : Environment) (live : List Module) (e : Environment) : Type 0 where
   pub order : IsInOrder ways e
   pub stands : Stands ways start live e
   pub returned : live ≡ [] → e ≡ start
 
--- Accepted loads and unloads of new modules that are reversible and apart lead from a start to an environment that is
--- in order and stands over it, and back to it where no module is live.
+-- Accepted loads and unloads of new modules that are reversible and apart reach from a start an environment that is in
+-- order and is the start with the live modules over it, and the start itself where no module is live.
 abbrev pub RunsReturn : Type 0
 RunsReturn =
     (ways : Text → Way) (start e : Environment) (ms : List Move) → IsStart ways start
     → AreReversible ways [] ms → Lead ms start e → Holds ways start (live_after [] ms) e
 
--- So is every environment on the way.
+-- So is the environment after each of the moves.
 abbrev pub EachOnTheWay : Type 0
 EachOnTheWay =
     (ways : Text → Way) (start e : Environment) (done rest : List Move) → IsStart ways start
     → AreReversible ways [] (done ++ rest) → Lead (done ++ rest) start e
     → (mid : Environment) × Lead done start mid × Lead rest mid e × Holds ways start (live_after [] done) mid
 
--- So is every environment of a run of requests, some of which may have been refused.
+-- So is every environment between requests, some of which may have been refused.
 abbrev pub RequestsReturn : Type 0
 RequestsReturn =
     (ways : Text → Way) (start e : Environment) (done rest : List RequestOutcome) → IsStart ways start
@@ -39,7 +39,7 @@ RequestsReturn =
     → (mid : Environment) × RunLeads done start mid × RunLeads rest mid e
     × Holds ways start (live_after [] (all_moves done)) mid
 
--- The same from any environment that is in order and stands over a start, whatever led there.
+-- The same from any environment in order that is a start with live modules over it, whatever was before.
 abbrev pub StepsKeep : Type 0
 StepsKeep =
     (ways : Text → Way) (start old new : Environment) (live : List Module) (ms : List Move) → IsStart ways start
@@ -54,5 +54,6 @@ pub record IsLoad (m : Module) (old new : Environment) : Type 0 where
   pub entry : (xs : List Entry) → loaded_in after ≡ Some xs → loaded_in new ≡ Some (xs ++ entry_of m ∷ [])
   pub only : OnlyAmong after new loaded_names
 
+-- an accepted load has this effect
 abbrev pub LoadsMake : Type 0
 LoadsMake = (m : Module) (old new : Environment) → moved (Loads m) old ≡ Ok new → IsLoad m old new

@@ -1,4 +1,5 @@
--- What the live modules ask of one variable, and the loaded list with them. Live modules stand newest first.
+-- What the live modules make of one variable, and the loaded list with them (own). A live module is one that was loaded
+-- since the start, and not unloaded; the list of them has the newest first.
 use Rattle.std.specs.Prelude.{ℕ, ◌+◌, List, [], ◌∷◌, ◌++◌, bytes_eq, count_by, if◌then◌else◌, Option, Some, None}
 use Rattle.std.specs.Option.{option_or}
 use Rattle.environment.specs.Texts.{Text}
@@ -12,12 +13,12 @@ set_by v (Set var value) = if bytes_eq v var then Some (Some value) else None
 set_by v (Unset var value) = if bytes_eq v var then Some None else None
 set_by v r = None
 
--- by the last of the records that does
+-- what the last of the records sets it to that does
 abbrev pub last_set : Text → List Record → Option (Option Text)
 last_set v [] = None
 last_set v (r ∷ rs) = option_or (last_set v rs) (set_by v r)
 
--- by the newest of the modules that does
+-- what the newest of the modules sets it to that does
 abbrev pub live_set : Text → List Module → Option (Option Text)
 live_set v [] = None
 live_set v (m ∷ live) = option_or (last_set v m.records) (live_set v live)
@@ -58,7 +59,7 @@ abbrev pub live_pushes : Text → List Module → List (Text × Text)
 live_pushes v [] = []
 live_pushes v (m ∷ live) = with_push m.name (last_push v m.records) (live_pushes v live)
 
--- the entries, and behind them those of the live modules, the newest last
+-- the entries, and after them those of the live modules, the newest last
 abbrev pub entries_over : List Entry → List Module → List Entry
 entries_over entries [] = entries
 entries_over entries (m ∷ live) = entries_over entries live ++ entry_of m ∷ []

@@ -1,4 +1,4 @@
--- Why the premises are asked: what loading and then unloading a module loses where one of them doesn't hold.
+-- Why the premises are needed (own): what loading and then unloading a module loses where one of them doesn't hold.
 use Rattle.std.specs.Prelude.{◌≡◌, ◌≢◌, List, [], ◌∷◌, Some, None, Ok}
 use Rattle.environment.specs.Texts.{Text}
 use Rattle.environment.specs.Environment.{Environment, lookup}

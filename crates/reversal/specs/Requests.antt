@@ -1,4 +1,4 @@
--- Requests: what each came to, and where a list of them leads (module(1)).
+-- Requests: the outcome of each, and what environment a list of them reaches (module(1)).
 use Rattle.std.specs.Prelude.{◌≡◌, List, [], ◌∷◌, ◌++◌}
 use Rattle.environment.specs.Environment.{Environment}
 use Rattle.modulerecords.specs.Moves.{Move, Lead}
@@ -19,12 +19,12 @@ abbrev pub all_moves : List RequestOutcome → List Move
 all_moves [] = []
 all_moves (o ∷ os) = moves_of o ++ all_moves os
 
--- what one request leads to: a refused one leaves the environment
+-- what one request reaches: a refused one leaves the environment unchanged
 abbrev pub RequestLeads : RequestOutcome → Environment → Environment → Type 0
 RequestLeads (accepted moves) old new = Lead moves old new
 RequestLeads refused old new = new ≡ old
 
--- where the requests lead, the first of them first
+-- what requests reach, the first of them first
 abbrev pub RunLeads : List RequestOutcome → Environment → Environment → Type 0
 RunLeads [] old new = new ≡ old
 RunLeads (o ∷ os) old new = (mid : Environment) × RequestLeads o old mid × RunLeads os mid new

@@ -1,4 +1,4 @@
--- Runs of loads and unloads of modules that are reversible and apart.
+-- Loads and unloads of modules that are reversible and apart (own).
 use Rattle.std.specs.Prelude.{◌≡◌, true, List, [], ◌∷◌, bytes_eq, if◌then◌else◌, Option, Some, None, is_some}
 use Rattle.environment.specs.Texts.{Text}
 use Rattle.modulerecords.specs.Moves.{Module, Move, Loads, Unloads}
@@ -21,8 +21,8 @@ live_after live [] = live
 live_after live (Loads m ∷ ms) = live_after (m ∷ live) ms
 live_after live (Unloads m ∷ ms) = live_after (without_live m.name live) ms
 
--- The module is reversible, and apart from those that are live: it uses each variable in the variable's way, and sets
--- or unsets none that a live module sets or unsets.
+-- The module is reversible, and apart from those that are live: it follows the use of each variable, and sets or unsets
+-- none that a live module sets or unsets.
 pub record IsFit (ways : Text → Way) (live : List Module) (m : Module) : Type 0 where
   pub suits : AllSuit ways m.records
   pub alone : (v : Text) → is_some (last_set v m.records) ≡ true → live_set v live ≡ None

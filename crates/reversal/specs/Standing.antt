@@ -1,4 +1,4 @@
--- An environment in order, and one that stands over a start with live modules.
+-- An environment in order, a start, and a start with live modules over it (own).
 use Rattle.std.specs.Prelude.{◌≡◌, ℕ, true, List, [], ◌∷◌, Option, Some, unwrap_or}
 use Rattle.environment.specs.Texts.{Text}
 use Rattle.environment.specs.Names.{share_name, stack_name}
@@ -16,8 +16,8 @@ use Rattle.modulerecords.specs.Moves.{Module}
 use Rattle.reversal.specs.Ways.{Way, Untouched, Fixed, Pathed, Stacked}
 use Rattle.reversal.specs.Live.{live_set, live_adds, live_pushes, entries_over}
 
--- In order, for the variables that the ways name: the loaded list, each path by its delimiter, and each stack, whose
--- owners are loaded.
+-- In order, by the uses of variables: the loaded list, each path by its delimiter, and each stack, whose owners are
+-- loaded.
 pub record IsInOrder (ways : Text → Way) (e : Environment) : Type 0 where
   pub loaded : AreLoadedInOrder e
   pub paths : (v : Text) (delim : ℕ) → is_editable v ≡ true → ways v ≡ Pathed delim → IsPathInOrder e v delim
@@ -29,7 +29,7 @@ pub record IsStart (ways : Text → Way) (start : Environment) : Type 0 where
   pub order : IsInOrder ways start
   pub fixed : (v : Text) (value : Option Text) → is_editable v ≡ true → ways v ≡ Fixed value → lookup start v ≡ value
 
--- the variable has this value or is unset, and what is kept for it is as in the start
+-- the variable has this value or is unset, and its counters and its stack are as in the start
 pub record HasValue (start e : Environment) (v : Text) (set : Option Text) : Type 0 where
   pub value : lookup e v ≡ set
   pub counters : lookup e (share_name v) ≡ lookup start (share_name v)
@@ -47,7 +47,7 @@ pub data InAnyOrder : List (Text × Text) → List (Text × Text) → Type 0 whe
   swap : {p q : Text × Text} {ps : List (Text × Text)} → InAnyOrder (p ∷ q ∷ ps) (q ∷ p ∷ ps)
   also : {ps qs rs : List (Text × Text)} → InAnyOrder ps qs → InAnyOrder qs rs → InAnyOrder ps rs
 
--- these pushes stand on the stack of the start, in any order, and the variable's counters are as in the start
+-- these pushes are on the stack of the start, in any order, and the variable's counters are as in the start
 pub record HasStack (start e : Environment) (v : Text) (live : List (Text × Text)) : Type 0 where
   pub under : StackState
   pub found : stack_in start v ≡ Some under
@@ -56,15 +56,15 @@ pub record HasStack (start e : Environment) (v : Text) (live : List (Text × Tex
   pub state : stack_in e v ≡ Some (standing under pushes)
   pub counters : lookup e (share_name v) ≡ lookup start (share_name v)
 
--- one variable, by its way
+-- one variable, by its use
 abbrev pub StandsAt : Way → Environment → Text → List Module → Environment → Type 0
 StandsAt Untouched start v live e = HasValue start e v (lookup start v)
 StandsAt (Fixed value) start v live e = HasValue start e v (unwrap_or (live_set v live) (lookup start v))
 StandsAt (Pathed delim) start v live e = HasPath start e v delim (live_adds v live)
 StandsAt Stacked start v live e = HasStack start e v (live_pushes v live)
 
--- The environment stands over the start with these live modules: the entries are those of the start and then theirs,
--- each variable that may be edited stands by its way, and every name that is none of the tool's is as in the start.
+-- The environment is the start with these live modules over it: the entries are those of the start and then theirs,
+-- each variable that may be edited is as its use has it, and every name that is none of the tool's is as in the start.
 pub record Stands (ways : Text → Way) (start : Environment) (live : List Module) (e : Environment) : Type 0 where
   pub entries : (xs : List Entry) → loaded_in start ≡ Some xs → loaded_in e ≡ Some (entries_over xs live)
   pub variables : (v : Text) → is_editable v ≡ true → StandsAt (ways v) start v live e

@@ -1,9 +1,9 @@
--- The ways in which loads and unloads use variables, and the records that unloading undoes.
+-- How loads and unloads use variables, and the records that unloading undoes (own).
 use Rattle.std.specs.Prelude.{◌≡◌, ℕ, Bool, true, false, List, [], ◌∷◌, Option, Some, None}
 use Rattle.environment.specs.Texts.{Text}
 use Rattle.modulerecords.specs.Records.{Record, Set, Unset, Push, Front, Back, Remove, Conflict, Prereq, Whatis}
 
--- Each variable is used in one way.
+-- How a variable is used: each has one use.
 pub data Way : Type 0 where
   -- by no record
   Untouched : Way
@@ -27,7 +27,7 @@ is_reversible (Conflict names) = true
 is_reversible (Prereq names) = true
 is_reversible (Whatis text) = true
 
--- The record uses the variable that it names in the variable's way. There is none for the kinds that are not undone.
+-- The record follows the use of the variable that it names. Of the kinds that are not undone nothing is asked here.
 abbrev pub IsInWay : (Text → Way) → Record → Type 0
 IsInWay ways (Set var value) = ways var ≡ Fixed None
 IsInWay ways (Unset var None) = Unit {0}
@@ -40,7 +40,7 @@ IsInWay ways (Conflict names) = Unit {0}
 IsInWay ways (Prereq names) = Unit {0}
 IsInWay ways (Whatis text) = Unit {0}
 
--- it is of a kind that unloading undoes, and uses its variable in the variable's way
+-- it is of a kind that unloading undoes, and follows the use of its variable
 abbrev pub Suits : (Text → Way) → Record → Type 0
 Suits ways r = (is_reversible r ≡ true) × IsInWay ways r
 

@@ -1,5 +1,5 @@
-//! Why each premise is asked: worked examples in which the others hold, and a run of accepted moves loses the start, or
-//! in one of them what stands over it. They are computed over the definitions.
+//! Why each premise is needed: worked examples in which the others hold, and accepted moves lose the start, or in one
+//! of them the value of a module that is loaded over it. They are computed from the definitions.
 ghost use Rattle.reversal.specs.Examples.{EmptyPath, CounterOfNone, BottomAlone, HiddenValue, OtherEscapes, OwnerNotLoaded, ValueBeforeSet, OtherValue};
 ghost use Rattle.reversal.specs.Examples.{EmptyLists, NeedsOfNone, ConflictTwice, IllSpelled, EmptyGroup};
 ghost use Rattle.reversal.specs.Examples.{UnsetWithoutValue, ElementRemoved, OtherRecords, StartUnloaded};
@@ -28,8 +28,8 @@ pub fn lists()
     ensures empty_group { EmptyGroup }
 {}
 
-/// From a start, where the moves have every other part of what is asked: records of a kind that unloading doesn't
-/// undo, other records at the unload than at the load, and an unload of a module of the start.
+/// From a start, where the moves have every other part of the premises: records of a kind that unloading doesn't undo,
+/// other records at the unload than at the load, and an unload of a module of the start.
 pub fn kinds()
     ensures unset_without_value { UnsetWithoutValue }
     ensures element_removed { ElementRemoved }
@@ -37,9 +37,10 @@ pub fn kinds()
     ensures start_unloaded { StartUnloaded }
 {}
 
-/// From a start, where the moves have every other part of what is asked: two ways of one variable, in each of which it
-/// is a start. And where two live modules set one variable, the unload of one takes the other's value away, so that the
-/// environment stands over the start no more (the start comes back when both are unloaded).
+/// From a start, where the moves have every other part of the premises: one variable is used in two ways, by each of
+/// which the environment is a start. And where two live modules set one variable, the unload of one takes the other's
+/// value away: the environment isn't the start with the other module any more (but the start is back when both are
+/// unloaded).
 pub fn ways()
     ensures set_and_pushed { SetAndPushed }
     ensures unset_and_pushed { UnsetAndPushed }
@@ -48,7 +49,7 @@ pub fn ways()
     ensures set_by_two { SetByTwo }
 {}
 
-/// Moves that have every part of what is asked are of modules that are reversible and apart.
+/// Moves that have every part of the premises are of modules that are reversible and apart.
 pub fn parts()
     ensures { PartsAreAll }
 {}

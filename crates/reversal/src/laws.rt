@@ -1,23 +1,23 @@
-//! Laws about the definitions alone. Each is a function that does nothing: its contract is the law.
+//! Laws of unloads that undo loads. Each function does nothing: its contract is the law.
 ghost use Rattle.reversal.specs.Laws.{RunsReturn, EachOnTheWay, RequestsReturn, StepsKeep, LoadsMake};
 ghost use Rattle.reversal.specs.Losses.{SetLosesValue, UnsetLosesValue, UnsetGivesAnother};
 
-/// From a start in order, after any accepted loads and unloads of new modules that are reversible and apart, in
-/// whatever order, the environment is in order and stands over the start. Where no module is live it is the start: the
-/// maps are equal. So it is on the way.
+/// After accepted loads and unloads of new modules that are reversible and apart, in whatever order, from a start in
+/// order, the environment is in order, and is the start with the live modules over it. Where no module is live it is
+/// the start: the maps are equal. The same holds after each of the moves.
 pub fn runs()
     ensures returned { RunsReturn }
     ensures each { EachOnTheWay }
 {}
 
 /// The same of requests: each is a list of moves, as a switch, which unloads and then loads, or several names; a
-/// refused one moves nothing. Every environment between two of them is in order and stands over the start, and is the
-/// start where no module is live.
+/// refused one has none. Every environment between two of them is in order, is the start with the live modules over it,
+/// and is the start where no module is live.
 pub fn requests()
     ensures { RequestsReturn }
 {}
 
-/// The same from any environment that is in order and stands over a start in order, whatever led there: this is what
+/// The same from any environment in order that is a start with live modules over it, whatever was before: this is what
 /// one command needs, which knows no history.
 pub fn steps()
     ensures { StepsKeep }
@@ -28,9 +28,9 @@ pub fn loads()
     ensures { LoadsMake }
 {}
 
-/// Why it is asked that a variable that records set is unset at the start, that one that they unset with a value has
-/// that value there, and that they unset none without a value: else a load and its unload of that one record lose the
-/// start (of an unset without a value, where the variable had one).
+/// Why a variable that records set has to be unset at the start, one that they unset with a value has to have that
+/// value there, and none may be unset without a value: else a load and its unload of that one record lose the start (of
+/// an unset without a value, where the variable had one).
 pub fn losses()
     ensures set { SetLosesValue }
     ensures unset { UnsetLosesValue }

@@ -1,6 +1,6 @@
-//! Loads and unloads of modules that are reversible and apart lead back to where they began.
-//!
-//! There is no code here: the functions are laws, each with its contract and no body.
+//! When unloads undo loads: those of modules that are reversible and apart give back the environment before them.
+//! Touches nothing: these are definitions and laws, without code, and examples of why each premise is needed.
+//! Used by requests and the crates above it, whose laws of sessions follow from these.
 #![tactic(auto)]
 
 pub mod examples;

@@ -1,5 +1,5 @@
 use Rattle.std.proofs.Common.{refl}
-use Rattle.defaultfiles.specs.Leaves.{default_setting, left_of}
+use Rattle.defaultfiles.specs.DefaultFileResults.{default_setting, left_of}
 use Rattle.defaultfiles.proofs.laws.some_left.Goals as goal
 
 pub returns : goal.returns

@@ -9,6 +9,6 @@ pub returns-in-Err-clause-edits : goal.returns-in-Err-clause-edits
 returns-in-Err-clause-edits g c =
     let e = c.in-Err.ensures.edits in (
       e.0,
-      refused_edit (reason_of c.in-Err.fault) (record_reason (record_view c.args.kept.now))
-          (edited (mode_view c.args.mode) c.args.owner.now (record_view c.args.kept.now) (g.V.Vars.vars c.args.env.now)) c.in_ok-judge.ensures e.1,
+      refused_edit (reason_of c.in-Err.fault) (record_reason (record_view c.args.recorded.now))
+          (edited (mode_view c.args.mode) c.args.owner.now (record_view c.args.recorded.now) (g.V.Vars.vars c.args.env.now)) c.in_ok-judge.ensures e.1,
     )

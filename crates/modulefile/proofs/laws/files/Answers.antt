@@ -9,8 +9,8 @@ returns-clause-one c = one_run
 pub returns-clause-some : goal.returns-clause-some
 returns-clause-some c = some_run c.some_outcome.ensures
 
-pub returns-clause-make : goal.returns-clause-make
-returns-clause-make c = records_make
+pub returns-clause-have_effects : goal.returns-clause-have_effects
+returns-clause-have_effects c = records_make
 
 pub returns-clause-proper : goal.returns-clause-proper
 returns-clause-proper c = records_proper

@@ -2,8 +2,8 @@ use Rattle.modulefile.proofs.ComputedFiles as computed
 use Rattle.modulefile.proofs.ComputedFiles.{comes}
 use Rattle.modulefile.proofs.rows.refused_rows.Goals as goal
 
-pub returns-clause-kept : goal.returns-clause-kept
-returns-clause-kept c = λ e. comes _ _ 400 _ (computed.refused_kept e)
+pub returns-clause-protected : goal.returns-clause-protected
+returns-clause-protected c = λ e. comes _ _ 400 _ (computed.refused_protected e)
 
 pub returns-clause-topic : goal.returns-clause-topic
 returns-clause-topic c = λ e. comes _ _ 400 _ (computed.refused_topic e)

@@ -5,4 +5,4 @@ use Rattle.modulerun.proofs.journal.records_of.Given as goal
 
 abbrev pub invariant-loop-entry : goal.invariant-loop-entry
 invariant-loop-entry l =
-    l.records.items ++ map (λ (entry : Entry). entry.kept) (into_iter_items l.entry-iterator) ≡ map (λ (entry : Entry). entry.kept) l.fn.entries.items
+    l.records.items ++ map (λ (entry : Entry). entry.recorded) (into_iter_items l.entry-iterator) ≡ map (λ (entry : Entry). entry.recorded) l.fn.entries.items

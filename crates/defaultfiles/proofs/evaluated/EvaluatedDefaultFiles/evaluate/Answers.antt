@@ -3,7 +3,7 @@ use Rattle.std.specs.Prelude.{codes, option_map, string_bytes}
 use Rattle.tclrules.specs.Oracle.{unnamed}
 use Rattle.tclrules.specs.Promise.{texts_of, is_want_of_memory, Evaluates}
 use Rattle.tclrules.specs.Variables.{lookup}
-use Rattle.defaultfiles.specs.Leaves.{default_oracle, Leaves}
+use Rattle.defaultfiles.specs.DefaultFileResults.{default_oracle, Leaves}
 use Rattle.defaultfiles.specs.Replies.{texts_of_words}
 use Rattle.defaultfiles.proofs.Ends.{globals_of, ending_leaves, fault_leaves}
 use Rattle.defaultfiles.proofs.evaluated.EvaluatedDefaultFiles.evaluate.Goals as goal

@@ -14,7 +14,7 @@ invariant_of-self g c =
 
 pub returns : goal.returns
 returns g c =
-    subst (λ (s : SoFar). IsNoted c.enter.result (texts_in c.args.entry.words) (record_view c.args.entry.kept) s (so_far_of c.self.inside.mode c.self.inside.owner.now c.enter.new.env.old (words_of c.enter.new.entries.items))) c.self.view_is
-    (subst (λ (e : Environment). IsNoted c.enter.result (texts_in c.args.entry.words) (record_view c.args.entry.kept) (so_far_of c.self.inside.mode c.self.inside.owner.now c.self.inside.working.old (words_of c.self.inside.entries.items)) (so_far_of c.self.inside.mode c.self.inside.owner.now e (words_of c.enter.new.entries.items))) (sym c.enter.ensures.under)
+    subst (λ (s : SoFar). IsNoted c.enter.result (texts_in c.args.entry.words) (record_view c.args.entry.recorded) s (so_far_of c.self.inside.mode c.self.inside.owner.now c.enter.new.env.old (words_of c.enter.new.entries.items))) c.self.view_is
+    (subst (λ (e : Environment). IsNoted c.enter.result (texts_in c.args.entry.words) (record_view c.args.entry.recorded) (so_far_of c.self.inside.mode c.self.inside.owner.now c.self.inside.working.old (words_of c.self.inside.entries.items)) (so_far_of c.self.inside.mode c.self.inside.owner.now e (words_of c.enter.new.entries.items))) (sym c.enter.ensures.under)
     (noted_by c.enter.result c.self.inside.mode c.self.inside.owner.now c.self.inside.working.old c.self.inside.working.new c.enter.new.env.new c.self.inside.entries.items c.enter.new.entries.items c.args.entry
     c.enter.ensures.ok c.enter.ensures.err c.enter.ensures.edits c.self.invariant))

@@ -1,7 +1,7 @@
 use Rattle.std.proofs.Common.{◌≡◌, length, map, string_bytes}
 use Rattle.std.specs.Prelude.{nat_eq}
 use Rattle.std.specs.List.{list_any, starts_with}
-use Rattle.availreport.proofs.report.begins_with_one.Given as goal
+use Rattle.reports.proofs.avail.begins_with_one.Given as goal
 
 abbrev pub invariant-loop-rest : goal.invariant-loop-rest
 invariant-loop-rest l =

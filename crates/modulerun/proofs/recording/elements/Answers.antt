@@ -1,7 +1,7 @@
 use Rattle.std.proofs.Common.{refl, string_bytes, ap, ◌∙◌, ◌++◌}
 use Rattle.pathstate.specs.PathTexts.{parted}
 use Rattle.modulerun.proofs.ListLemmas.{split_first, cut_on}
-use Rattle.modulerun.proofs.made.elements.Goals as goal
+use Rattle.modulerun.proofs.recording.elements.Goals as goal
 
 pub loop-rest-preserved : goal.loop-rest-preserved
 loop-rest-preserved c =

@@ -1,5 +1,4 @@
--- What the evaluation of a default file leaves (modulefile(5), module-version). The rules of evaluation are those of
--- Tcl.
+-- The result of a default file (modulefile(5), module-version), by its evaluation as Tcl (Tcl(n)).
 use Rattle.std.specs.Prelude.{◌≡◌, false, List, [], ◌∷◌, codes, bytes_eq, if◌then◌else◌, Option, Some, None}
 use Rattle.modulename.specs.ModuleName.{Text}
 use Rattle.tclrules.specs.Oracle.{Oracle, Told, OracleAnswer, Nothing, Kept, Done, Unknown, LeftOut, Refused}
@@ -11,7 +10,7 @@ use Rattle.tclrules.specs.Meaning.{Setting, ComesTo}
 use Rattle.tclrules.specs.declared.limits.Limits.{Limits}
 use Rattle.modulesearch.specs.DefaultFiles.{Left}
 
--- `module-version NAME WORD...` has a name and at least one word, and is kept
+-- `module-version NAME WORD...` has a name and at least one word, and is recorded
 abbrev pub version_answer : List Text → OracleAnswer
 version_answer (command ∷ name ∷ word ∷ words) = Done [] (Kept (command ∷ name ∷ word ∷ words)) false
 version_answer words = Refused 56 None false
@@ -31,6 +30,7 @@ named_answer name words =
     else if is_among left_out_module_commands name then LeftOut name false
     else Unknown false
 
+-- the answer to a command, by its words
 abbrev pub answer_to : List Text → OracleAnswer
 answer_to [] = Unknown false
 answer_to (name ∷ words) = named_answer name (name ∷ words)
@@ -39,7 +39,7 @@ answer_to (name ∷ words) = named_answer name (name ∷ words)
 abbrev pub default_oracle : Oracle
 default_oracle = record { command = λ records words. answer_to words; variable = λ records name. None }
 
--- the evaluation of the text at this path, which the file knows
+-- the evaluation of the text at this path, which the file has in its global variable ModulesCurrentModulefile
 abbrev pub default_setting : Limits → Text → Text → Setting
 default_setting limits path text =
     record {
@@ -50,7 +50,7 @@ default_setting limits path text =
       told = record { records = []; messages = []; asked = false; refused = None };
     }
 
--- At its end its commands are left, and its global variable ModulesVersion. Any fault leaves nothing.
+-- At its end its result is its commands and its global variable ModulesVersion. With any fault it has none.
 abbrev pub left_of : Outcome Ending → Told → Option Left
 left_of (Ended (Normal result s)) told =
     Some (record { commands = told.records; version = lookup s.globals (codes "ModulesVersion") })
@@ -60,7 +60,7 @@ left_of (Ended (Broken s)) told = None
 left_of (Ended (Continued s)) told = None
 left_of (Halted halt) told = None
 
--- What the text of a default file at a path leaves under these limits.
+-- The text of a default file at a path has this result under these limits.
 abbrev pub Leaves : Limits → Text → Text → Option Left → Type 0
 Leaves limits path text left =
     (o : Outcome Ending) × (w : World) × ComesTo (default_setting limits path text) o w × (left ≡ left_of o w.told)

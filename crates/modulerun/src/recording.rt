@@ -1,4 +1,4 @@
-//! The records of commands.
+//! The records of commands (modulefile(5)), copied from their words.
 ghost use Rattle.std.specs.Prelude.{◌≡◌, map, string_bytes, IfOk};
 ghost use Rattle.std.specs.Option.{option_map};
 ghost use Rattle.environment.specs.Texts.{texts_in};
@@ -11,7 +11,7 @@ use environment::fields::{copies, copy, join, parts, slices};
 use modulefile::{Delimiter, PathEdit, Record};
 use std::alloc::{AllocError, Global};
 
-/// The texts, copied.
+/// Copies texts.
 pub(crate) fn copied(alloc: Global, texts: &[String]) -> Result<Vec<String>, AllocError>
     ensures { IfOk result (λ v. texts_in v ≡ map string_bytes texts.now) }
 {
@@ -33,7 +33,7 @@ fn elements(alloc: Global, delim: Delimiter, values: &[String]) -> Result<Vec<St
     copies(alloc, elements.as_slice())
 }
 
-/// `setenv VAR value`
+/// The record of `setenv VAR value`.
 pub(crate) fn set(alloc: Global, var: &str, value: &str) -> Result<Record, AllocError>
     ensures { IfOk result (λ r. record_view r ≡ Set var.now value.now) }
 {
@@ -42,7 +42,7 @@ pub(crate) fn set(alloc: Global, var: &str, value: &str) -> Result<Record, Alloc
     Ok(Record::Set { var, value })
 }
 
-/// `unsetenv VAR ?value?`
+/// The record of `unsetenv VAR ?value?`.
 pub(crate) fn unset(alloc: Global, var: &str, value: Option<&str>) -> Result<Record, AllocError>
     ensures { IfOk result (λ r. record_view r ≡ Unset var.now (option_map (λ v. v.now) value.entry)) }
 {
@@ -51,7 +51,7 @@ pub(crate) fn unset(alloc: Global, var: &str, value: Option<&str>) -> Result<Rec
     Ok(Record::Unset { var, value })
 }
 
-/// `pushenv VAR value`
+/// The record of `pushenv VAR value`.
 pub(crate) fn push(alloc: Global, var: &str, value: &str) -> Result<Record, AllocError>
     ensures { IfOk result (λ r. record_view r ≡ Push var.now value.now) }
 {
@@ -60,7 +60,7 @@ pub(crate) fn push(alloc: Global, var: &str, value: &str) -> Result<Record, Allo
     Ok(Record::Push { var, value })
 }
 
-/// A path command.
+/// The record of a path command.
 pub(crate) fn path(
     alloc: Global,
     edit: PathEdit,
@@ -81,21 +81,21 @@ pub(crate) fn path(
     })
 }
 
-/// `conflict NAME...`
+/// The record of `conflict NAME...`.
 pub(crate) fn conflict(alloc: Global, names: &[String]) -> Result<Record, AllocError>
     ensures { IfOk result (λ r. record_view r ≡ Conflict (map string_bytes names.now)) }
 {
     Ok(Record::Conflict(copied(alloc, names)?))
 }
 
-/// `prereq NAME...`
+/// The record of `prereq NAME...`.
 pub(crate) fn prereq(alloc: Global, names: &[String]) -> Result<Record, AllocError>
     ensures { IfOk result (λ r. record_view r ≡ Prereq (map string_bytes names.now)) }
 {
     Ok(Record::Prereq(copied(alloc, names)?))
 }
 
-/// `module-whatis WORD...`
+/// The record of `module-whatis WORD...`.
 pub(crate) fn whatis(alloc: Global, words: &[String]) -> Result<Record, AllocError>
     ensures { IfOk result (λ r. record_view r ≡ description (map string_bytes words.now)) }
 {

@@ -3,7 +3,7 @@ use Rattle.tcllist.specs.Lists.{list_text}
 use Rattle.modulerecords.specs.Records as records
 use Rattle.modulefile.specs.RecordViews.{record_view}
 use Rattle.modulefile.specs.Reports.{shown_words, line_of, show_text}
-use Rattle.modulerun.proofs.reports.show_report.Given as goal
+use Rattle.reports.proofs.show.show_report.Given as goal
 
 abbrev pub invariant-loop-rest : goal.invariant-loop-rest
 invariant-loop-rest l =

@@ -2,8 +2,8 @@ use Rattle.std.proofs.Common.{◌≡◌, ◌++◌, length, map, string_bytes}
 use Rattle.modulelist.specs.Rows.{row_view}
 use Rattle.modulelist.specs.Listings.{listing_view}
 use Rattle.requests.specs.Reports.{wanted_text}
-use Rattle.availreport.specs.Rest.{rest_text}
-use Rattle.availreport.proofs.report.push_listing.Given as goal
+use Rattle.reports.specs.AvailRest.{rest_text}
+use Rattle.reports.proofs.avail.push_listing.Given as goal
 
 abbrev pub invariant-loop-rest : goal.invariant-loop-rest
 invariant-loop-rest l =

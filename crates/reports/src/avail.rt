@@ -1,4 +1,4 @@
-//! The report of `avail`, as lines of text.
+//! The report of `avail` (module(1)): the modules of each directory.
 ghost use Rattle.std.specs.Prelude.{◌≡◌, ◌++◌, map, codes, nat_eq, IfOk, OnOk, string_bytes};
 ghost use Rattle.std.specs.List.{list_any, starts_with};
 ghost use Rattle.modulelist.specs.Listings.{listing_view};
@@ -30,7 +30,7 @@ fn begins_with_one(name: &str, texts: &[String]) -> bool
     false
 }
 
-/// Whether a name is to be reported: it begins with one of the texts, or there are none.
+/// Whether a name is reported: it begins with one of the texts, or there are none.
 #[tactic(auto, using(crate::proofs::Wanted::wanted))]
 fn is_wanted(texts: &[String], name: &str) -> bool
     ensures { result ≡ is_wanted (map string_bytes texts.now) name.now }
@@ -57,7 +57,7 @@ fn push_row(report: &mut String, row: &Row) -> Result<(), AllocError>
     report.push('\n')
 }
 
-/// Adds the lines of a directory, where it has a name to report.
+/// Adds the lines of a directory, where a name of it is reported.
 fn push_listing(report: &mut String, texts: &[String], listing: &Listing) -> Result<(), AllocError>
     ensures { OnOk result (string_bytes report.new
         ≡ string_bytes report.old ++ wanted_text (map string_bytes texts.now) (listing_view listing.now)) }
@@ -77,8 +77,8 @@ fn push_listing(report: &mut String, texts: &[String], listing: &Listing) -> Res
     Ok(())
 }
 
-/// The report of `avail`: for each directory that has names to report a line `DIR:` and its modules, one a line, with
-/// `(default)` behind one that a default file names. Where texts are given, only names that begin with one of them.
+/// The report of `avail`: for each directory of which a name is reported a line `DIR:` and its modules, one a line,
+/// with `(default)` after one that a default file names. Where texts are given, only names that begin with one of them.
 ///
 /// It fails for want of memory alone.
 pub fn avail_report(

@@ -1,14 +1,16 @@
-//! What is reported of the records of a file.
-ghost use Rattle.std.specs.Prelude.{◌≡◌, ◌++◌, ◌∷◌, [], codes, map, string_bytes, IfOk, OnOk};
+//! The report of `show` (module(1)): the records of a modulefile, as its commands.
+ghost use Rattle.std.specs.Prelude.{◌≡◌, ◌∷◌, [], codes, map, string_bytes, IfOk};
 ghost use Rattle.tcllist.specs.Lists.{list_text};
 ghost use Rattle.modulefile.specs.RecordViews.{record_view};
-ghost use Rattle.modulefile.specs.Reports.{path_words, shown_words, line_of, show_text, whatis_text};
+ghost use Rattle.modulefile.specs.Reports.{path_words, shown_words, show_text};
 
+use crate::lines::push_line;
 use environment::fields::{join, slices};
 use modulefile::{Delimiter, PathEdit, Record};
 use std::alloc::{AllocError, Global};
 use tcllist::write_list;
 
+/// Three words, written as a list of Tcl.
 fn listed<'a>(
     alloc: Global,
     command: &'a str,
@@ -20,6 +22,7 @@ fn listed<'a>(
     write_list(alloc, &[command, var, value])
 }
 
+/// A path command with its option `--delim`, written as a list of Tcl.
 fn listed_with<'a>(
     alloc: Global,
     command: &'a str,
@@ -33,7 +36,8 @@ fn listed_with<'a>(
     write_list(alloc, &[command, "--delim", delim, var, value])
 }
 
-/// A path command: the elements are one value, and the delimiter is told where it isn't the colon.
+/// A path command, written as a list of Tcl: its elements are joined to one value, and `--delim` has the delimiter
+/// where it isn't the colon.
 fn shown_path(
     alloc: Global,
     command: &str,
@@ -54,7 +58,7 @@ fn shown_path(
     listed_with(alloc, command, &said, var, &value)
 }
 
-/// A command and names.
+/// A command and its names, written as a list of Tcl.
 fn shown_names(alloc: Global, command: &str, names: &[String]) -> Result<String, AllocError>
     ensures { IfOk result (λ t. string_bytes t ≡ list_text (command.now ∷ map string_bytes names.now)) }
 {
@@ -65,11 +69,11 @@ fn shown_names(alloc: Global, command: &str, names: &[String]) -> Result<String,
     write_list(alloc, words.as_slice())
 }
 
-/// A record as a command with its words.
-fn shown(alloc: Global, kept: &Record) -> Result<String, AllocError>
-    ensures { IfOk result (λ t. string_bytes t ≡ list_text (shown_words (record_view kept.now))) }
+/// A record as the command that makes it, written as a list of Tcl.
+fn shown(alloc: Global, recorded: &Record) -> Result<String, AllocError>
+    ensures { IfOk result (λ t. string_bytes t ≡ list_text (shown_words (record_view recorded.now))) }
 {
-    match kept {
+    match recorded {
         Record::Set { var, value } => write_list(alloc, &["setenv", var, value]),
         Record::Unset { var, value } => match value {
             None => write_list(alloc, &["unsetenv", var]),
@@ -92,59 +96,17 @@ fn shown(alloc: Global, kept: &Record) -> Result<String, AllocError>
     }
 }
 
-/// Writes a text as a line.
-fn push_line(report: &mut String, text: &str) -> Result<(), AllocError>
-    ensures { OnOk result (string_bytes report.new ≡ string_bytes report.old ++ line_of text.now) }
-{
-    report.push_str(text)?;
-    report.push('\n')
-}
-
-/// What is shown of a file by its path and records: a line of its path, and one for each record, its command and words
-/// in the writing of lists. Refused for want of memory alone.
+/// The report of `show` on a file: a line `PATH:`, and one for each of its records, which is a command whose words are
+/// written as a list of Tcl. It fails for want of memory alone.
 pub fn show_report(alloc: Global, path: &str, records: &[Record]) -> Result<String, AllocError>
     ensures { IfOk result (λ t. string_bytes t ≡ show_text path.now (map record_view records.now)) }
 {
     let mut report = String::from_str(alloc, path)?;
     report.push_str(":\n")?;
     let mut rest = records;
-    while let [kept, after @ ..] = rest {
-        let line = shown(alloc, kept)?;
+    while let [recorded, after @ ..] = rest {
+        let line = shown(alloc, recorded)?;
         push_line(&mut report, &line)?;
-        rest = after;
-    }
-    Ok(report)
-}
-
-/// Writes a description behind the module's name, where the record is one.
-fn push_description(report: &mut String, name: &str, kept: &Record) -> Result<(), AllocError>
-    ensures { OnOk result (string_bytes report.new
-        ≡ string_bytes report.old ++ whatis_text name.now (record_view kept.now ∷ [])) }
-{
-    match kept {
-        Record::Whatis(text) => {
-            report.push_str(name)?;
-            report.push_str(": ")?;
-            push_line(report, text)
-        }
-        Record::Set { .. }
-        | Record::Unset { .. }
-        | Record::Push { .. }
-        | Record::Path { .. }
-        | Record::Conflict(_)
-        | Record::Prereq(_) => Ok(()),
-    }
-}
-
-/// The descriptions among the records of a file, each on a line behind the module's name. Refused for want of memory
-/// alone.
-pub fn whatis_report(alloc: Global, name: &str, records: &[Record]) -> Result<String, AllocError>
-    ensures { IfOk result (λ t. string_bytes t ≡ whatis_text name.now (map record_view records.now)) }
-{
-    let mut report = String::new(alloc);
-    let mut rest = records;
-    while let [kept, after @ ..] = rest {
-        push_description(&mut report, name, kept)?;
         rest = after;
     }
     Ok(report)

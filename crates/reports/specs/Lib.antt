@@ -1,2 +1,2 @@
 -- for this crate's own contracts alone
-pub mod Rest
+pub mod AvailRest

@@ -1,7 +1,7 @@
 use Rattle.std.proofs.Common.{◌≡◌, ◌++◌, length, map, string_bytes}
 use Rattle.modulelist.specs.Listings.{listing_view}
 use Rattle.requests.specs.Reports.{avail_text}
-use Rattle.availreport.proofs.report.avail_report.Given as goal
+use Rattle.reports.proofs.avail.avail_report.Given as goal
 
 abbrev pub invariant-loop-rest : goal.invariant-loop-rest
 invariant-loop-rest l =

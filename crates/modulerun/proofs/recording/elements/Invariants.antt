@@ -1,7 +1,7 @@
 use Rattle.std.proofs.Common.{◌≡◌, ◌++◌, length, map, string_bytes}
 use Rattle.environment.specs.Texts.{shown}
 use Rattle.modulefile.specs.Calls.{elements_of}
-use Rattle.modulerun.proofs.made.elements.Given as goal
+use Rattle.modulerun.proofs.recording.elements.Given as goal
 
 abbrev pub invariant-loop-rest : goal.invariant-loop-rest
 invariant-loop-rest l = shown l.elements.items ++ elements_of l.delim.character (map string_bytes l.rest) ≡ elements_of l.delim.character (map string_bytes l.values)
