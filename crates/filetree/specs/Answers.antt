@@ -5,8 +5,8 @@ use Rattle.message.specs.Messages.{quoting}
 use Rattle.filetree.specs.Search.{Held, absent, no_cookie, not_utf8, script}
 use Rattle.filetree.specs.declared.modulefile.Modulefile.{Modulefile}
 use Rattle.filetree.specs.declared.modulefile.Modulefile.TheVariants.{Absent, NoCookie, NotUtf8, Script}
-use Rattle.filetree.specs.declared.search.FindFault.{FindFault}
-use Rattle.filetree.specs.declared.search.FindFault.TheVariants as fault
+use Rattle.filetree.specs.declared.find_fault.FindFault.{FindFault}
+use Rattle.filetree.specs.declared.find_fault.FindFault.TheVariants as fault
 use Rattle.filetree.specs.declared.tree.TreeFault.{TreeFault}
 use Rattle.filetree.specs.declared.tree.TreeFault.TheVariants as tree_fault
 

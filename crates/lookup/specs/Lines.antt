@@ -2,8 +2,8 @@
 use Rattle.std.specs.Prelude.{◌≡◌, Bool, List, map, flat_map, Option}
 use Rattle.modulename.specs.ModuleName.{Text}
 use Rattle.filetree.specs.Agreement.{Files, Listings}
-use Rattle.modulesearch.specs.DefaultFiles.{Left}
-use Rattle.modulesearch.specs.Listed.{Row, Listing, Listed}
+use Rattle.search.specs.DefaultFiles.{Left}
+use Rattle.search.specs.Listed.{Row, Listing, Listed}
 
 -- a module: its directory, its full name, and whether a default file names it
 abbrev pub Line : Type 0

@@ -2,10 +2,10 @@
 use Rattle.std.specs.Prelude.{Option, Result, Ok}
 use Rattle.modulename.specs.ModuleName.{Text}
 use Rattle.filetree.specs.Agreement.{Files, Listings}
-use Rattle.relations.specs.Relations.{Is, Then}
-use Rattle.modulesearch.specs.Reasons.{Reason}
-use Rattle.modulesearch.specs.DefaultFiles.{Left}
-use Rattle.modulesearch.specs.Found.{FoundModule, Found}
+use Rattle.filetree.specs.Relations.{Is, Then}
+use Rattle.search.specs.Reasons.{Reason}
+use Rattle.search.specs.DefaultFiles.{Left}
+use Rattle.search.specs.Found.{FoundModule, Found}
 
 -- a module's full name, and the path of its file
 pub record ModulePlace : Type 0 where

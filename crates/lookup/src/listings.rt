@@ -2,17 +2,17 @@
 ghost use Rattle.std.specs.Prelude.{◌≡◌, ◌<◌, ◌≤◌, ◌++◌, map, IfOk, IfErr, OnOk};
 ghost use Rattle.filetree.specs.Agreement.{FailsAt, Narrows, InEachPair};
 ghost use Rattle.filetree.specs.Causes.{Applies};
-ghost use Rattle.modulesearch.specs.Looked.{ListingLooksAt};
-ghost use Rattle.modulefind.specs.Answers.{cause_of, is_failure};
-ghost use Rattle.modulelist.specs.Listings.{listing_view};
-ghost use Rattle.modulelist.specs.Rows.{row_view};
+ghost use Rattle.search.specs.Looked.{ListingLooksAt};
+ghost use Rattle.search.specs.Answers.{cause_of, is_failure};
+ghost use Rattle.search.specs.Listings.{listing_view};
+ghost use Rattle.search.specs.Rows.{row_view};
 ghost use Rattle.defaultfiles.specs.Leaves.{Leaves};
 ghost use Rattle.lookup.specs.Lines.{line_of, lines_of, Available};
 ghost use Rattle.lookup.specs.LineViews.{line_view};
 
 use defaultfiles::Evaluated;
 use filetree::{FindFault, Tree};
-use modulelist::Row;
+use search::Row;
 use std::alloc::{AllocError, Global};
 use tclrules::Limits;
 
@@ -50,7 +50,7 @@ fn push_modules(
 }
 
 /// The modules of each directory, behind one another.
-fn joined(alloc: Global, directories: &[modulelist::Listing]) -> Result<Vec<Listing>, AllocError>
+fn joined(alloc: Global, directories: &[search::Listing]) -> Result<Vec<Listing>, AllocError>
     ensures { IfOk result (λ listings.
         map line_view listings.items ≡ lines_of (map listing_view directories.now)) }
 {
@@ -87,6 +87,6 @@ pub fn available<T: Tree>(
         ListingLooksAt (Leaves limits) files folders modulepath.now at)) }
 {
     let default_files = Evaluated { limits };
-    let directories = modulelist::available(alloc, tree, &default_files, modulepath)?;
+    let directories = search::available(alloc, tree, &default_files, modulepath)?;
     Ok(joined(alloc, &directories)?)
 }

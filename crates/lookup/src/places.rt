@@ -2,8 +2,8 @@
 ghost use Rattle.std.specs.Prelude.{◌≡◌, ◌<◌, ◌≤◌, false};
 ghost use Rattle.modulename.specs.ModuleName.{is_module_name};
 ghost use Rattle.filetree.specs.Agreement.{FailsAt, Narrows, InEachPair};
-ghost use Rattle.modulesearch.specs.Looked.{LooksAt};
-ghost use Rattle.modulefind.specs.Answers.{Tells, is_failure};
+ghost use Rattle.search.specs.Looked.{LooksAt};
+ghost use Rattle.search.specs.Answers.{Tells, is_failure};
 ghost use Rattle.defaultfiles.specs.Leaves.{Leaves};
 ghost use Rattle.lookup.specs.Places.{Located};
 ghost use Rattle.lookup.specs.PlaceViews.{place_view};
@@ -48,7 +48,7 @@ pub fn locate<T: Tree>(
     ensures unread { is_module_name name.now ≡ false → tree.new ≡ tree.old }
 {
     let default_files = Evaluated { limits };
-    let module = modulefind::locate(alloc, tree, &default_files, modulepath, name)?;
+    let module = search::locate(alloc, tree, &default_files, modulepath, name)?;
     Ok(Found {
         name: module.name,
         path: module.path,

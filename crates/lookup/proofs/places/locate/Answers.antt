@@ -1,9 +1,9 @@
 use Rattle.std.proofs.Common.{◌<◌, Ok, Err, refl}
 use Rattle.std.proofs.lemmas.Result.{err_from_is_err_and}
 use Rattle.defaultfiles.specs.Leaves.{Leaves}
-use Rattle.modulesearch.specs.Found.{Found}
-use Rattle.modulefind.specs.Answers.{found_view}
-use Rattle.modulefind.proofs.StepLemmas.{tells_fault}
+use Rattle.search.specs.Found.{Found}
+use Rattle.search.specs.Answers.{found_view}
+use Rattle.search.proofs.StepLemmas.{tells_fault}
 use Rattle.lookup.specs.Places.{Located}
 use Rattle.lookup.specs.PlaceViews.{place_view}
 use Rattle.lookup.proofs.places.locate.Goals as goal

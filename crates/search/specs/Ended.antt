@@ -1,0 +1,10 @@
+-- What an evaluation left, as contracts see it.
+use Rattle.std.specs.Prelude.{map, option_map, string_bytes, vec_items}
+use Rattle.search.specs.DefaultFiles.{Left}
+use Rattle.search.specs.declared.default_files.Ended.{Ended}
+
+abbrev pub ended_view : Ended → Left
+ended_view ended = record {
+  commands = map (λ words. map string_bytes (vec_items words)) (vec_items ended.commands);
+  version = option_map string_bytes ended.version;
+}
