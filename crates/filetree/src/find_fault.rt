@@ -1,4 +1,4 @@
-//! Why no module is found.
+//! Why a search finds no module: the faults 41 to 46, with their numbers and messages.
 ghost use Rattle.std.specs.Prelude.{◌≡◌, Some};
 ghost use Rattle.filetree.specs.declared.find_fault.FindFault.TheVariants.{OutOfMemory};
 ghost use Rattle.message.specs.Messages.{text_of};
@@ -14,15 +14,15 @@ use std::fmt::Display;
 /// Why no module was found.
 #[derive(Debug, Drop)]
 pub enum FindFault {
-    /// No memory was left.
+    /// An allocation failed.
     OutOfMemory,
     /// No directory of MODULEPATH has a module of this name.
     NotFound(String),
-    /// The device failed in this call.
+    /// The device failed in this call: a file or directory could not be read.
     Device,
-    /// The name is not spelled as the name of a module.
+    /// The name is not well spelled as the name of a module.
     BadName(String),
-    /// The default file at this path cannot be evaluated.
+    /// The default file at this path is not UTF-8, or its evaluation has a fault.
     BadDefaultFile(String),
     /// The file at this path, which is the module, is not UTF-8.
     NotUtf8(String),
@@ -43,7 +43,7 @@ impl FindFault {
         }
     }
 
-    /// What the fault says.
+    /// The text of the fault, as the error line shows it.
     pub fn message(&self) -> Message<'_>
         ensures { text_of result ≡ find_message self.now }
     {
