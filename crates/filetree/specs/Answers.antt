@@ -2,7 +2,7 @@
 use Rattle.std.specs.Prelude.{ℕ, codes, string_bytes}
 use Rattle.modulename.specs.ModuleName.{Text}
 use Rattle.message.specs.Messages.{quoting}
-use Rattle.filetree.specs.Search.{Held, absent, no_cookie, not_utf8, script}
+use Rattle.filetree.specs.Modulefiles.{Held, absent, no_cookie, not_utf8, script}
 use Rattle.filetree.specs.declared.modulefile.Modulefile.{Modulefile}
 use Rattle.filetree.specs.declared.modulefile.Modulefile.TheVariants.{Absent, NoCookie, NotUtf8, Script}
 use Rattle.filetree.specs.declared.find_fault.FindFault.{FindFault}

@@ -5,6 +5,6 @@ pub mod Causes
 pub mod Contents
 pub mod Devices
 pub mod Disk
+pub mod Modulefiles
 pub mod Relations
-pub mod Search
 pub mod Utf8

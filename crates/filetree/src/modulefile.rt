@@ -2,7 +2,7 @@
 ghost use Rattle.std.specs.Prelude.{◌≡◌, false, IfOk, Some};
 ghost use Rattle.filetree.specs.Agreement.{FailsAt, InEachPair, HasCause, Narrows, begins_with, is_device};
 ghost use Rattle.filetree.specs.Answers.{modulefile_view};
-ghost use Rattle.filetree.specs.Search.{cookie, is_module, modulefile};
+ghost use Rattle.filetree.specs.Modulefiles.{cookie, is_module, modulefile};
 
 use crate::tree::{Tree, TreeFault};
 

@@ -3,7 +3,7 @@ use Rattle.std.proofs.Common.{◌≡◌, ◌≤◌, ◌-◌, true, List, length,
 use Rattle.std.specs.Prelude.{codes}
 use Rattle.modulename.specs.ModuleName.{Text}
 use Rattle.filetree.specs.Agreement.{Files, Listings}
-use Rattle.filetree.specs.Search.{Held, absent, no_cookie, not_utf8, script, modulefile, is_module, path_of}
+use Rattle.filetree.specs.Modulefiles.{Held, absent, no_cookie, not_utf8, script, modulefile, is_module, path_of}
 use Rattle.search.specs.DefaultFiles.{Left, VersionIn, Names, by_command, by_variable}
 use Rattle.search.specs.Found.{IsModuleAt, IsCandidate, HasCandidates, IsOneOf, NamedDefault, Default, default_file}
 use Rattle.search.specs.Looked.{IsVersionIn, LooksBy, LooksForNamed, LooksInFolder, LooksBelow, Gives, LooksAlong}

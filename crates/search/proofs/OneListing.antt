@@ -8,7 +8,7 @@ use Rattle.std.proofs.lemmas.Cmp.{tied_itself}
 use Rattle.std.proofs.lemmas.Slice.Eq.{bytes_eq-Decides}
 use Rattle.modulename.specs.ModuleName.{Text}
 use Rattle.filetree.specs.Agreement.{Files, Listings}
-use Rattle.filetree.specs.Search.{directories}
+use Rattle.filetree.specs.Modulefiles.{directories}
 use Rattle.search.specs.DefaultFiles.{Left}
 use Rattle.moduleversion.specs.Versions.{version_order}
 use Rattle.search.specs.Listed.{Row, names_of, is_marked, IsListing, Listing, AreListings, Listed}

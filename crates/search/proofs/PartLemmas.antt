@@ -6,7 +6,7 @@ use Rattle.std.proofs.lemmas.Bool.{and_parts, and_from}
 use Rattle.std.proofs.lemmas.Bool.Decides.{nat_tests}
 use Rattle.std.proofs.lemmas.List.Splits.{join_with_byte-slice_split}
 use Rattle.modulename.specs.ModuleName.{Text, slash, parts, is_part, is_module_name}
-use Rattle.filetree.specs.Search.{path_of}
+use Rattle.filetree.specs.Modulefiles.{path_of}
 use Rattle.search.specs.Single.{is_single}
 use Rattle.search.specs.Below.{folder_path, name_below, parts_of}
 

@@ -16,7 +16,7 @@ use Rattle.modulename.specs.ModuleName.{Text, is_module_name}
 use Rattle.moduleversion.specs.Versions.{version_order}
 use Rattle.moduleversion.proofs.OrderLemmas.{total}
 use Rattle.filetree.specs.Agreement.{Files, Listings}
-use Rattle.filetree.specs.Search.{path_of}
+use Rattle.filetree.specs.Modulefiles.{path_of}
 use Rattle.search.specs.Single.{is_single}
 use Rattle.search.specs.Found.{IsCandidate}
 use Rattle.search.specs.Looked.{IsVersionIn, LooksForGreatest}

@@ -3,7 +3,7 @@ use Rattle.std.specs.Prelude.{◌≡◌, ◌↔◌, ◌⊎◌, Bool, true, List,
 use Rattle.std.specs.List.{list_any, AllByRecursion}
 use Rattle.modulename.specs.ModuleName.{Text, parts, is_module_name}
 use Rattle.filetree.specs.Agreement.{Files, Listings}
-use Rattle.filetree.specs.Search.{modulefile, is_module, path_of}
+use Rattle.filetree.specs.Modulefiles.{modulefile, is_module, path_of}
 use Rattle.search.specs.Single.{is_single}
 use Rattle.search.specs.DefaultFiles.{Left}
 use Rattle.search.specs.Found.{IsModuleAt}

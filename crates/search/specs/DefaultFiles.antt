@@ -4,7 +4,7 @@ use Rattle.std.specs.Prelude.{◌≡◌, List, [], ◌∷◌, ◌++◌, codes, b
 use Rattle.std.specs.Option.{option_or}
 use Rattle.std.specs.List.{list_any}
 use Rattle.modulename.specs.ModuleName.{Text, slash}
-use Rattle.filetree.specs.Search.{Held, absent, no_cookie, not_utf8, script, modulefile}
+use Rattle.filetree.specs.Modulefiles.{Held, absent, no_cookie, not_utf8, script, modulefile}
 use Rattle.filetree.specs.Agreement.{Files}
 use Rattle.filetree.specs.Relations.{Is}
 use Rattle.search.specs.Reasons.{Reason, bad_default}

@@ -5,7 +5,7 @@ use Rattle.std.specs.List.{list_any}
 use Rattle.std.specs.List.Sorted.{IsStrictlySortedBy}
 use Rattle.modulename.specs.ModuleName.{Text, parts, is_module_name}
 use Rattle.filetree.specs.Agreement.{Files, Listings}
-use Rattle.filetree.specs.Search.{directories, path_of}
+use Rattle.filetree.specs.Modulefiles.{directories, path_of}
 use Rattle.moduleversion.specs.Versions.{version_order}
 use Rattle.search.specs.DefaultFiles.{Left}
 use Rattle.search.specs.Found.{IsModuleAt, HasEntry, NamedDefault}

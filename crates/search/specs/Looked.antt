@@ -6,7 +6,7 @@ use Rattle.std.specs.Ordering.{is_le}
 use Rattle.modulename.specs.ModuleName.{Text, parts, is_module_name}
 use Rattle.moduleversion.specs.Versions.{version_order}
 use Rattle.filetree.specs.Agreement.{Files, Listings}
-use Rattle.filetree.specs.Search.{directories, path_of}
+use Rattle.filetree.specs.Modulefiles.{directories, path_of}
 use Rattle.search.specs.Single.{is_single}
 use Rattle.search.specs.Reasons.{Reason}
 use Rattle.search.specs.DefaultFiles.{Left, VersionIn, Names, by_command, by_variable}

@@ -2,7 +2,7 @@
 use Rattle.std.specs.Prelude.{Option, Some, None, Result, Ok, Err}
 use Rattle.modulename.specs.ModuleName.{Text}
 use Rattle.filetree.specs.Agreement.{Files, Listings}
-use Rattle.filetree.specs.Search.{Held, absent, no_cookie, not_utf8, script, modulefile, path_of}
+use Rattle.filetree.specs.Modulefiles.{Held, absent, no_cookie, not_utf8, script, modulefile, path_of}
 use Rattle.filetree.specs.Relations.{Is, Where, ◌>>◌}
 use Rattle.search.specs.Reasons.{Reason, not_utf8_at}
 use Rattle.search.specs.DefaultFiles.{Left}

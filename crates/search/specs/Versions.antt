@@ -4,7 +4,7 @@ use Rattle.std.specs.Ordering.{is_lt}
 use Rattle.modulename.specs.ModuleName.{Text, is_module_name}
 use Rattle.moduleversion.specs.Versions.{version_order, IsGreatest}
 use Rattle.filetree.specs.Agreement.{Files, Listings}
-use Rattle.filetree.specs.Search.{modulefile, is_module, path_of}
+use Rattle.filetree.specs.Modulefiles.{modulefile, is_module, path_of}
 use Rattle.search.specs.Single.{is_single}
 use Rattle.search.specs.Found.{IsCandidate, HasCandidates}
 

@@ -1,7 +1,7 @@
 //! Candidates of a name.
 ghost use Rattle.std.specs.Prelude.{◌≡◌, IfOk};
 ghost use Rattle.filetree.specs.Agreement.{FailsAt, Files, Listings, Narrows, InEachPair, HasCause, is_device};
-ghost use Rattle.filetree.specs.Search.{path_of};
+ghost use Rattle.filetree.specs.Modulefiles.{path_of};
 ghost use Rattle.search.specs.Versions.{is_module_in};
 
 use crate::paths::path_of;

@@ -1,7 +1,7 @@
 //! The candidate that the default files of a folder name.
 ghost use Rattle.std.specs.Prelude.{◌≡◌, map, Some, IfOk, string_bytes};
 ghost use Rattle.filetree.specs.Agreement.{FailsAt, Files, Listings, InEachPair, HasCause, is_device};
-ghost use Rattle.filetree.specs.Search.{path_of};
+ghost use Rattle.filetree.specs.Modulefiles.{path_of};
 ghost use Rattle.search.specs.DefaultFiles.{Names, said};
 ghost use Rattle.search.specs.Found.{IsCandidate, NamedDefault, default_file};
 ghost use Rattle.search.specs.Looked.{LooksAtVersion, LooksBy, LooksForNamed};

@@ -3,7 +3,7 @@ ghost use Rattle.std.specs.Prelude.{◌≡◌, ◌⊎◌, ◌<◌, ◌≤◌, ma
 ghost use Rattle.std.specs.Option.{option_map};
 ghost use Rattle.modulename.specs.ModuleName.{is_module_name};
 ghost use Rattle.filetree.specs.Agreement.{FailsAt, Files, Listings, InEachPair};
-ghost use Rattle.filetree.specs.Search.{path_of, directories};
+ghost use Rattle.filetree.specs.Modulefiles.{path_of, directories};
 ghost use Rattle.filetree.specs.Relations.{Is};
 ghost use Rattle.search.specs.Found as meaning;
 ghost use Rattle.filetree.specs.Answers.{modulefile_view};

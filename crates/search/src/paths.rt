@@ -2,7 +2,7 @@
 ghost use Rattle.std.specs.Prelude.{◌≡◌, map, bytes_eq, string_bytes, IfOk};
 ghost use Rattle.std.specs.List.{list_any};
 ghost use Rattle.search.specs.Single.{is_single};
-ghost use Rattle.filetree.specs.Search.{path_of};
+ghost use Rattle.filetree.specs.Modulefiles.{path_of};
 
 use std::alloc::{AllocError, Global};
 

@@ -4,7 +4,7 @@ ghost use Rattle.std.specs.List.{list_any};
 ghost use Rattle.std.specs.List.Sorted.{IsPermutation, IsSortedBy};
 ghost use Rattle.std.specs.Option.{option_map};
 ghost use Rattle.filetree.specs.Agreement.{FailsAt, Files, Listings, InEachPair, HasCause, is_device};
-ghost use Rattle.filetree.specs.Search.{path_of};
+ghost use Rattle.filetree.specs.Modulefiles.{path_of};
 ghost use Rattle.search.specs.Looked.{LooksForGreatest};
 ghost use Rattle.search.specs.Versions.{is_version, is_module_in, goes_before, IsGreatestOf, LooksDown};
 

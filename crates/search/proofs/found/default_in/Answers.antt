@@ -1,6 +1,6 @@
 use Rattle.std.proofs.Common.{◌≡◌, ◌⊎◌, inr}
 use Rattle.filetree.specs.Agreement.{InEachPair}
-use Rattle.filetree.specs.Search.{path_of}
+use Rattle.filetree.specs.Modulefiles.{path_of}
 use Rattle.search.specs.Looked.{LooksInFolder}
 use Rattle.search.specs.Answers.{is_failure}
 use Rattle.search.proofs.FailureLemmas.{fails_last}

@@ -2,7 +2,7 @@ use Rattle.std.proofs.Common.{not, ap, ◌∙◌, arith, rules, tests}
 use Rattle.std.specs.Str.Iter.{split_text, split_has_more, split_pattern}
 use Rattle.std.proofs.lemmas.Iterator.Consumers.{map_from_collect, YieldsList-from_filter}
 use Rattle.std.proofs.lemmas.Iterator.Splits.{YieldsList-from_str_split}
-use Rattle.filetree.specs.Search.{is_empty}
+use Rattle.filetree.specs.Modulefiles.{is_empty}
 use Rattle.search.proofs.StepLemmas.{is_empty-length}
 use Rattle.search.proofs.found.directories.Goals as goal
 

@@ -2,7 +2,7 @@ use Rattle.std.proofs.Common.{◌≡◌, ◌<◌, ◌⊎◌, ◌∙◌, inl, inr
 use Rattle.std.specs.declared.alloc.Global.{Global}
 use Rattle.std.proofs.lemmas.Result.{err_from_is_err_and}
 use Rattle.filetree.specs.Agreement.{InEachPair}
-use Rattle.filetree.specs.Search.{modulefile, path_of}
+use Rattle.filetree.specs.Modulefiles.{modulefile, path_of}
 use Rattle.filetree.specs.Relations.{Is}
 use Rattle.search.specs.Looked.{LooksInFolder, LooksBelow}
 use Rattle.search.specs.Answers.{found_view, is_failure}

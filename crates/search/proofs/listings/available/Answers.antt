@@ -2,7 +2,7 @@ use Rattle.std.proofs.lemmas.Result.{err_from_is_err_and}
 use Rattle.std.proofs.Common.{◌≡◌, ◌<◌, ◌≤◌, ◌-◌, ℕ, true, take, drop, Bor, List, [], ◌∷◌, ◌++◌, Option, length, get_or, map, refl, sym, ap, ◌∙◌, subst, append-nil, string_bytes, vec_items, arith}
 use Rattle.modulename.specs.ModuleName.{Text}
 use Rattle.filetree.specs.Agreement.{Files, Listings, InEachPair, is_device}
-use Rattle.filetree.specs.Search.{directories}
+use Rattle.filetree.specs.Modulefiles.{directories}
 use Rattle.search.specs.DefaultFiles.{Left}
 use Rattle.search.specs.Listed.{Listing, IsListing, AreListings}
 use Rattle.search.specs.Looked.{LooksThrough, ListingLooksAt}

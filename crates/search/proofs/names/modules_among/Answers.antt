@@ -2,7 +2,7 @@ use Rattle.std.proofs.Common.{◌≡◌, map, string_bytes, ap, ◌∙◌, refl,
 use Rattle.std.proofs.lemmas.Grind.{common_steps}
 use Rattle.std.proofs.lemmas.Result.{err_from_is_err_and}
 use Rattle.filetree.specs.Agreement.{is_device}
-use Rattle.filetree.specs.Search.{path_of}
+use Rattle.filetree.specs.Modulefiles.{path_of}
 use Rattle.search.proofs.FailureLemmas.{fails_then}
 use Rattle.search.proofs.VersionLemmas.{has}
 use Rattle.search.specs.Below.{LooksAmong}

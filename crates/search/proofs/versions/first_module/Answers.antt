@@ -1,7 +1,7 @@
 use Rattle.std.proofs.Common.{◌≡◌, List, ℕ, Bor, [], get_or, map, refl, ◌∙◌, arith}
 use Rattle.std.proofs.lemmas.Result.{err_from_is_err_and}
 use Rattle.filetree.specs.Agreement.{InEachPair, is_device}
-use Rattle.filetree.specs.Search.{path_of}
+use Rattle.filetree.specs.Modulefiles.{path_of}
 use Rattle.search.specs.Versions.{is_module_in, LooksDown}
 use Rattle.search.proofs.FailureLemmas.{fails_then}
 use Rattle.search.proofs.VersionLemmas.{find_later, looks_first, looks_later}
