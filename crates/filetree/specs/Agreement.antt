@@ -63,7 +63,8 @@ pub record FailedAt (before now : List ℕ → Bool) (path : List ℕ) : Type 0 
   pub here : now path ≡ true
   pub alone : (p : List ℕ) → now p ≡ true → (before p ≡ true) ⊎ (p ≡ path)
 
--- The test says whether the call failed by the device. Then it failed at one path, which has the property; else nowhere.
+-- The test says whether the call failed by the device. Then it failed at one path, which has the property; else
+-- nowhere.
 abbrev pub FailsIf : Bool → (List ℕ → Bool) → (List ℕ → Bool) → (List ℕ → Type 0) → Type 0
 FailsIf false before now Where = now ≡ before
 FailsIf true before now Where = (path : List ℕ) × FailedAt before now path × Where path

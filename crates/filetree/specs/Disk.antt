@@ -1,5 +1,5 @@
--- A pair of maps that agrees with the cached answers of a disk, so that there always is one: each answer at its path, and
--- nothing elsewhere. For this crate's own contracts alone.
+-- A pair of maps that agrees with the cached answers of a disk, so that there always is one: each answer at its path,
+-- and nothing elsewhere. For this crate's own contracts alone.
 use Rattle.std.proofs.Common.{ap, ◌∙◌}
 use Rattle.std.specs.Prelude.{◌≡◌, ℕ, Bool, List, map, Option, Some, None, String, bytes_eq, string_bytes, vec_items}
 use Rattle.std.specs.List.{list_any}

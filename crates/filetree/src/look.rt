@@ -82,7 +82,8 @@ fn found(answer: io::Result<fs::Metadata>) -> Result<Thing, TreeFault>
     }
 }
 
-/// Asks the system what is at a path, following symbolic links. A text with a NUL is no path, so the system isn't asked.
+/// Asks the system what is at a path, following symbolic links. A text with a NUL is no path, so the system isn't
+/// asked.
 pub(crate) fn look<R: Files>(rt: &R, path: &str) -> Result<Thing, TreeFault>
     ensures { has_nul path.now ≡ true → result ≡ Ok Thing.Nothing }
 {

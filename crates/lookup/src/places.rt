@@ -1,4 +1,4 @@
-//! Where the module is that a name means.
+//! The search for the module that a name means, with the path of its file (module(1)).
 ghost use Rattle.std.specs.Prelude.{◌≡◌, ◌<◌, ◌≤◌, false};
 ghost use Rattle.modulename.specs.ModuleName.{is_module_name};
 ghost use Rattle.filetree.specs.Agreement.{FailsAt, Narrows, InEachPair};
@@ -22,10 +22,10 @@ pub struct Found {
     pub path: String,
 }
 
-/// Finds the module that a name means: the first directory of MODULEPATH, a list parted by colons, that gives one. A
+/// Finds the module that a name means, in the first directory of MODULEPATH, a list parted by colons, that gives one. A
 /// directory gives the modulefile at directory, `/`, name; or else, where a folder is there with files that begin with
 /// `#%Module`, the one of these that its default files name (`.modulerc`, or else `.version`, each evaluated within the
-/// limits), or else the greatest by version order.
+/// limits), or else the greatest in version order.
 ///
 /// It fails with `BadName` exactly where the name is ill-spelled, before anything is read; with `NotFound` where no
 /// directory gives a module; with `BadDefaultFile` where a default file of the folder that was meant has a fault;

@@ -1,4 +1,4 @@
--- How the answers of a search show what the definitions say.
+-- How the types of the code show the definitions of a search: its faults with their causes, and the module found.
 use Rattle.std.specs.Prelude.{Bool, true, false, Result, string_bytes}
 use Rattle.filetree.specs.Agreement.{Files, Listings}
 use Rattle.filetree.specs.Causes as causes
@@ -18,7 +18,7 @@ cause_of (faults.BadName name) = because (bad_name (string_bytes name))
 cause_of (faults.BadDefaultFile path) = because (bad_default (string_bytes path))
 cause_of (faults.NotUtf8 path) = because (not_utf8_at (string_bytes path))
 
--- the fault of a device that failed
+-- the fault is the device's
 abbrev pub is_failure : FindFault → Bool
 is_failure faults.OutOfMemory = false
 is_failure faults.Device = true
@@ -27,11 +27,12 @@ is_failure (faults.BadName name) = false
 is_failure (faults.BadDefaultFile path) = false
 is_failure (faults.NotUtf8 path) = false
 
--- what a call over a tree tells, whose faults are those of the search
+-- the answer of a call over a tree whose faults are those of the search
 abbrev pub Tells : {X Y : Type 0} → (Files → Listings → Type 0) → Type 0 → (X → Y) → Result X FindFault
     → (Files → Listings → Result Y Reason → Type 0) → Type 0
 Tells = causes.Tells cause_of
 
+-- the module that was found
 abbrev pub found_view : Found → FoundModule
 found_view found = record {
   name = string_bytes found.name;

@@ -1,4 +1,4 @@
--- What an evaluation left, as contracts see it.
+-- How the type of the code shows the result of an evaluation.
 use Rattle.std.specs.Prelude.{map, option_map, string_bytes, vec_items}
 use Rattle.search.specs.DefaultFiles.{Left}
 use Rattle.search.specs.declared.default_files.Ended.{Ended}

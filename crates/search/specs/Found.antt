@@ -1,5 +1,5 @@
 -- Which modulefile a name means (module(1), modulefile(5)): the search along MODULEPATH, with the candidates of a
--- folder and its default. `leaves` is what evaluations of default files leave.
+-- folder and its default. `leaves` has the results of the evaluation of default files.
 use Rattle.std.specs.Prelude.{◌≡◌, true, List, [], ◌∷◌, bytes_eq, codes, Option, Some, None, Result, Ok, Err}
 use Rattle.std.specs.List.{list_any}
 use Rattle.modulename.specs.ModuleName.{Text, is_module_name}
@@ -20,27 +20,29 @@ abbrev pub HasEntry : Listings → Text → Text → Type 0
 HasEntry listings path name =
     (entries : List Text) × (listings path ≡ Some entries) × (list_any (bytes_eq name) entries ≡ true)
 
--- A candidate of a name below a directory: a file with the cookie directly in its folder, whose own name is one part
--- and well spelled.
+-- A candidate of a name below a directory: a version that is an entry of the name's folder, has one part, and with
+-- which the full name is well spelled and is that of a file with the cookie.
 pub record IsCandidate (files : Files) (listings : Listings) (dir name v : Text) : Type 0 where
   pub entry : HasEntry listings (path_of dir name) v
   pub single : is_single v ≡ true
   pub spelled : is_module_name (path_of name v) ≡ true
   pub file : IsModuleAt files (path_of dir (path_of name v))
 
+-- the folder of a name has a candidate
 abbrev pub HasCandidates : Files → Listings → Text → Text → Type 0
 HasCandidates files listings dir name = (v : Text) × IsCandidate files listings dir name v
 
--- a default file names this candidate, or names none
+-- some version is named, and it is a candidate
 abbrev pub IsOneOf : (Text → Type 0) → Option Text → Type 0
 IsOneOf Candidate None = ⊥
 IsOneOf Candidate (Some v) = Candidate v
 
+-- the path of a default file in the folder of a name
 abbrev pub default_file : Text → Text → Text → Text
 default_file dir name file = path_of (path_of dir name) file
 
--- The candidate that the default files of a folder name, if they name one: `.modulerc`, or else `.version`, which isn't
--- asked where `.modulerc` names a candidate.
+-- The candidate that the default files of a folder name, if they name one: `.modulerc`, or else `.version`, which is
+-- not read where `.modulerc` names a candidate.
 abbrev pub NamedDefault : (Text → Text → Option Left → Type 0) → Files → Listings → Text → Text
     → Result (Option Text) Reason → Type 0
 NamedDefault leaves files listings dir name =
@@ -53,6 +55,7 @@ NamedDefault leaves files listings dir name =
 abbrev pub Greatest : Files → Listings → Text → Text → Result Text Reason → Type 0
 Greatest files listings dir name o = (v : Text) × IsGreatest (IsCandidate files listings dir name) v × (o ≡ Ok v)
 
+-- the candidate that default files name, or else the greatest
 abbrev pub NamedOrGreatest : Files → Listings → Text → Text → Option Text → Result Text Reason → Type 0
 NamedOrGreatest files listings dir name (Some v) = Is (Ok v)
 NamedOrGreatest files listings dir name None = Greatest files listings dir name
@@ -68,6 +71,7 @@ pub record FoundModule : Type 0 where
   pub path : Text
   pub text : Text
 
+-- the module of this full name at a path, by what the path holds
 abbrev pub read : Text → Text → Held → Result FoundModule Reason
 read name path absent = Err (not_found name)
 read name path no_cookie = Err (not_found name)
@@ -78,7 +82,8 @@ read name path (script text) = Ok (record { name = name; path = path; text = tex
 abbrev pub At : Files → Text → Text → Result FoundModule Reason → Type 0
 At files dir name = Is (read name (path_of dir name) (modulefile (files (path_of dir name))))
 
--- The first directory that gives one: the file of this name, or else the default candidate of the folder of this name.
+-- The module of the first directory that gives one: the file of this name, or else the default candidate of the folder
+-- of this name.
 abbrev pub FoundAlong : (Text → Text → Option Left → Type 0) → Files → Listings → Text → List Text
     → Result FoundModule Reason → Type 0
 FoundAlong leaves files listings name [] = Is (Err (not_found name))

@@ -1,4 +1,4 @@
--- The listing of a directory, as contracts see it.
+-- How the type of the code shows the listing of a directory.
 use Rattle.std.specs.Prelude.{map, string_bytes, vec_items}
 use Rattle.search.specs.Listed as listed
 use Rattle.search.specs.Rows.{row_view}

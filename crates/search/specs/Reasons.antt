@@ -1,4 +1,4 @@
--- Why a search finds no modulefile, apart from want of memory and a device that failed.
+-- Why a search finds no modulefile, apart from want of memory and a device that failed (module(1), modulefile(5)).
 use Rattle.modulename.specs.ModuleName.{Text}
 
 pub data Reason : Type 0 where

@@ -1,4 +1,5 @@
--- Versions in a folder, from the greatest down.
+-- The versions in the folder of a name, and the search among them from the greatest down. For this crate's own
+-- contracts alone.
 use Rattle.std.specs.Prelude.{◌≡◌, ◌⊎◌, Bool, false, ◌&&◌, List, [], ◌∷◌, Option, Some, None}
 use Rattle.std.specs.Ordering.{is_lt}
 use Rattle.modulename.specs.ModuleName.{Text, is_module_name}
@@ -8,15 +9,15 @@ use Rattle.filetree.specs.Modulefiles.{modulefile, is_module, path_of}
 use Rattle.search.specs.Single.{is_single}
 use Rattle.search.specs.Found.{IsCandidate, HasCandidates}
 
--- one part, with which the whole name is well spelled
+-- an entry can be a version: it has one part, and with it the full name is well spelled
 abbrev pub is_version : Text → Text → Bool
 is_version name v = is_single v && is_module_name (path_of name v)
 
--- a file with the cookie is in the folder of the name
+-- the file of a version of a name begins with the cookie
 abbrev pub is_module_in : Files → Text → Text → Text → Bool
 is_module_in files dir name v = is_module (modulefile (files (path_of dir (path_of name v))))
 
--- the first goes before the second, from the greatest down
+-- the first comes before the second where the greatest comes first
 abbrev pub goes_before : Text → Text → Bool
 goes_before v w = is_lt (version_order w v)
 
@@ -25,7 +26,7 @@ abbrev pub IsGreatestOf : Files → Listings → Text → Text → Option Text �
 IsGreatestOf files listings dir name None = HasCandidates files listings dir name → ⊥
 IsGreatestOf files listings dir name (Some v) = IsGreatest (IsCandidate files listings dir name) v
 
--- the files of versions, one after the other, up to the first that is a module
+-- the paths of the files of versions, one after the other, up to the first that is a module
 abbrev pub LooksDown : Files → Text → Text → List Text → Text → Type 0
 LooksDown files dir name [] at = ⊥
 LooksDown files dir name (v ∷ vs) at =

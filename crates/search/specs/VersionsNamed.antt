@@ -1,4 +1,5 @@
--- What default files say, as the code has it.
+-- The versions that default files name, with one definition for the two files as the code has it. For this crate's own
+-- contracts alone.
 use Rattle.std.specs.Prelude.{◌≡◌, Option, Some, None, Result, Ok, Err, string_bytes, codes}
 use Rattle.modulename.specs.ModuleName.{Text}
 use Rattle.filetree.specs.Agreement.{Files, Listings}
@@ -13,27 +14,29 @@ use Rattle.search.specs.declared.defaults.Said.TheVariants as said
 use Rattle.search.specs.declared.defaults.Named.{Named}
 use Rattle.search.specs.declared.defaults.Named.TheVariants as named
 
+-- the name of a default file in its folder
 abbrev pub file_name : DefaultFile → Text
 file_name Modulerc = codes ".modulerc"
 file_name Version = codes ".version"
 
+-- how the result of its evaluation names a version
 abbrev pub says : DefaultFile → Text → VersionIn
 says Modulerc name = by_command name
 says Version name = by_variable
 
--- a version, none, or the path of a default file with a fault
+-- the version that a default file names: one, none, or the reason that is its fault
 abbrev pub said_view : Said → Result (Option Text) Reason
 said_view said.Nothing = Ok None
 said_view (said.Version version) = Ok (Some (string_bytes version))
 said_view (said.BadFile path) = Err (bad_default (string_bytes path))
 
--- a candidate, none, or the path of a default file with a fault
+-- the candidate that default files name: one, none, or the reason that is the fault of a default file
 abbrev pub named_view : Named → Result (Option Text) Reason
 named_view named.Nothing = Ok None
 named_view (named.Candidate version) = Ok (Some (string_bytes version))
 named_view (named.BadFile path) = Err (bad_default (string_bytes path))
 
--- the candidate of this version, or none where it is no candidate
+-- the version, where it is a candidate, or else none
 abbrev pub IsCandidateIfAny : (Text → Type 0) → Text → Option Text → Type 0
 IsCandidateIfAny IsOne version None = IsOne version → ⊥
 IsCandidateIfAny IsOne version (Some v) = IsOne version × (v ≡ version)

@@ -1,4 +1,4 @@
-//! Candidates of a name.
+//! Whether a version in the folder of a name is a module.
 ghost use Rattle.std.specs.Prelude.{◌≡◌, IfOk};
 ghost use Rattle.filetree.specs.Agreement.{FailsAt, Files, Listings, Narrows, InEachPair, HasCause, is_device};
 ghost use Rattle.filetree.specs.Modulefiles.{path_of};
@@ -8,7 +8,9 @@ use crate::paths::path_of;
 use filetree::{Tree, TreeFault, holds_module};
 use std::alloc::Global;
 
-/// Whether the file of a version of a name begins with the cookie.
+/// Whether the file of a version of a name, below the directory, begins with `#%Module`.
+///
+/// It fails as the tree does, at the path of that file, and for want of memory.
 pub(crate) fn is_module_in<T: Tree>(
     alloc: Global,
     tree: &mut T,

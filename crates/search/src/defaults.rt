@@ -1,4 +1,4 @@
-//! The candidate that the default files of a folder name.
+//! The default that the default files of a folder name: `.modulerc`, or else `.version` (modulefile(5)).
 ghost use Rattle.std.specs.Prelude.{◌≡◌, map, Some, IfOk, string_bytes};
 ghost use Rattle.filetree.specs.Agreement.{FailsAt, Files, Listings, InEachPair, HasCause, is_device};
 ghost use Rattle.filetree.specs.Modulefiles.{path_of};
@@ -17,10 +17,10 @@ use crate::versions::is_version;
 use filetree::{Modulefile, Tree, TreeFault, read_modulefile};
 use std::alloc::{AllocError, Global};
 
-/// What default files name.
+/// The candidate that default files name.
 #[derive(Debug, Drop)]
 pub enum Named {
-    /// No candidate.
+    /// They name no candidate.
     Nothing,
     /// The candidate of this version.
     Candidate(String),
@@ -28,18 +28,19 @@ pub enum Named {
     BadFile(String),
 }
 
-/// What a default file says.
+/// The version that a default file names.
 #[derive(Drop)]
 enum Said {
-    /// No version.
+    /// It names no version, or is absent, or has no cookie.
     Nothing,
-    /// This version, which may be no candidate.
+    /// It names this version, which may be no candidate.
     Version(String),
     /// The default file at this path has a fault.
     BadFile(String),
 }
 
-/// What a default file at a path says by what its evaluation left.
+/// The version that the default file at a path names, by the result of its evaluation; `None` there is an evaluation
+/// with a fault.
 fn said_by_ended(
     alloc: Global,
     file: DefaultFile,
@@ -59,7 +60,8 @@ fn said_by_ended(
     }
 }
 
-/// What a default file in the folder of a name says.
+/// The version that a default file in the folder of a name names. The file is read, and evaluated where it has the
+/// cookie.
 fn said_by<T: Tree, D: DefaultFiles>(
     alloc: Global,
     tree: &mut T,
@@ -89,7 +91,8 @@ fn said_by<T: Tree, D: DefaultFiles>(
     }
 }
 
-/// The candidate of this version of a name, in whose folder are these entries, if it is one.
+/// This version of a name, in whose folder are these entries, where it is a candidate; else `None`. Only for one of the
+/// entries that can be a version is a file asked for.
 fn candidate_of<T: Tree>(
     alloc: Global,
     tree: &mut T,
@@ -118,7 +121,7 @@ fn candidate_of<T: Tree>(
     }
 }
 
-/// The candidate that one of the default files in the folder of a name says, if it says one.
+/// The candidate that one of the default files in the folder of a name names, if it names one.
 fn named_by<T: Tree, D: DefaultFiles>(
     alloc: Global,
     tree: &mut T,
@@ -148,9 +151,9 @@ fn named_by<T: Tree, D: DefaultFiles>(
     }
 }
 
-/// The candidate that the default files in the folder of a name say, in which are these entries: `.modulerc`, or else
-/// `.version`, which isn't read where `.modulerc` names a candidate. A default file without the cookie says nothing,
-/// and so does one that names no candidate.
+/// The candidate that the default files in the folder of a name, with these entries, name: `.modulerc`, or else
+/// `.version`, which isn't read where `.modulerc` names a candidate. A default file without the cookie has no effect,
+/// nor has one that names no candidate.
 ///
 /// It fails as the tree does, and for want of memory.
 pub fn named_default<T: Tree, D: DefaultFiles>(

@@ -1,4 +1,4 @@
-//! The modules below a folder.
+//! The walk through the folders below a directory of MODULEPATH that lists their modules.
 ghost use Rattle.std.specs.Prelude.{◌≡◌, ◌++◌, ◌+◌, ◌≤◌, List, map, Some, length, OnOk, IfOk, string_bytes};
 ghost use Rattle.std.specs.Option.{option_map};
 ghost use Rattle.filetree.specs.Agreement.{FailsAt, Files, Listings, InEachPair, HasCause, is_device};
@@ -15,7 +15,8 @@ use crate::rows::{Row, push_rows};
 use filetree::{Tree, TreeFault};
 use std::alloc::Global;
 
-/// A walk through the folders below a directory.
+/// A walk through the folders below a directory. A folder is given by its name below the directory; `None` is the
+/// directory itself.
 #[derive_where(Clone, Copy)]
 pub(crate) struct Walk<'a, D> {
     pub(crate) alloc: Global,
@@ -24,8 +25,8 @@ pub(crate) struct Walk<'a, D> {
 }
 
 impl<D: DefaultFiles> Walk<'_, D> {
-    /// The full name that the default files of a folder say, in which are these entries; those of the directory
-    /// itself say none.
+    /// The full name of the default that the default files of a folder, with these entries, name. Those of the
+    /// directory itself aren't read, and a fault in one is no default.
     fn default_name<T: Tree>(
         &self,
         tree: &mut T,
@@ -62,8 +63,8 @@ impl<D: DefaultFiles> Walk<'_, D> {
         }
     }
 
-    /// Adds the modules that are files in a folder, in which are these entries. Default files are read only where there
-    /// is a module.
+    /// Adds the modules that are files in a folder with these entries and these full names of them. Default files are
+    /// read only where there is a module.
     fn list_files<T: Tree>(
         &self,
         tree: &mut T,
@@ -96,7 +97,8 @@ impl<D: DefaultFiles> Walk<'_, D> {
         Ok(())
     }
 
-    /// Adds the modules below a folder, in the folder and in those below it, as many levels down as names can be long.
+    /// Adds the modules in a folder and in the folders below it, `levels` levels of names in all. A name has four parts
+    /// at most, so the levels that are asked for have to suffice for that.
     pub(crate) fn list_folder<T: Tree>(
         &self,
         tree: &mut T,
@@ -133,7 +135,7 @@ impl<D: DefaultFiles> Walk<'_, D> {
     }
 }
 
-/// The text, if there is one.
+/// The text of an optional string, borrowed.
 fn as_text(text: &Option<String>) -> Option<&str>
     ensures { option_map (λ t. t.now) result ≡ option_map string_bytes text.now }
 {

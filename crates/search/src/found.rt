@@ -1,4 +1,4 @@
-//! The search for a module along MODULEPATH.
+//! The search for the module that a name means: along MODULEPATH, and in each directory (module(1)).
 ghost use Rattle.std.specs.Prelude.{◌≡◌, ◌⊎◌, ◌<◌, ◌≤◌, map, false, Some, IfOk, string_bytes};
 ghost use Rattle.std.specs.Option.{option_map};
 ghost use Rattle.modulename.specs.ModuleName.{is_module_name};
@@ -30,7 +30,9 @@ pub struct Found {
     pub text: String,
 }
 
-/// The module of this full name at a path that holds this, if it is one.
+/// The module of this full name at a path, by what the path holds; `None` where that is no module.
+///
+/// It fails with `NotUtf8` where it is a module that is not UTF-8.
 fn found_in(name: String, path: String, file: Modulefile) -> Result<Option<Found>, FindFault>
     ensures { caused (option_map found_view) result
         ≡ because_of (module_in (string_bytes name) (string_bytes path) (modulefile_view file)) }
@@ -43,7 +45,9 @@ fn found_in(name: String, path: String, file: Modulefile) -> Result<Option<Found
     }
 }
 
-/// The module of this full name below a directory, if it is there.
+/// The module of this full name below a directory, or `None` where its path holds no module.
+///
+/// It fails with `NotUtf8` where the module is not UTF-8, as the tree does at that path, and for want of memory.
 fn module_at<T: Tree>(
     alloc: Global,
     tree: &mut T,
@@ -62,8 +66,11 @@ fn module_at<T: Tree>(
     found_in(String::from_str(alloc, name)?, path, file)
 }
 
-/// The default candidate of a name, in whose folder are these entries, if one of them is a candidate. Default files are
-/// read only where one of them can be a version.
+/// The default candidate of a name, in whose folder are these entries; `None` where none of them is a candidate.
+/// Default files are read only where an entry can be a version.
+///
+/// It fails with `BadDefaultFile` where a default file has a fault and there is a candidate; a folder without
+/// candidates gives no module whatever its default files are.
 fn default_of<T: Tree, D: DefaultFiles>(
     alloc: Global,
     tree: &mut T,
@@ -95,7 +102,7 @@ fn default_of<T: Tree, D: DefaultFiles>(
     }
 }
 
-/// The default candidate of the folder of a name below a directory, if it has a candidate.
+/// The default candidate of the folder of a name below a directory; `None` where there is no folder, or no candidate.
 fn default_in<T: Tree, D: DefaultFiles>(
     alloc: Global,
     tree: &mut T,
@@ -118,7 +125,8 @@ fn default_in<T: Tree, D: DefaultFiles>(
     }
 }
 
-/// The module that one directory gives for a name, if it gives one.
+/// The module that one directory gives for a name, if it gives one: the file of the name, or else the default candidate
+/// of its folder.
 fn module_below<T: Tree, D: DefaultFiles>(
     alloc: Global,
     tree: &mut T,
@@ -146,7 +154,9 @@ fn module_below<T: Tree, D: DefaultFiles>(
     }
 }
 
-/// The directories of a MODULEPATH, a list parted by colons; its empty entries are left out.
+/// The directories of a MODULEPATH, which is parted by colons; its empty entries are skipped.
+///
+/// It fails for want of memory alone.
 pub fn directories(alloc: Global, modulepath: &str) -> Result<Vec<&str>, AllocError>
     ensures { IfOk result (λ dirs. map (λ dir. dir.now) dirs.items ≡ directories modulepath.entry.now) }
 {
@@ -156,7 +166,9 @@ pub fn directories(alloc: Global, modulepath: &str) -> Result<Vec<&str>, AllocEr
         .collect(alloc)
 }
 
-/// The first module that a directory gives for a well-spelled name.
+/// The module of the first directory that gives one for a well-spelled name.
+///
+/// It fails with `NotFound` where none does.
 fn module_along<T: Tree, D: DefaultFiles>(
     alloc: Global,
     tree: &mut T,
@@ -183,9 +195,9 @@ fn module_along<T: Tree, D: DefaultFiles>(
     Err(FindFault::NotFound(String::from_str(alloc, name)?))
 }
 
-/// Finds the module that a name means: the first directory of MODULEPATH, a list parted by colons, that gives one. A
+/// Finds the module that a name means, in the first directory of MODULEPATH, a list parted by colons, that gives one. A
 /// directory gives the modulefile at directory, `/`, name; or else, where a folder is there with files that begin
-/// with `#%Module`, the one of these that its default files name, or else the greatest by version order.
+/// with `#%Module`, the one of these that its default files name, or else the greatest in version order.
 ///
 /// It fails with `BadName` exactly where the name is ill-spelled, before anything is read; with `NotFound` where no
 /// directory gives a module; with `BadDefaultFile` where a default file of the folder that was meant has a fault;

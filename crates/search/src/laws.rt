@@ -1,4 +1,4 @@
-//! What holds of the definitions that the contracts cite.
+//! Laws of the definitions of the search and of listings. The functions do nothing; their contracts are the theorems.
 ghost use Rattle.std.specs.Prelude.{◌≡◌, [], ◌∷◌, List, Result, codes, Some, None};
 ghost use Rattle.modulename.specs.ModuleName.{Text};
 ghost use Rattle.filetree.specs.Agreement.{Files, Listings};
@@ -9,7 +9,8 @@ ghost use Rattle.search.specs.Listed.{Listing, Listed};
 
 use crate::default_files::DefaultFiles;
 
-/// A name means one module at most, or there is one reason that it means none.
+/// For the same files and directories, a name along a MODULEPATH means one module at most, and there is one reason at
+/// most why it means none.
 pub fn one_found<D: DefaultFiles>(default_files: &D)
     ensures { (files : Files) (listings : Listings) (modulepath name : Text) (o p : Result FoundModule Reason)
         → Found (D.leaves default_files.now) files listings modulepath name o
@@ -18,7 +19,7 @@ pub fn one_found<D: DefaultFiles>(default_files: &D)
     let _ = default_files;
 }
 
-/// A MODULEPATH has one listing at most.
+/// For the same files and directories, a MODULEPATH has one listing at most.
 pub fn one_listed<D: DefaultFiles>(default_files: &D)
     ensures { (files : Files) (listings : Listings) (modulepath : Text) (ls ks : List Listing)
         → Listed (D.leaves default_files.now) files listings modulepath ls
@@ -27,7 +28,7 @@ pub fn one_listed<D: DefaultFiles>(default_files: &D)
     let _ = default_files;
 }
 
-/// What `module-version` commands make the default of a folder.
+/// Worked examples: the version that `module-version` commands make the default of a folder.
 pub fn rows_of_defaults()
     ensures named { last_default (codes "d/e") ((codes "module-version" ∷ codes "d/e/1" ∷ codes "default" ∷ [])
         ∷ (codes "module-version" ∷ codes "d/e/2" ∷ codes "old" ∷ []) ∷ []) ≡ Some (codes "1") }

@@ -1,4 +1,4 @@
-//! The modules of each directory of a MODULEPATH.
+//! The listing of all modules along a MODULEPATH, directory by directory (module(1), avail).
 ghost use Rattle.std.specs.Prelude.{◌≡◌, map, IfOk, string_bytes};
 ghost use Rattle.filetree.specs.Agreement.{FailsAt, Files, Listings, InEachPair, HasCause, is_device};
 ghost use Rattle.search.specs.Listed.{IsListing, AreListings, Listed};
@@ -14,16 +14,16 @@ use filetree::{Tree, TreeFault};
 use modulename::MOST_PARTS;
 use std::alloc::Global;
 
-/// The modules of a directory.
+/// The listing of one directory of MODULEPATH.
 #[derive(Debug, Drop)]
 pub struct Listing {
     /// The directory, as MODULEPATH spells it.
     pub dir: String,
-    /// Its modules, in the order of versions of their full names, each once.
+    /// Its modules, each once, in version order of their full names.
     pub modules: Vec<Row>,
 }
 
-/// The modules of a directory.
+/// The modules below a directory, each once, in version order of their full names.
 fn modules_of<T: Tree, D: DefaultFiles>(
     alloc: Global,
     tree: &mut T,
@@ -51,9 +51,9 @@ fn modules_of<T: Tree, D: DefaultFiles>(
 }
 
 /// All modules along a MODULEPATH, a list parted by colons: for each directory, a repeated one again, the
-/// well-spelled names of one to four parts of all files below it that begin with `#%Module`, in the order of versions
-/// of the whole name. A module is marked where a default file of its folder names it; nothing of a folder is marked
-/// where its default file has a fault.
+/// well-spelled names of one to four parts of all files below it that begin with `#%Module`, in version order of the
+/// whole name. A module is marked where a default file of its folder names it; nothing of a folder is marked where its
+/// default file has a fault.
 ///
 /// It fails as the tree does, at a path that the listing looks at, and for want of memory.
 pub fn available<T: Tree, D: DefaultFiles>(

@@ -1,4 +1,4 @@
-//! Names below a directory.
+//! Full names and paths of what stands below a directory, folder by folder.
 ghost use Rattle.std.specs.Prelude.{◌≡◌, map, filter, IfOk, string_bytes};
 ghost use Rattle.std.specs.Option.{option_map};
 ghost use Rattle.filetree.specs.Agreement.{FailsAt, Files, Listings, InEachPair, HasCause, is_device};
@@ -10,7 +10,7 @@ use filetree::{Tree, TreeFault, holds_module};
 use modulename::is_module_name;
 use std::alloc::{AllocError, Global};
 
-/// The path of a folder below a directory, or of the directory itself.
+/// The path of a folder below a directory; of the directory itself where `front` is `None`.
 pub(crate) fn folder_path(
     alloc: Global,
     dir: &str,
@@ -24,7 +24,7 @@ pub(crate) fn folder_path(
     }
 }
 
-/// The name of an entry of a folder below a directory, or of the directory itself.
+/// The full name of an entry of a folder below a directory; of the directory itself where `front` is `None`.
 fn name_below(alloc: Global, front: Option<&str>, entry: &str) -> Result<String, AllocError>
     ensures { IfOk result (λ name. string_bytes name ≡ name_below (option_map (λ f. f.now) front.entry) entry.now) }
 {
@@ -34,7 +34,7 @@ fn name_below(alloc: Global, front: Option<&str>, entry: &str) -> Result<String,
     }
 }
 
-/// The well-spelled names of the entries of a folder.
+/// The full names of the entries of a folder; entries whose names are ill-spelled are passed over.
 pub(crate) fn names_in(
     alloc: Global,
     front: Option<&str>,
@@ -57,7 +57,9 @@ pub(crate) fn names_in(
     Ok(names)
 }
 
-/// The names below a directory that are files with the cookie.
+/// Those of the names below a directory whose files begin with `#%Module`.
+///
+/// It fails as the tree does, at the path of one of the names, and for want of memory.
 pub(crate) fn modules_among<'a, T: Tree>(
     alloc: Global,
     tree: &mut T,

@@ -1,4 +1,4 @@
-//! Paths and names.
+//! Paths of names below directories, and tests of names.
 ghost use Rattle.std.specs.Prelude.{◌≡◌, map, bytes_eq, string_bytes, IfOk};
 ghost use Rattle.std.specs.List.{list_any};
 ghost use Rattle.search.specs.Single.{is_single};
@@ -7,6 +7,8 @@ ghost use Rattle.filetree.specs.Modulefiles.{path_of};
 use std::alloc::{AllocError, Global};
 
 /// The path of a name below a directory: the directory, `/`, the name.
+///
+/// It fails for want of memory alone.
 pub fn path_of(alloc: Global, dir: &str, name: &str) -> Result<String, AllocError>
     ensures { IfOk result (λ path. string_bytes path ≡ path_of dir.now name.now) }
 {
@@ -23,7 +25,7 @@ pub(crate) fn has(names: &[String], name: &str) -> bool
     names.iter().any(|other| name == other.as_str())
 }
 
-/// Whether a name is one part.
+/// Whether a name has one part, which is to say no `/`.
 pub fn is_single(name: &str) -> bool
     ensures { result ≡ is_single name.now }
 {

@@ -1,4 +1,4 @@
-//! Rows of a listing.
+//! The entries of a listing: modules with the mark of a default, sorted, each once.
 ghost use Rattle.std.specs.Prelude.{◌≡◌, ◌++◌, map, option_map, OnOk};
 ghost use Rattle.std.specs.List.{dedup};
 ghost use Rattle.std.specs.List.Sorted.{IsPermutation, IsSortedBy};
@@ -7,7 +7,7 @@ ghost use Rattle.search.specs.Rows.{row_view, row_of, name_of, goes_before, is_s
 use moduleversion::version_order;
 use std::alloc::{AllocError, Global};
 
-/// A module of a listing.
+/// A module in the listing of a directory.
 #[derive(Debug, Drop)]
 pub struct Row {
     /// Its full name, as `foo/1.0`.
@@ -16,7 +16,7 @@ pub struct Row {
     pub is_default: bool,
 }
 
-/// Adds a row for each of the modules, with a mark at the default.
+/// Adds each of the modules, marked where it is the default.
 pub(crate) fn push_rows(
     alloc: Global,
     rows: &mut Vec<Row>,
@@ -38,7 +38,7 @@ pub(crate) fn push_rows(
     Ok(())
 }
 
-/// Sorts rows by the order of versions of their names.
+/// Sorts the modules by version order of their full names.
 pub(crate) fn sort_rows(rows: &mut Vec<Row>) -> Result<(), AllocError>
     ensures same { IsPermutation rows.old.items rows.new.items }
     ensures sorted { OnOk result (IsSortedBy goes_before rows.new.items) }
@@ -47,7 +47,7 @@ pub(crate) fn sort_rows(rows: &mut Vec<Row>) -> Result<(), AllocError>
     Ok(())
 }
 
-/// Drops each row behind one of the same name.
+/// Drops each module that follows one of the same name.
 pub(crate) fn drop_repeats(rows: &mut Vec<Row>)
     ensures { rows.new.items ≡ dedup is_same_name rows.old.items }
 {

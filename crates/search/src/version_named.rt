@@ -1,4 +1,4 @@
-//! What the evaluation of a default file says.
+//! The version that a default file names, by the result of its evaluation (modulefile(5)).
 ghost use Rattle.std.specs.Prelude.{◌≡◌, ◌++◌, ◌∷◌, [], map, option_map, string_bytes};
 ghost use Rattle.search.specs.DefaultFiles.{after_front, version_in, default_by, last_default};
 ghost use Rattle.search.specs.Ended.{ended_view};
@@ -7,17 +7,17 @@ ghost use Rattle.search.specs.VersionsNamed.{file_name, says};
 use crate::default_files::Ended;
 use crate::paths::has;
 
-/// The default files of a folder.
+/// The two default files of a folder.
 #[derive(Clone, Copy)]
 pub(crate) enum DefaultFile {
-    /// `.modulerc`, which names a version by its command `module-version`.
+    /// `.modulerc`, which names a version by the command `module-version`.
     Modulerc,
-    /// `.version`, which names a version by its variable `ModulesVersion`.
+    /// `.version`, which names a version by the global variable `ModulesVersion`.
     Version,
 }
 
 impl DefaultFile {
-    /// Its name in the folder.
+    /// The name of the file in its folder.
     pub(crate) fn file_name(self) -> &'static str
         ensures { result.now ≡ file_name self }
     {
@@ -27,7 +27,7 @@ impl DefaultFile {
         }
     }
 
-    /// The version of the folder of a name that its evaluation says, if it says one.
+    /// The version in the folder of a name that the file names, by the result of its evaluation, if it names one.
     pub(crate) fn said<'a>(self, name: &str, ended: &'a Ended) -> Option<&'a str>
         ensures { option_map (λ v. v.now) result ≡ says self name.now (ended_view ended.entry.now) }
     {
@@ -41,14 +41,14 @@ impl DefaultFile {
     }
 }
 
-/// What follows a front of a text; None where the text has another front.
+/// The rest of a text after this prefix; `None` where the text doesn't begin with it.
 fn after_front<'a>(front: &str, text: &'a str) -> Option<&'a str>
     ensures { option_map (λ v. v.now) result ≡ after_front front.now text.entry.now }
 {
     text.strip_prefix(front)
 }
 
-/// What follows `name/`.
+/// The rest of a text after `name/`; `None` where it doesn't begin so.
 fn below_name<'a>(name: &str, spelled: &'a str) -> Option<&'a str>
     ensures { option_map (λ v. v.now) result ≡ after_front (name.now ++ 47 ∷ []) spelled.entry.now }
 {
@@ -58,7 +58,7 @@ fn below_name<'a>(name: &str, spelled: &'a str) -> Option<&'a str>
     }
 }
 
-/// The version V of the folder of a name that is spelled `name/V`, `/V` or `./V`.
+/// The version V in the folder of a name that is spelled `name/V`, `/V` or `./V`.
 fn version_in<'a>(name: &str, spelled: &'a str) -> Option<&'a str>
     ensures { option_map (λ v. v.now) result ≡ version_in name.now spelled.entry.now }
 {
@@ -71,7 +71,8 @@ fn version_in<'a>(name: &str, spelled: &'a str) -> Option<&'a str>
     after_front("./", spelled)
 }
 
-/// The version that a `module-version` command makes the default of the folder of a name.
+/// The version that one `module-version` command makes the default of the folder of a name, if it makes one. Other
+/// symbolic versions than `default` have no effect.
 fn default_by<'a>(name: &str, words: &'a [String]) -> Option<&'a str>
     ensures { option_map (λ v. v.now) result ≡ default_by name.now (map string_bytes words.entry.now) }
 {
@@ -84,7 +85,7 @@ fn default_by<'a>(name: &str, words: &'a [String]) -> Option<&'a str>
     version_in(name, spelled)
 }
 
-/// The version that the last of the commands makes the default which makes one.
+/// The version that `module-version` commands make the default of the folder of a name: the last that makes one counts.
 fn last_default<'a>(name: &str, commands: &'a [Vec<String>]) -> Option<&'a str>
     ensures { option_map (λ v. v.now) result
         ≡ last_default name.now (map (λ words. map string_bytes words.items) commands.entry.now) }

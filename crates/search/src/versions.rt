@@ -1,4 +1,4 @@
-//! The versions in the folder of a name, and the greatest candidate.
+//! The entries of the folder of a name that can be versions, and the greatest candidate among them.
 ghost use Rattle.std.specs.Prelude.{◌≡◌, map, filter, find, Some, OnOk, IfOk, string_bytes};
 ghost use Rattle.std.specs.List.{list_any};
 ghost use Rattle.std.specs.List.Sorted.{IsPermutation, IsSortedBy};
@@ -15,7 +15,7 @@ use modulename::is_module_name;
 use moduleversion::version_order;
 use std::alloc::{AllocError, Global};
 
-/// Whether an entry of the folder of a name can be a version: it is one part, with which the whole name is well
+/// Whether an entry of the folder of a name can be a version: it has one part, and with it the full name is well
 /// spelled.
 pub(crate) fn is_version(alloc: Global, name: &str, entry: &str) -> Result<bool, AllocError>
     ensures { IfOk result (λ r. r ≡ is_version name.now entry.now) }
@@ -27,7 +27,7 @@ pub(crate) fn is_version(alloc: Global, name: &str, entry: &str) -> Result<bool,
     Ok(is_module_name(&full))
 }
 
-/// Whether an entry of the folder of a name can be a version.
+/// Whether some entry of the folder of a name can be a version.
 pub(crate) fn has_version(alloc: Global, name: &str, entries: &[String]) -> Result<bool, AllocError>
     ensures { IfOk result (λ r. r ≡ list_any (is_version name.now) (map string_bytes entries.now)) }
 {
@@ -61,7 +61,7 @@ fn versions_in<'a>(
     Ok(versions)
 }
 
-/// Sorts versions from the greatest down.
+/// Sorts versions by version order, the greatest first.
 fn sort_down(versions: &mut Vec<&str>) -> Result<(), AllocError>
     ensures same { IsPermutation versions.old.items versions.new.items }
     ensures sorted { OnOk result (IsSortedBy (λ v w. goes_before v.now w.now) versions.new.items) }
@@ -70,7 +70,7 @@ fn sort_down(versions: &mut Vec<&str>) -> Result<(), AllocError>
     Ok(())
 }
 
-/// The first of some versions of a name that is a module below the directory.
+/// The first of some versions of a name that is a module below the directory. No file of a later one is asked for.
 fn first_module<T: Tree>(
     alloc: Global,
     tree: &mut T,
@@ -96,8 +96,8 @@ fn first_module<T: Tree>(
     Ok(None)
 }
 
-/// The greatest candidate of a name, in whose folder are these entries. It asks for the files of
-/// versions from the greatest down to the first that is a candidate.
+/// The greatest candidate of a name, in whose folder are these entries. The files of versions are asked for from the
+/// greatest down to the first that is a candidate.
 ///
 /// It fails as the tree does, and for want of memory.
 pub(crate) fn greatest_candidate<T: Tree>(
