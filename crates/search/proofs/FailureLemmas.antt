@@ -10,7 +10,7 @@ fails_if : (fails : Bool) (before now : List ℕ → Bool) (W V : List ℕ → T
 fails_if false before now W V wider h = h
 fails_if true before now W V wider (at, failed, w) = (at, failed, wider at w)
 
--- one step fails behind others that didn't
+-- one step fails after others that did not
 pub fails_then : (fails so : Bool) (start before now : List ℕ → Bool) (W V : List ℕ → Type 0) → before ≡ start → fails ≡ so → ((at : List ℕ) → W at → V at)
     → FailsIf fails before now W → FailsIf so start now V
 fails_then fails so start before now W V same alike wider h =

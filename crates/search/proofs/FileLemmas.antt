@@ -1,4 +1,4 @@
--- The rows of the files in a folder.
+-- The modules among the files in a folder.
 use Rattle.std.proofs.Common.{◌≡◌, ◌↔◌, true, List, [], ◌∷◌, map, filter, Option, refl, sym, ap, ◌∙◌, subst}
 use Rattle.std.specs.Prelude.{bytes_eq}
 use Rattle.std.specs.List.{AllByRecursion}

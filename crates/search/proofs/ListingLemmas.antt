@@ -1,4 +1,4 @@
--- The rows of a directory, sorted and each once, are its listing.
+-- The modules of a directory, sorted and each once, are its listing.
 use Rattle.std.proofs.Common.{◌≡◌, Bool, true, false, ◌&&◌, ◌||◌, List, [], ◌∷◌, ◌++◌, map, Option, None, Ordering, Less, Equal, Greater, refl, sym, ap, ◌∙◌, subst, ⊎_elim}
 use Rattle.std.specs.Prelude.{bytes_eq}
 use Rattle.std.specs.Cmp.{IsEquivalence}
@@ -38,7 +38,7 @@ equal_from Less h = absurd (cc)
 equal_from Equal h = refl
 equal_from Greater h = absurd (cc)
 
--- rows tie where their names are the same
+-- two modules tie where their names are the same
 ties : (x y : Row) → is_same_name x y ≡ is_eq (version_order (name_of x) (name_of y))
 ties x y =
     alike (bytes_eq (name_of x) (name_of y)) (is_eq (version_order (name_of x) (name_of y)))

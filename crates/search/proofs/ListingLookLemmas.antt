@@ -1,4 +1,4 @@
--- Where the listing of a folder looks, and what the entries of folders lead to.
+-- The paths that the listing of a folder looks at, and the names that are reached by entries.
 use Rattle.std.proofs.Common.{◌≡◌, ◌≤◌, ◌-◌, ℕ, Bool, true, false, nat_eq, List, [], ◌∷◌, ◌++◌, length, get_or, map, take, drop, filter, Option, Some, None, refl, sym, ap, ◌∙◌, subst, inl, inr}
 use Rattle.std.specs.Prelude.{bytes_eq}
 use Rattle.std.specs.List.{join_with_byte}
@@ -18,7 +18,7 @@ use Rattle.search.specs.Below.{folder_path, name_below, names_in, is_module_belo
 use Rattle.search.proofs.PartLemmas.{parts-single, parts-path, parts-some, path-assoc}
 use Rattle.search.proofs.UnderLemmas.{name_from}
 
--- the folder that parts lead to
+-- the folder that is reached by parts
 abbrev walked : Text → List Text → Text
 walked path [] = path
 walked path (p ∷ ps) = walked (path_of path p) ps
@@ -34,7 +34,7 @@ walked_parts dir name = at (parts name) refl
     at [] e = absurd (parts-some name e)
     at (p ∷ ps) e = walked_joined dir p ps ∙ ap (path_of dir) (ap (join_with_byte slash) (sym e) ∙ join_with_byte-slice_split slash name)
 
--- parts lead one further
+-- one part more is reached
 leads_further : (folders : Listings) (path : Text) (ps : List Text) (e : Text) → LeadsThrough folders path ps → HasEntry folders (walked path ps) e
     → LeadsThrough folders path (ps ++ e ∷ [])
 leads_further folders path [] e l h = (h, tt)
@@ -49,7 +49,7 @@ entry_reached folders dir (Some f) e folder h s spelled = record {
       (leads_further folders dir (parts f) e folder.leads (subst (λ p. HasEntry folders p e) (sym (walked_parts dir f)) h));
 }
 
--- what the entries of a folder lead to
+-- the names that are reached by the entries of a folder
 pub name_reached : (folders : Listings) (dir : Text) (front : Option Text) (entries : List Text) → folders (folder_path dir front) ≡ Some entries
     → (n : Text) → has n (names_in front entries) ≡ true → IsFolderOf folders dir front → IsReached folders dir n
 name_reached folders dir front entries listed n h folder =
@@ -79,7 +79,7 @@ module _ (leaves : Text → Text → Option Left → Type 0) (files : Files) (fo
       let here = name_reached folders dir (Some f) entries listed m h folder in
       inr (inr (f, (r.0, r.3, subst (IsBelow files folders dir) r.1 (record { spelled = here.spelled; leads = here.leads; file = p.1 })), l))
 
--- the first of what is left, and what is behind it
+-- the first of what remains, and the rest
 module _ {X : Type 0} (view : X → Text) (d : X) (rest : List X) (some : 1 ≤ length rest) where
   pub first_has : has (view (get_or rest 0 d)) (map view rest) ≡ true
   first_has =

@@ -1,4 +1,4 @@
--- Where the steps of a search look.
+-- The paths that the steps of a search look at.
 use Rattle.std.proofs.Common.{◌≡◌, ◌≤◌, ◌-◌, true, List, length, get_or, map, take, drop, Option, Some, None, Result, Ok, Err, inl, inr, refl, sym, ap, subst}
 use Rattle.std.specs.Prelude.{codes}
 use Rattle.modulename.specs.ModuleName.{Text}
@@ -75,7 +75,7 @@ module _ (leaves : Text → Text → Option Left → Type 0) (files : Files) (li
   gives_none (inr (other, (Ok v, d, of))) (inr some) = given_none v d of some
   gives_none (inr (other, (Err r, d, e))) gives = absurd (cc)
 
--- along the directories that are left, in the first of them or behind it
+-- along the remaining directories, in the first of them or after it
 module _ (leaves : Text → Text → Option Left → Type 0) (files : Files) (listings : Listings) (name : Text) {X : Type 0} (view : X → Text) (d : X) (rest : List X) (some : 1 ≤ length rest) (at : Text) where
   pub looks_here : LooksBelow leaves files listings (view (get_or rest 0 d)) name at → LooksAlong leaves files listings name (map view rest) at
   looks_here h = subst (λ dirs. LooksAlong leaves files listings name dirs at) (sym (split_first view d rest some)) (inl h)

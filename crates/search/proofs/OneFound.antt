@@ -1,4 +1,4 @@
--- A name means one module at most, since an evaluation leaves one thing and a set has one greatest member.
+-- A name means one module at most, since an evaluation has one result and a set has one greatest member.
 use Rattle.std.proofs.Common.{◌≡◌, List, [], ◌∷◌, Option, Some, None, Ok, Err, ap, sym, ◌∙◌}
 use Rattle.modulename.specs.ModuleName.{Text, is_module_name}
 use Rattle.filetree.specs.Agreement.{Files, Listings}

@@ -75,7 +75,7 @@ marked_has name ((n, b) ∷ rows) h =
     (λ e. or_right (bytes_eq name n) (has name (names_of rows)) (marked_has name rows e))
     (or_cases (bytes_eq name n && b) (is_marked name rows) h)
 
--- the mark of the first row
+-- the mark of the first module
 first_mark : (n : Text) (b : Bool) (c : Bool) (rs qs : List Row) → Sorted (n ∷ names_of qs) → (is_marked n ((n, b) ∷ rs) ≡ true → is_marked n ((n, c) ∷ qs) ≡ true) → b ≡ true → c ≡ true
 unfolding IsStrictlySortedBy
 first_mark n b c rs qs s m e =

@@ -88,7 +88,7 @@ spelled_step ps xs ys e h =
     let q = and_parts (list_all is_part (xs ++ ys)) (nat_le (length (xs ++ ys)) 4) k in
     and_from (list_all is_part xs) (nat_le (length xs) 4) (all_front is_part xs ys q.0) (few_front xs ys q.1)
 
--- the front of a name is a name
+-- the prefix of a name is a name
 pub spelled_front : (name more : Text) → is_module_name (path_of name more) ≡ true → is_module_name name ≡ true
 spelled_front name more h = spelled_step (parts (path_of name more)) (parts name) (parts more) (parts-path name more) h
 

@@ -1,4 +1,4 @@
--- Rows of a listing, put together.
+-- Modules of a listing, put together.
 use Rattle.std.proofs.Common.{◌≡◌, ◌⊎◌, true, List, [], ◌∷◌, ◌++◌, Option, refl, sym, ap, ◌∙◌, ⊎_elim}
 use Rattle.std.specs.Prelude.{bytes_eq}
 use Rattle.std.specs.List.{AllByRecursion}
@@ -38,7 +38,7 @@ all_weaker : (P Q : Row → Type 0) → ((r : Row) → P r → Q r) → (rows : 
 all_weaker P Q f [] a = tt
 all_weaker P Q f (r ∷ rows) a = (f r a.0, all_weaker P Q f rows a.1)
 
--- what holds of each name holds of each row
+-- what holds of each name holds of each module with its mark
 all_named : (P : Text → Type 0) (M : Row → Type 0) (rows : List Row) → ((v : Text) → has v (names_of rows) ≡ true → P v) → AllByRecursion M rows → AllByRecursion (λ r. P r.0 × M r) rows
 all_named P M [] f a = tt
 all_named P M (r ∷ rows) f a = (

@@ -30,7 +30,7 @@ tells_fault agrees failed before view view' Comes Comes' (faults.BadName n) late
 tells_fault agrees failed before view view' Comes Comes' (faults.BadDefaultFile p) later then h = λ files listings a. then files listings _ a (h files listings a)
 tells_fault agrees failed before view view' Comes Comes' (faults.NotUtf8 p) later then h = λ files listings a. then files listings _ a (h files listings a)
 
--- what comes to more than a step does
+-- an outcome of the step is one of the whole
 pub tells_weaker : {X Y : Type 0} (agrees : Files → Listings → Type 0) (failed before : Type 0) (view : X → Y) (result : Result X FindFault)
     (Comes Comes' : Files → Listings → Result Y Reason → Type 0) → (failed → before)
     → ((files : Files) (listings : Listings) (o : Result Y Reason) → agrees files listings → Comes files listings o → Comes' files listings o)
@@ -87,7 +87,7 @@ same_ok x y o p h k e = cc
 same_reason : {Y : Type 0} (r s : Reason) (c d : Result Y (Cause Reason)) → c ≡ Err (because r) → d ≡ Err (because s) → c ≡ d → r ≡ s
 same_reason r s c d h k e = cc
 
--- what a call without a tree tells
+-- the answer of a call that asks no tree
 pub tells_caused : {X Y : Type 0} (agrees : Files → Listings → Type 0) (failed : Type 0) (view : X → Y) (r : Result X FindFault) (o : Result Y Reason)
     (Comes : Files → Listings → Result Y Reason → Type 0)
     → caused view r ≡ because_of o → ((files : Files) (listings : Listings) → agrees files listings → Comes files listings o) → Tells agrees failed view r Comes
@@ -101,7 +101,7 @@ tells_caused {Y = Y} agrees failed view (Err f) (Err s) Comes e h = fault (cause
     fault device p q k l g = absurd (cc)
     fault (because r) p q k l g = λ files listings a. subst (λ z. Comes files listings (Err z)) (sym (same_reason r s p q k l g)) (h files listings a)
 
--- how the search goes on behind one directory
+-- how the search continues after one directory
 abbrev pub Continues : (Text → Text → Option Left → Type 0) → Files → Listings → Text → List Text → Result (Option FoundModule) Reason → Result FoundModule Reason → Type 0
 Continues leaves files listings name dirs (Ok None) o = FoundAlong leaves files listings name dirs o
 Continues leaves files listings name dirs (Ok (Some m)) o = o ≡ Ok m
@@ -147,7 +147,7 @@ module _ (leaves : Text → Text → Option Left → Type 0) (files : Files) (li
   along given o (inr (other, (Ok v, d, of))) k = inr (other, along_default v given o d of k)
   along given o (inr (other, (Err r, d, e))) k = inr (other, along_fault r o d (subst (λ x. Continues leaves files listings name dirs x o) e k))
 
--- the first of the directories that are left
+-- the first of the remaining directories
 pub along_rest : (leaves : Text → Text → Option Left → Type 0) (files : Files) (listings : Listings) (name : Text) {X : Type 0} (view : X → Text) (d : X) (rest : List X) → 1 ≤ length rest
     → (given : Result (Option FoundModule) Reason) (o : Result FoundModule Reason) → Below leaves files listings (view (get_or rest 0 d)) name given
     → Continues leaves files listings name (map view (take (length rest - 1) (drop 1 rest))) given o → FoundAlong leaves files listings name (map view rest) o

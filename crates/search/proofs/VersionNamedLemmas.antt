@@ -1,4 +1,4 @@
--- What follows the front of a text, and the last default of some commands.
+-- What follows a prefix of a text, and the last default of some commands.
 use Rattle.std.proofs.Common.{◌≡◌, ◌≢◌, ℕ, Bool, true, false, List, [], ◌∷◌, ◌++◌, drop, Option, Some, None, option_map, MatchOption, Bor, refl, sym, ap, ◌∙◌, arith}
 use Rattle.std.specs.Prelude.{◌==◌, if◌then◌else◌, option_and_then}
 use Rattle.std.specs.Option.{option_or}
@@ -14,7 +14,7 @@ pub after_front-front : (front rest : Text) → after_front front (front ++ rest
 after_front-front [] rest = refl
 after_front-front (c ∷ cs) rest = rw (itself c) (after_front-front cs rest)
 
--- what is not found after a front has no such front
+-- a text without the prefix has no rest after it
 same_head : (c d : ℕ) → (c == d) ≡ true → c ≡ d
 same_head c d h = grind (arith, nat_tests)
 
@@ -32,7 +32,7 @@ step : (t : Bool) (o : Option Text) (f : Text → Option Text) → (if t then op
 step true o f = refl
 step false o f = refl
 
--- one front behind another
+-- one prefix after another
 pub after_front-append : (front more text : Text) → after_front (front ++ more) text ≡ option_and_then (after_front more) (after_front front text)
 after_front-append [] more text = refl
 after_front-append (c ∷ cs) more [] = refl

@@ -35,7 +35,7 @@ has_last v n (x ∷ xs) h =
     ⊎_elim (λ q. inl (or_left (bytes_eq v x) (has v xs) q)) (λ q. ⊎_elim (λ r. inl (or_right (bytes_eq v x) (has v xs) r)) (λ r. inr r) (has_last v n xs q))
     (or_cases (bytes_eq v x) (has v (xs ++ n ∷ [])) h)
 
--- the first of the names that are left
+-- the first of the remaining names
 pub split_first : {X : Type 0} (view : X → Text) (x : X) (rest : List X) → 1 ≤ length rest → x ≡ get_or rest 0 x → map view rest ≡ view x ∷ map view (take (length rest - 1) (drop 1 rest))
 split_first view x [] some is = absurd (omega arith)
 split_first view x (y ∷ ys) some is =

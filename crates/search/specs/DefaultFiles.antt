@@ -46,15 +46,15 @@ abbrev pub VersionIn : Type 0
 VersionIn = Left → Option Text
 
 abbrev pub by_command : Text → VersionIn
-by_command name left = last_default name left.commands
+by_command name result = last_default name result.commands
 
 abbrev pub by_variable : VersionIn
-by_variable left = left.version
+by_variable result = result.version
 
 -- the version that a default file names, by the result of its evaluation; the reason is a fault of the evaluation
 abbrev pub said : VersionIn → Text → Option Left → Result (Option Text) Reason
 said says path None = Err (bad_default path)
-said says path (Some left) = Ok (says left)
+said says path (Some result) = Ok (says result)
 
 -- By what its path holds, a default file names a version or none. Without a file, or without the cookie, it names none.
 abbrev pub NamesIn : (Text → Text → Option Left → Type 0) → VersionIn → Text → Held → Result (Option Text) Reason
@@ -62,7 +62,7 @@ abbrev pub NamesIn : (Text → Text → Option Left → Type 0) → VersionIn �
 NamesIn leaves says path absent o = Is (Ok None) o
 NamesIn leaves says path no_cookie o = Is (Ok None) o
 NamesIn leaves says path not_utf8 o = Is (Err (bad_default path)) o
-NamesIn leaves says path (script text) o = (left : Option Left) × leaves path text left × (o ≡ said says path left)
+NamesIn leaves says path (script text) o = (result : Option Left) × leaves path text result × (o ≡ said says path result)
 
 -- The default file at a path names this version, or none, or has a fault.
 abbrev pub Names : (Text → Text → Option Left → Type 0) → Files → VersionIn → Text → Result (Option Text) Reason

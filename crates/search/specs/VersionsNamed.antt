@@ -10,9 +10,9 @@ use Rattle.search.specs.Found.{IsCandidate, IsOneOf, default_file}
 use Rattle.search.specs.declared.version_named.DefaultFile.{DefaultFile}
 use Rattle.search.specs.declared.version_named.DefaultFile.TheVariants.{Modulerc, Version}
 use Rattle.search.specs.declared.defaults.Said.{Said}
-use Rattle.search.specs.declared.defaults.Said.TheVariants as said
+use Rattle.search.specs.declared.defaults.Said.TheVariants as versions
 use Rattle.search.specs.declared.defaults.Named.{Named}
-use Rattle.search.specs.declared.defaults.Named.TheVariants as named
+use Rattle.search.specs.declared.defaults.Named.TheVariants as candidates
 
 -- the name of a default file in its folder
 abbrev pub file_name : DefaultFile → Text
@@ -26,15 +26,15 @@ says Version name = by_variable
 
 -- the version that a default file names: one, none, or the reason that is its fault
 abbrev pub said_view : Said → Result (Option Text) Reason
-said_view said.Nothing = Ok None
-said_view (said.Version version) = Ok (Some (string_bytes version))
-said_view (said.BadFile path) = Err (bad_default (string_bytes path))
+said_view versions.Nothing = Ok None
+said_view (versions.Version version) = Ok (Some (string_bytes version))
+said_view (versions.BadFile path) = Err (bad_default (string_bytes path))
 
 -- the candidate that default files name: one, none, or the reason that is the fault of a default file
 abbrev pub named_view : Named → Result (Option Text) Reason
-named_view named.Nothing = Ok None
-named_view (named.Candidate version) = Ok (Some (string_bytes version))
-named_view (named.BadFile path) = Err (bad_default (string_bytes path))
+named_view candidates.Nothing = Ok None
+named_view (candidates.Candidate version) = Ok (Some (string_bytes version))
+named_view (candidates.BadFile path) = Err (bad_default (string_bytes path))
 
 -- the version, where it is a candidate, or else none
 abbrev pub IsCandidateIfAny : (Text → Type 0) → Text → Option Text → Type 0

@@ -21,7 +21,7 @@ none_left : (leaves : Text → Text → Option Left → Type 0) (files : Files) 
 none_left leaves files folders view [] h = tt
 none_left leaves files folders view (x ∷ xs) h = absurd (omega arith)
 
--- the listing of the first directory that is left, before those of the others
+-- the listing of the first remaining directory, before those of the others
 listed_first : (leaves : Text → Text → Option Left → Type 0) (files : Files) (folders : Listings) {X : Type 0} (view : X → Text) (d : X) (rest : List X) → 1 ≤ length rest
     → (l : Listing) → l.0 ≡ view (get_or rest 0 d) → IsListing leaves files folders (view (get_or rest 0 d)) l.1
     → (more : List Listing) → AreListings leaves files folders (map view (take (length rest - 1) (drop 1 rest))) more → AreListings leaves files folders (map view rest) (l ∷ more)
