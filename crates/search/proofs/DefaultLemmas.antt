@@ -11,7 +11,7 @@ use Rattle.search.specs.DefaultFiles.{Left}
 use Rattle.search.specs.Found.{NamedDefault}
 use Rattle.search.specs.Listed.{IsNamed}
 use Rattle.search.proofs.OneFound.{one_named}
-use Rattle.search.specs.Below.{IsDefaultOf}
+use Rattle.search.specs.BelowFolder.{IsDefaultOf}
 use Rattle.search.proofs.PartLemmas.{parts-single, parts-path, one_folder, no_folder}
 
 cancel : (front xs ys : Text) → front ++ xs ≡ front ++ ys → xs ≡ ys

@@ -12,7 +12,7 @@ use Rattle.search.specs.Listed.{IsNamed, names_of}
 use Rattle.search.proofs.VersionLemmas.{has, in_filter}
 use Rattle.search.specs.Marks.{is_marked_by}
 use Rattle.search.specs.Rows.{row_of}
-use Rattle.search.specs.Below.{name_below, names_in, is_module_below, IsMarkRight, IsDefaultOf, AreFiles}
+use Rattle.search.specs.BelowFolder.{name_below, names_in, is_module_below, IsMarkRight, IsDefaultOf, AreFiles}
 use Rattle.search.proofs.UnderLemmas.{name_from}
 
 names_of-rows : (default : Option Text) (modules : List Text) → names_of (map (row_of default) modules) ≡ modules

@@ -21,7 +21,7 @@ use Rattle.search.specs.DefaultFiles.{Left}
 use Rattle.search.specs.Listed as listed
 use Rattle.search.specs.Listed.{LeadsThrough, IsBelow, IsNamed, IsListing, names_of, is_marked}
 use Rattle.search.proofs.VersionLemmas.{has}
-use Rattle.search.specs.Below.{IsUnder, IsMarkRight, AreRows}
+use Rattle.search.specs.BelowFolder.{IsUnder, IsMarkRight, AreRows}
 use Rattle.search.specs.Rows.{row_view, name_of, goes_before, is_same_name}
 use Rattle.search.specs.declared.rows.Row.{Row}
 

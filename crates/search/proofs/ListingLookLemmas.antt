@@ -14,7 +14,7 @@ use Rattle.search.specs.Found.{HasEntry}
 use Rattle.search.specs.Listed.{LeadsThrough, IsBelow}
 use Rattle.search.specs.Looked.{IsReached}
 use Rattle.search.proofs.VersionLemmas.{has, in_filter, split_first}
-use Rattle.search.specs.Below.{folder_path, name_below, names_in, is_module_below, LooksAmong, LooksForDefault, IsFolderOf, LooksFrom}
+use Rattle.search.specs.BelowFolder.{folder_path, name_below, names_in, is_module_below, LooksAmong, LooksForDefault, IsFolderOf, LooksFrom}
 use Rattle.search.proofs.PartLemmas.{parts-single, parts-path, parts-some, path-assoc}
 use Rattle.search.proofs.UnderLemmas.{name_from}
 

@@ -8,7 +8,7 @@ use Rattle.std.proofs.lemmas.List.Splits.{join_with_byte-slice_split}
 use Rattle.modulename.specs.ModuleName.{Text, slash, parts, is_part, is_module_name}
 use Rattle.filetree.specs.Modulefiles.{path_of}
 use Rattle.search.specs.Single.{is_single}
-use Rattle.search.specs.Below.{folder_path, name_below, parts_of}
+use Rattle.search.specs.BelowFolder.{folder_path, name_below, parts_of}
 
 not_or : (x y : Bool) → not (x || y) ≡ true → (x ≡ false) × (not y ≡ true)
 not_or true y h = absurd (cc)

@@ -9,7 +9,7 @@ use Rattle.filetree.specs.Agreement.{Files, Listings}
 use Rattle.search.specs.DefaultFiles.{Left}
 use Rattle.search.specs.Listed.{Row, names_of}
 use Rattle.search.proofs.VersionLemmas.{has, in_filter, filter_has}
-use Rattle.search.specs.Below.{is_module_below, IsMarkRight, AreFiles, AreRows}
+use Rattle.search.specs.BelowFolder.{is_module_below, IsMarkRight, AreFiles, AreRows}
 
 same : (x y : Text) → bytes_eq x y ≡ true → x ≡ y
 same x y = (bytes_eq-Decides x y).0

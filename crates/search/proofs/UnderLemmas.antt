@@ -10,7 +10,7 @@ use Rattle.search.specs.Single.{is_single}
 use Rattle.search.specs.Found.{HasEntry}
 use Rattle.search.specs.Listed.{LeadsThrough}
 use Rattle.search.proofs.VersionLemmas.{has, in_filter, filter_has}
-use Rattle.search.specs.Below.{folder_path, name_below, parts_of, names_in, IsUnder, IsInside}
+use Rattle.search.specs.BelowFolder.{folder_path, name_below, parts_of, names_in, IsUnder, IsInside}
 use Rattle.search.proofs.PartLemmas.{parts-single, parts-path, parts-some, Cut, cut, name_below-path, folder_path-below, spelled_front, too_deep}
 
 same : (x y : Text) → bytes_eq x y ≡ true → x ≡ y

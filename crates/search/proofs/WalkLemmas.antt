@@ -9,7 +9,7 @@ use Rattle.filetree.specs.Agreement.{Files, Listings}
 use Rattle.search.specs.DefaultFiles.{Left}
 use Rattle.search.specs.Listed.{Row}
 use Rattle.search.proofs.VersionLemmas.{has}
-use Rattle.search.specs.Below.{folder_path, parts_of, names_in, is_module_below, IsUnder, IsInside, AreFiles, AreRows}
+use Rattle.search.specs.BelowFolder.{folder_path, parts_of, names_in, is_module_below, IsUnder, IsInside, AreFiles, AreRows}
 use Rattle.search.proofs.PartLemmas.{parts_of-below}
 use Rattle.search.proofs.UnderLemmas.{name_from, inside, outside}
 use Rattle.search.proofs.RowLemmas.{rows_same, rows_append, rows_of_files}

@@ -15,4 +15,4 @@ pub mod VersionsNamed
 pub mod Versions
 pub mod Steps
 pub mod Marks
-pub mod Below
+pub mod BelowFolder

@@ -3,8 +3,8 @@ ghost use Rattle.std.specs.Prelude.{◌≡◌, ◌++◌, ◌+◌, ◌≤◌, Lis
 ghost use Rattle.std.specs.Option.{option_map};
 ghost use Rattle.filetree.specs.Agreement.{FailsAt, Files, Listings, InEachPair, HasCause, is_device};
 ghost use Rattle.search.specs.Listed as listed;
-ghost use Rattle.search.specs.Below.{folder_path, parts_of, names_in, IsUnder, AreFiles, AreRows, IsDefaultOf};
-ghost use Rattle.search.specs.Below.{LooksForDefault, LooksFrom};
+ghost use Rattle.search.specs.BelowFolder.{folder_path, parts_of, names_in, IsUnder, AreFiles, AreRows, IsDefaultOf};
+ghost use Rattle.search.specs.BelowFolder.{LooksForDefault, LooksFrom};
 ghost use Rattle.search.specs.Rows.{row_view};
 
 use crate::default_files::DefaultFiles;

@@ -3,7 +3,7 @@ ghost use Rattle.std.specs.Prelude.{◌≡◌, map, filter, IfOk, string_bytes};
 ghost use Rattle.std.specs.Option.{option_map};
 ghost use Rattle.filetree.specs.Agreement.{FailsAt, Files, Listings, InEachPair, HasCause, is_device};
 ghost use Rattle.search.specs.Single.{is_single};
-ghost use Rattle.search.specs.Below.{folder_path, name_below, names_in, is_module_below, LooksAmong};
+ghost use Rattle.search.specs.BelowFolder.{folder_path, name_below, names_in, is_module_below, LooksAmong};
 
 use crate::paths::{is_single, path_of};
 use filetree::{Tree, TreeFault, holds_module};

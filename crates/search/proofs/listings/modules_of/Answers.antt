@@ -3,7 +3,7 @@ use Rattle.std.proofs.lemmas.Result.{err_from_is_err_and}
 use Rattle.filetree.specs.Agreement.{InEachPair, is_device}
 use Rattle.search.specs.Looked.{LooksThrough}
 use Rattle.search.proofs.FailureLemmas.{fails_then}
-use Rattle.search.specs.Below.{LooksFrom}
+use Rattle.search.specs.BelowFolder.{LooksFrom}
 use Rattle.search.specs.Rows.{row_view}
 use Rattle.search.proofs.ListingLemmas.{listing_is}
 use Rattle.search.proofs.listings.modules_of.Goals as goal

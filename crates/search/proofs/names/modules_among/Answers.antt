@@ -5,7 +5,7 @@ use Rattle.filetree.specs.Agreement.{is_device}
 use Rattle.filetree.specs.Modulefiles.{path_of}
 use Rattle.search.proofs.FailureLemmas.{fails_then}
 use Rattle.search.proofs.VersionLemmas.{has}
-use Rattle.search.specs.Below.{LooksAmong}
+use Rattle.search.specs.BelowFolder.{LooksAmong}
 use Rattle.search.proofs.ListingLookLemmas.{first_has, later_has}
 use Rattle.search.proofs.names.modules_among.Goals as goal
 

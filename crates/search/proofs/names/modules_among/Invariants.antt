@@ -2,7 +2,7 @@ use Rattle.std.proofs.Common.{◌≡◌, ◌≤◌, ◌++◌, true, length, filt
 use Rattle.filetree.specs.Agreement.{InEachPair}
 use Rattle.modulename.specs.ModuleName.{Text}
 use Rattle.search.proofs.VersionLemmas.{has}
-use Rattle.search.specs.Below.{is_module_below}
+use Rattle.search.specs.BelowFolder.{is_module_below}
 use Rattle.search.proofs.names.modules_among.Given as goal
 
 abbrev pub invariant-loop-rest : goal.invariant-loop-rest

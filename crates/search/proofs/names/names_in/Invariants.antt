@@ -1,5 +1,5 @@
 use Rattle.std.proofs.Common.{◌≡◌, ◌++◌, length, map, option_map, string_bytes}
-use Rattle.search.specs.Below.{names_in}
+use Rattle.search.specs.BelowFolder.{names_in}
 use Rattle.search.proofs.names.names_in.Given as goal
 
 abbrev pub invariant-loop-rest : goal.invariant-loop-rest

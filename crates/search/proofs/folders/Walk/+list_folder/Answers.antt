@@ -4,7 +4,7 @@ use Rattle.filetree.specs.Agreement.{InEachPair, is_device, listing_answer}
 use Rattle.search.proofs.FailureLemmas.{fails_then}
 use Rattle.search.proofs.VersionLemmas.{has}
 use Rattle.search.specs.Rows.{row_view}
-use Rattle.search.specs.Below.{folder_path, parts_of, IsUnder, LooksFrom}
+use Rattle.search.specs.BelowFolder.{folder_path, parts_of, IsUnder, LooksFrom}
 use Rattle.search.proofs.UnderLemmas.{none_under, deep_under}
 use Rattle.search.proofs.RowLemmas.{rows_none}
 use Rattle.search.proofs.WalkLemmas.{split_first, has_middle, deeper, rows_begun, rows_more, rows_finished, none_left, one_more}

@@ -3,7 +3,7 @@ use Rattle.filetree.specs.Agreement.{InEachPair}
 use Rattle.modulename.specs.ModuleName.{Text}
 use Rattle.search.specs.Listed as listed
 use Rattle.search.specs.Rows.{row_view}
-use Rattle.search.specs.Below.{AreRows, IsInside}
+use Rattle.search.specs.BelowFolder.{AreRows, IsInside}
 use Rattle.search.proofs.folders.Walk.+list_folder.Given as goal
 
 abbrev pub decreases-list_folder : goal.decreases-list_folder

@@ -7,7 +7,7 @@ use Rattle.search.specs.Found.{NamedDefault}
 use Rattle.search.specs.Looked.{LooksForNamed}
 use Rattle.search.specs.VersionsNamed.{named_view}
 use Rattle.search.proofs.FailureLemmas.{fails_then}
-use Rattle.search.specs.Below.{IsDefaultOf, LooksForDefault}
+use Rattle.search.specs.BelowFolder.{IsDefaultOf, LooksForDefault}
 use Rattle.search.proofs.DefaultLemmas.{default_candidate, default_nothing}
 use Rattle.search.proofs.folders.Walk.default_name.Goals as goal
 

@@ -3,7 +3,7 @@ use Rattle.std.proofs.lemmas.Result.{err_from_is_err_and}
 use Rattle.filetree.specs.Agreement.{InEachPair, is_device}
 use Rattle.search.proofs.FailureLemmas.{fails_then}
 use Rattle.search.specs.Rows.{row_of}
-use Rattle.search.specs.Below.{IsDefaultOf, LooksAmong, LooksForDefault, LooksFrom}
+use Rattle.search.specs.BelowFolder.{IsDefaultOf, LooksAmong, LooksForDefault, LooksFrom}
 use Rattle.search.proofs.FileLemmas.{files_made}
 use Rattle.search.proofs.ListingLookLemmas.{looks_among, looks_at_default, some_seen}
 use Rattle.search.proofs.folders.Walk.list_files.Goals as goal
