@@ -1,5 +1,5 @@
 -- Modules that were found, and listed, as callers of the search see them.
-pub mod Places
+pub mod Located
 pub mod Lines
-pub mod PlaceViews
+pub mod LocatedViews
 pub mod LineViews

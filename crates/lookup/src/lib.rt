@@ -5,10 +5,10 @@
 #![tactic(auto)]
 
 mod listings;
-mod places;
+mod located;
 
 pub use filetree::{DiskTree, FindFault, MemoryTree, Tree, TreeFault};
 pub use listings::{Listing, available};
+pub use located::{Found, locate};
 pub use moduleversion::version_order;
-pub use places::{Found, locate};
 pub use tclrules::Limits;

@@ -5,8 +5,8 @@ ghost use Rattle.filetree.specs.Agreement.{FailsAt, Narrows, InEachPair};
 ghost use Rattle.search.specs.Looked.{LooksAt};
 ghost use Rattle.search.specs.Answers.{Tells, is_failure};
 ghost use Rattle.defaultfiles.specs.Leaves.{Leaves};
-ghost use Rattle.lookup.specs.Places.{Located};
-ghost use Rattle.lookup.specs.PlaceViews.{place_view};
+ghost use Rattle.lookup.specs.Located.{Located};
+ghost use Rattle.lookup.specs.LocatedViews.{place_view};
 
 use defaultfiles::Evaluated;
 use filetree::{FindFault, Tree};

@@ -4,9 +4,9 @@ use Rattle.defaultfiles.specs.Leaves.{Leaves}
 use Rattle.search.specs.Found.{Found}
 use Rattle.search.specs.Answers.{found_view}
 use Rattle.search.proofs.StepLemmas.{tells_fault}
-use Rattle.lookup.specs.Places.{Located}
-use Rattle.lookup.specs.PlaceViews.{place_view}
-use Rattle.lookup.proofs.places.locate.Goals as goal
+use Rattle.lookup.specs.Located.{Located}
+use Rattle.lookup.specs.LocatedViews.{place_view}
+use Rattle.lookup.proofs.located.locate.Goals as goal
 
 pub returns-in_err-module-clause-told : goal.returns-in_err-module-clause-told
 returns-in_err-module-clause-told g c =
