@@ -94,6 +94,7 @@ abbrev pub kept : {V W : Type 0} → (V → Option W) → Option V → Option W
 kept view None = None
 kept view (Some answer) = view answer
 
+-- where an answer is cached, the value is that answer
 pub kept-answer : {V W : Type 0} (view : V → Option W) (had : Option V) (answer : V) → had ≡ Some answer
     → kept view had ≡ view answer
 kept-answer view had answer e = ap (kept view) e

@@ -22,14 +22,17 @@ file_at None (Some front) = file_answer front.bytes
 abbrev pub listing_at : Option (Option (Vec (String Global) Global)) → Option (List (List ℕ))
 listing_at = kept listing_answer
 
+-- the map of files has the file that was read
 pub kept-file : (had : Option (Option (Vec ℕ Global))) (front : Option Front) (answer : Option (Vec ℕ Global))
     → had ≡ Some answer → file_at had front ≡ file_answer answer
 kept-file had front answer e = ap (λ h. file_at h front) e
 
+-- the map of directories has the names that were listed
 pub kept-listing : (had : Option (Option (Vec (String Global) Global))) (answer : Option (Vec (String Global) Global))
     → had ≡ Some answer → listing_at had ≡ listing_answer answer
 kept-listing had answer e = kept-answer listing_answer had answer e
 
+-- the map of files has the first bytes that were read
 pub kept-front : (had : Option (Option (Vec ℕ Global))) (read : Option Front) (front : Front) → had ≡ None
     → read ≡ Some front → BeginAlike front.size (file_at had read) (file_answer front.bytes)
 kept-front had read front none e =

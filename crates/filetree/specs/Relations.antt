@@ -16,6 +16,7 @@ After Rest (Err r) o = o ≡ Err r
 abbrev pub Then : {A B R : Type 0} → (Result A R → Type 0) → (A → Result B R → Type 0) → Result B R → Type 0
 Then {A} {B} {R} First Rest o = (first : Result A R) × First first × After Rest first o
 
+-- `Then` between its two parts
 infixl 10 ◌>>◌
 abbrev pub ◌>>◌ : {A B R : Type 0} → (Result A R → Type 0) → (A → Result B R → Type 0) → Result B R → Type 0
 First >> Rest = Then First Rest

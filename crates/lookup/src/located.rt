@@ -13,7 +13,7 @@ use filetree::{FindFault, Tree};
 use std::alloc::Global;
 use tclrules::Limits;
 
-/// A module that was found.
+/// A module that was found, without its text.
 #[derive(Debug, Drop)]
 pub struct Found {
     /// The module's full name, as `foo/1.0`.

@@ -45,9 +45,11 @@ last_default name (words ∷ more) = option_or (last_default name more) (default
 abbrev pub VersionIn : Type 0
 VersionIn = Left → Option Text
 
+-- `.modulerc`: by its `module-version` commands, for the folder of a name
 abbrev pub by_command : Text → VersionIn
 by_command name result = last_default name result.commands
 
+-- `.version`: by its variable ModulesVersion
 abbrev pub by_variable : VersionIn
 by_variable result = result.version
 

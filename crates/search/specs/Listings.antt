@@ -4,5 +4,6 @@ use Rattle.search.specs.Listed as listed
 use Rattle.search.specs.Rows.{row_view}
 use Rattle.search.specs.declared.listings.Listing.{Listing}
 
+-- the directory, and its modules with their marks
 abbrev pub listing_view : Listing → listed.Listing
 listing_view listing = (string_bytes listing.dir, map row_view (vec_items listing.modules))

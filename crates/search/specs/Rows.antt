@@ -7,6 +7,7 @@ use Rattle.search.specs.Listed as listed
 use Rattle.search.specs.Marks.{is_marked_by}
 use Rattle.search.specs.declared.rows.Row.{Row}
 
+-- its full name and its mark
 abbrev pub row_view : Row → listed.Row
 row_view row = (string_bytes row.name, row.is_default)
 

@@ -20,7 +20,9 @@ use std::alloc::Global;
 #[derive_where(Clone, Copy)]
 pub(crate) struct Walk<'a, D> {
     pub(crate) alloc: Global,
+    /// What evaluates default files.
     pub(crate) default_files: &'a D,
+    /// The directory of MODULEPATH below which the walk goes.
     pub(crate) dir: &'a str,
 }
 
