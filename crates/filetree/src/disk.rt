@@ -1,4 +1,4 @@
-//! The tree over a real disk: each path is asked for once, and each answer is cached and given again.
+//! The tree over a real disk, which caches each answer and gives it again.
 ghost use Rattle.std.specs.Prelude.{◌≡◌, ◌+◌, if◌then◌else◌, ℕ, List, map, None, Some, Option, IfOk, IfSome, is_some, string_bytes, vec_len};
 ghost use Rattle.std.specs.BTreeMap.{get_by_text};
 ghost use Rattle.filetree.specs.Agreement.{BeginAlike, FailsAt, FailsIf, Files, HasCause, InEachPair, Listings, Narrows, begins_with, file_answer, is_device, listing_answer};
@@ -14,12 +14,12 @@ use std::collections::BTreeMap;
 use std::rt::Files;
 use std::{fs, io};
 
-/// The files and directories of a disk. The type of the file at a path is asked for once, and each answer is cached and
-/// given again.
+/// The files and directories of a disk. Each answer is cached and given again, so the system is asked once for it; a
+/// failure is not cached.
 ///
 /// The answer is `None` where something of another type is at the path, as a directory where a file is asked for, or a
 /// pipe, a socket or a device, which are never opened; where a symbolic link points to nothing; where a component of
-/// the path is a file; and where the path has a NUL. Any other fault is `Device`: a missing permission, a loop of
+/// the path is a file; and where the path has a NUL. Any other failure is `Device`: a missing permission, a loop of
 /// symbolic links, a path that the system refuses, a directory with a name that is not UTF-8, a file or directory that
 /// is gone after its type was asked for, and a file whose first bytes are no longer those that were read before.
 #[derive(Drop)]
@@ -146,7 +146,7 @@ impl<R: Files + AllocGlobal + Clone + Drop> DiskTree<R> {
         }
     }
 
-    /// What is at the path. The system is asked once for each path.
+    /// What is at the path: the cached answer, or else the system's, which is then cached.
     fn thing_at(&mut self, path: &str) -> Result<Thing, TreeFault>
         ensures files { self.new.files ≡ self.old.files }
         ensures fronts { self.new.fronts ≡ self.old.fronts }
