@@ -2,7 +2,7 @@
 use Rattle.std.proofs.Common.{◌≡◌, ℕ, true, List, Some, nat_eq, refl}
 use Rattle.std.specs.List.{starts_with}
 use Rattle.std.specs.Str.{IsUtf8}
-use Rattle.filetree.specs.Search.{cookie, modulefile, script, not_utf8}
+use Rattle.filetree.specs.Modulefiles.{cookie, modulefile, script, not_utf8}
 use Rattle.filetree.proofs.Utf8Tests.{is_text-yes, is_text-no}
 
 pub modulefile-script : (bs : List ℕ) → starts_with nat_eq bs cookie ≡ true → IsUtf8 bs → modulefile (Some bs) ≡ script bs

@@ -1,4 +1,4 @@
--- One more answer is kept, at a path that had none.
+-- One more answer is cached, at a path that had none.
 use Rattle.std.proofs.Common.{◌≡◌, ℕ, Bool, true, false, cond, List, Option, Some, None, String, Bor, IfSome, length, take, string_bytes, [], ◌∷◌, ◌++◌, ◌||◌, map, refl, sym, ap, subst, ◌∙◌, inl, inr, ⊎_elim}
 use Rattle.std.proofs.lemmas.Bool.{cases_Bool, or_cases, or_right}
 use Rattle.std.specs.List.{list_any}
@@ -51,7 +51,7 @@ put_at view m n path key value x same updates seen p =
     ∙ put view (bytes_eq key p) value x (get_by_text m p) seen
     ∙ ap (λ k. cond (bytes_eq k p) (Some x) (option_map view (get_by_text m p))) same
 
--- what one more file that is kept leaves of what was known of how files begin
+-- what is known of the first bytes of files, after one more file is cached
 abbrev pub HasFronts : {Y Z : Type 0} → BTreeMap (String Y) (Option (Vec ℕ Global)) → BTreeMap (String Z) Front → (List ℕ → Option (List ℕ)) → Type 0
 HasFronts m fronts there = (path : List ℕ) (front : Front) → get_by_text m path ≡ None → get_by_text fronts path ≡ Some front → BeginAlike front.size (there path) (file_answer front.bytes)
 
@@ -70,7 +70,7 @@ fronts_before_file m n fronts path key value same updates alike there h f p fron
 
 module _ {Y Z : Type 0} (m : BTreeMap (String Y) (Option (Vec ℕ Global))) (fronts n : BTreeMap (String Z) Front) (path key : List ℕ) (value : Front) (same : key ≡ path)
     (updates : UpdatesBy string_cmp (λ k. slice_cmp nat_cmp key (string_bytes k)) fronts n (Some value)) (there : List ℕ → Option (List ℕ)) (f : HasFronts m n there) where
-  -- one more front is kept
+  -- the first bytes of one more file are cached
   pub fronts_before : get_by_text fronts path ≡ None → HasFronts m fronts there
   fronts_before absent p front none had = elim (cases_Bool (bytes_eq key p)) [
     | inl e ↦ let at_p : key ≡ p = (bytes_eq-Decides key p).0 e in
@@ -81,12 +81,12 @@ module _ {Y Z : Type 0} (m : BTreeMap (String Y) (Option (Vec ℕ Global))) (fro
   pub front_answer : get_by_text m path ≡ None → BeginAlike value.size (there path) (file_answer value.bytes)
   front_answer none = f path value none (rw (btree_map_updates_text key fronts n (Some value) updates path, (bytes_eq-Decides key path).1 same) refl)
 
--- what is known of a reference is known of what it leads to
+-- what is known of a reference is known of its referent
 pub of_copied : {X : Type 0} (P : X → Type 0) (r : Option (Bor X)) (o : Option X) → option_copied r ≡ o → IfSome r (λ x. P x.now) → (x : X) → o ≡ Some x → P x
 of_copied P None o e h x k = absurd (cc)
 of_copied P (Some y) o e h x k = let same : y.now ≡ x = cc in subst P same h
 
--- what was read begins as its first bytes
+-- a file that was read has its first bytes
 pub alike_first : (size : ℕ) (xs ys : List ℕ) → take size xs ≡ ys → BeginAlike size (Some xs) (Some ys)
 alike_first size xs ys e front short =
     let same : take (length front) xs ≡ take (length front) ys = sym (take-take (length front) size xs short) ∙ ap (take (length front)) e in
@@ -104,7 +104,7 @@ any_end test (x ∷ xs) y = ap (λ b. test x || b) (any_end test xs y) ∙ or_or
     or_or true b c = refl
     or_or false b c = refl
 
--- one more path is noted
+-- one more path is recorded
 pub one_more : (xs : List (List ℕ)) (path : List ℕ) → FailedAt (λ p. list_any (bytes_eq p) xs) (λ p. list_any (bytes_eq p) (xs ++ path ∷ [])) path
 one_more xs path = record {
   here = any_end (bytes_eq path) xs path ∙ or_right (list_any (bytes_eq path) xs) (bytes_eq path path) ((bytes_eq-Decides path path).1 refl);

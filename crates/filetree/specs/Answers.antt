@@ -1,23 +1,23 @@
--- How the answers of the search show what the definitions say.
+-- How the types of the code show the definitions: what a path holds, and the numbers and messages of faults.
 use Rattle.std.specs.Prelude.{ℕ, codes, string_bytes}
 use Rattle.modulename.specs.ModuleName.{Text}
 use Rattle.message.specs.Messages.{quoting}
-use Rattle.filetree.specs.Search.{Held, absent, no_cookie, not_utf8, script}
+use Rattle.filetree.specs.Modulefiles.{Held, absent, no_cookie, not_utf8, script}
 use Rattle.filetree.specs.declared.modulefile.Modulefile.{Modulefile}
 use Rattle.filetree.specs.declared.modulefile.Modulefile.TheVariants.{Absent, NoCookie, NotUtf8, Script}
-use Rattle.filetree.specs.declared.search.FindFault.{FindFault}
-use Rattle.filetree.specs.declared.search.FindFault.TheVariants as fault
+use Rattle.filetree.specs.declared.find_fault.FindFault.{FindFault}
+use Rattle.filetree.specs.declared.find_fault.FindFault.TheVariants as fault
 use Rattle.filetree.specs.declared.tree.TreeFault.{TreeFault}
 use Rattle.filetree.specs.declared.tree.TreeFault.TheVariants as tree_fault
 
--- what is said to be at a path
+-- what a path holds
 abbrev pub modulefile_view : Modulefile → Held
 modulefile_view Absent = absent
 modulefile_view NoCookie = no_cookie
 modulefile_view NotUtf8 = not_utf8
 modulefile_view (Script text) = script (string_bytes text)
 
--- the numbers of the faults of a search
+-- the number of each fault of a search
 abbrev pub find_number : FindFault → ℕ
 find_number fault.OutOfMemory = 41
 find_number (fault.NotFound name) = 42
@@ -26,7 +26,7 @@ find_number (fault.BadName name) = 44
 find_number (fault.BadDefaultFile path) = 45
 find_number (fault.NotUtf8 path) = 46
 
--- what each says of itself
+-- the message of each fault of a search
 abbrev pub find_message : FindFault → Text
 find_message fault.OutOfMemory = codes "Out of memory"
 find_message (fault.NotFound name) = quoting (codes "Unable to locate a modulefile for '") (string_bytes name)

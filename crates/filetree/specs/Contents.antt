@@ -1,4 +1,4 @@
--- The contents of a tree in memory.
+-- The contents of a tree in memory, as the two maps that agree with it.
 use Rattle.std.specs.Prelude.{map, string_bytes, vec_items}
 use Rattle.std.specs.BTreeMap.{get_by_text}
 use Rattle.std.specs.Option.{option_map}

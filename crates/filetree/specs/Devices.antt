@@ -1,4 +1,4 @@
--- What the system's answers say of a path.
+-- What the system's answers say of a path (stat(2), open(2); POSIX errno).
 use Rattle.std.specs.Prelude.{◌≡◌, ◌≢◌, ℕ, Bool, true, false, ◌==◌, if◌then◌else◌, List, Result, Ok, Err, IsOkAnd}
 use Rattle.std.specs.List.{list_any}
 use Rattle.std.specs.declared.io.Error.{Error}
@@ -10,33 +10,36 @@ use Rattle.filetree.specs.declared.look.Thing.TheVariants as things
 use Rattle.filetree.specs.declared.tree.TreeFault.{TreeFault}
 use Rattle.filetree.specs.declared.tree.TreeFault.TheVariants as fault
 
--- no name has a NUL
+-- A text with a NUL is no path (POSIX).
 abbrev pub has_nul : List ℕ → Bool
 has_nul path = list_any (λ b. b == 0) path
 
--- nothing is at the path: no file has the name, or a name on the way is no directory
+-- The path names nothing: no file has the name (ENOENT), or a component before the last is no directory (ENOTDIR).
 abbrev pub is_absence : ErrorKind → Bool
 is_absence kind.NotFound = true
 is_absence kind.NotADirectory = true
 is_absence _ = false
 
--- any error but want of memory is the device's
+-- any other error but one of memory is the device's
 abbrev pub fault_of_kind : ErrorKind → TreeFault
 fault_of_kind kind.OutOfMemory = fault.OutOfMemory
 fault_of_kind _ = fault.Device
 
--- What a look finds by the system's answer: something where it shows something, and nothing by an absence alone.
+-- What is at a path by the system's answer: something where the answer shows something, nothing where the path names
+-- nothing, else a fault.
 abbrev pub Finds : {X : Type 0} → Result X Error → Result Thing TreeFault → Type 0
 Finds (Ok found) looked = IsOkAnd looked (λ thing. thing ≢ things.Nothing)
 Finds (Err e) looked =
     looked ≡ (if is_absence (error_kind e) then Ok things.Nothing else Err (fault_of_kind (error_kind e)))
 
+-- a regular file
 abbrev pub is_file : Thing → Bool
 is_file things.Nothing = false
 is_file things.File = true
 is_file things.Directory = false
 is_file things.Other = false
 
+-- a directory
 abbrev pub is_directory : Thing → Bool
 is_directory things.Nothing = false
 is_directory things.File = false

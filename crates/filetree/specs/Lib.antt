@@ -1,8 +1,10 @@
+-- Trees of files, modulefiles at paths, and the relations of calls over a tree.
 pub mod Agreement
 pub mod Answers
 pub mod Causes
 pub mod Contents
 pub mod Devices
 pub mod Disk
-pub mod Search
+pub mod Modulefiles
+pub mod Relations
 pub mod Utf8

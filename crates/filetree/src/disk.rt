@@ -1,4 +1,4 @@
-//! The files and directories of a disk, whose answers are kept and given again.
+//! The tree over a real disk, which caches each answer and gives it again.
 ghost use Rattle.std.specs.Prelude.{◌≡◌, ◌+◌, if◌then◌else◌, ℕ, List, map, None, Some, Option, IfOk, IfSome, is_some, string_bytes, vec_len};
 ghost use Rattle.std.specs.BTreeMap.{get_by_text};
 ghost use Rattle.filetree.specs.Agreement.{BeginAlike, FailsAt, FailsIf, Files, HasCause, InEachPair, Listings, Narrows, begins_with, file_answer, is_device, listing_answer};
@@ -14,26 +14,33 @@ use std::collections::BTreeMap;
 use std::rt::Files;
 use std::{fs, io};
 
-/// The files and directories of a disk. Each path is looked at once, and each answer is kept and given again.
+/// The files and directories of a disk. Each answer is cached and given again, so the system is asked once for it; a
+/// failure is not cached.
 ///
-/// There is nothing at a path where another kind of thing is, as a directory where a file is asked for, a pipe, a
-/// socket or a device, which are never opened; where a link leads to nothing; where a name in the path is a file; and
-/// where the path has a NUL. Any other fault is the device's: a missing permission, links in a ring, a path that the
-/// system refuses, a directory with a name that is not UTF-8, a thing that is gone once it was looked at, or a file
-/// that does not begin any more as it was read.
+/// The answer is `None` where something of another type is at the path, as a directory where a file is asked for, or a
+/// pipe, a socket or a device, which are never opened; where a symbolic link points to nothing; where a component of
+/// the path is a file; and where the path has a NUL. Any other failure is `Device`: a missing permission, a loop of
+/// symbolic links, a path that the system refuses, a directory with a name that is not UTF-8, a file or directory that
+/// is gone after its type was asked for, and a file whose first bytes are no longer those that were read before.
 #[derive(Drop)]
 pub struct DiskTree<R: Files + AllocGlobal + Clone + Drop> {
     rt: R,
+    /// What is at each path that was looked at.
     things: BTreeMap<String, Thing>,
+    /// The whole files that were read.
     files: BTreeMap<String, Option<Vec<u8>>>,
+    /// The first bytes of files of which no more was read.
     fronts: BTreeMap<String, Front>,
+    /// The directories that were listed.
     listings: BTreeMap<String, Option<Vec<String>>>,
-    /// The paths at which the device failed, in turn.
+    /// The paths at which the device failed, in the order of the failures.
     failed: Vec<String>,
 }
 
-/// The bytes of the file at a path where this thing is, of which this front was read before. No other thing is opened,
-/// since opening a pipe or a device waits, or reads without end.
+/// The bytes of the file at a path where this is, of which these first bytes were read before, if any were. Only a file
+/// is opened, since opening a pipe or a device can wait without end.
+///
+/// It fails with `Device` where the file does not begin with the bytes that were read before.
 fn load_file<R: Files + AllocGlobal>(
     rt: &R,
     path: &str,
@@ -64,7 +71,7 @@ fn names_in<R: Files + AllocGlobal + Clone + Drop>(rt: &R, dir: &str) -> io::Res
     Ok(names)
 }
 
-/// The names in the directory at a path where this thing is.
+/// The names in the directory at a path where this is, or `None` where it is no directory.
 fn load_listing<R: Files + AllocGlobal + Clone + Drop>(
     rt: &R,
     dir: &str,
@@ -78,6 +85,7 @@ fn load_listing<R: Files + AllocGlobal + Clone + Drop>(
     }
 }
 
+/// A copy of an answer of `read`.
 fn copy_file(answer: &Option<Vec<u8>>) -> Result<Option<Vec<u8>>, AllocError>
     ensures { IfOk result (λ copy. file_answer copy ≡ file_answer answer.now) }
 {
@@ -87,6 +95,7 @@ fn copy_file(answer: &Option<Vec<u8>>) -> Result<Option<Vec<u8>>, AllocError>
     }
 }
 
+/// A copy of an answer of `entries`.
 fn copy_listing(
     alloc: Global,
     answer: &Option<Vec<String>>,
@@ -100,7 +109,7 @@ fn copy_listing(
 }
 
 impl<R: Files + AllocGlobal + Clone + Drop> DiskTree<R> {
-    /// The files and directories that the runtime reaches, of which nothing was asked yet.
+    /// The files and directories that the runtime reads, with no answer cached yet.
     pub fn new(rt: R) -> DiskTree<R>
         ensures { (files : Files) (listings : Listings) → ⟦<DiskTree<R> as Tree>⟧.agrees result files listings }
     {
@@ -115,7 +124,7 @@ impl<R: Files + AllocGlobal + Clone + Drop> DiskTree<R> {
         }
     }
 
-    /// The fault, with the path noted where the device failed there.
+    /// The fault; where it is the device's, the path is added to those at which the device failed.
     fn noted(&mut self, path: String, fault: TreeFault) -> TreeFault
         ensures files { self.new.files ≡ self.old.files }
         ensures fronts { self.new.fronts ≡ self.old.fronts }
@@ -137,7 +146,7 @@ impl<R: Files + AllocGlobal + Clone + Drop> DiskTree<R> {
         }
     }
 
-    /// What is at the path, which is looked at once.
+    /// What is at the path: the cached answer, or else the system's, which is then cached.
     fn thing_at(&mut self, path: &str) -> Result<Thing, TreeFault>
         ensures files { self.new.files ≡ self.old.files }
         ensures fronts { self.new.fronts ≡ self.old.fronts }
@@ -160,7 +169,7 @@ impl<R: Files + AllocGlobal + Clone + Drop> DiskTree<R> {
         }
     }
 
-    /// Whether the file at the path begins with these bytes, where what was read of it shows that.
+    /// Whether the file at the path begins with these bytes, or `None` where too little of it was read to say.
     fn known(&self, path: &str, front: &[u8]) -> Option<bool>
         ensures known { IfSome result (λ answer. (files : Files) (listings : Listings)
             → ⟦<DiskTree<R> as Tree>⟧.agrees self.now files listings
@@ -176,7 +185,7 @@ impl<R: Files + AllocGlobal + Clone + Drop> DiskTree<R> {
         }
     }
 
-    /// Whether the file at the path begins with these bytes, of which nothing was read yet.
+    /// Whether the file at the path, of which nothing was read yet, begins with these bytes. So many bytes are read.
     fn read_front(&mut self, path: &str, front: &[u8]) -> Result<bool, TreeFault>
         requires file { get_by_text self.old.files path.now ≡ None }
         requires front { get_by_text self.old.fronts path.now ≡ None }
@@ -200,7 +209,7 @@ impl<R: Files + AllocGlobal + Clone + Drop> DiskTree<R> {
         }
     }
 
-    /// Whether the file at the path begins with these bytes, by the whole file.
+    /// Whether the file at the path begins with these bytes. The whole file is read.
     fn begins_whole(&mut self, path: &str, front: &[u8]) -> Result<bool, TreeFault>
         ensures before { Narrows (⟦<DiskTree<R> as Tree>⟧.agrees self.old)
             (⟦<DiskTree<R> as Tree>⟧.agrees self.new) }

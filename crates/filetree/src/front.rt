@@ -1,4 +1,4 @@
-//! How files begin.
+//! The first bytes of files: read without the rest, and compared with what is read later.
 ghost use Rattle.std.specs.Prelude.{◌≡◌, ◌≤◌, length, take, IfOk, IfSome, is_some, true};
 ghost use Rattle.filetree.specs.Agreement.{BeginAlike, begins_with, file_answer};
 ghost use Rattle.filetree.specs.Devices.{is_file};
@@ -10,16 +10,16 @@ use std::io::Read;
 use std::rt::Files;
 use std::{fs, io};
 
-/// How a file begins, as far as it was read.
+/// The first bytes of a file, as far as they were asked for.
 #[derive(Drop)]
 pub(crate) struct Front {
     /// How many bytes were asked for.
     pub(crate) size: usize,
-    /// So many, or all of a file that has fewer; none where no file was there.
+    /// So many bytes, or all of a file that has fewer; `None` where no file was there.
     pub(crate) bytes: Option<Vec<u8>>,
 }
 
-/// Whether what was answered for a path begins with these bytes.
+/// Whether an answer of `read` is a file that begins with these bytes.
 pub(crate) fn begins(answer: &Option<Vec<u8>>, front: &[u8]) -> bool
     ensures { result ≡ begins_with front.now (file_answer answer.now) }
 {
@@ -29,7 +29,7 @@ pub(crate) fn begins(answer: &Option<Vec<u8>>, front: &[u8]) -> bool
     }
 }
 
-/// The first bytes that a reader gives, at most so many. No more is read.
+/// The first bytes of a reader, at most `size`. No more is read.
 fn first_bytes<F: Read + Drop>(alloc: Global, file: F, size: usize) -> io::Result<Vec<u8>>
     ensures { IfSome (F.remaining file) (λ bytes. IfOk result (λ front. front.items ≡ take size bytes)) }
 {
@@ -38,7 +38,7 @@ fn first_bytes<F: Read + Drop>(alloc: Global, file: F, size: usize) -> io::Resul
     Ok(front)
 }
 
-/// How the file begins at a path where this thing is. No other thing is opened.
+/// The first `size` bytes of the file at a path where this is. Only a file is opened.
 pub(crate) fn load_front<R: Files + AllocGlobal>(
     rt: &R,
     path: &str,
@@ -55,7 +55,7 @@ pub(crate) fn load_front<R: Files + AllocGlobal>(
     Ok(Front { size, bytes })
 }
 
-/// The first bytes, at most so many.
+/// The first bytes of a slice, at most `size`.
 fn first(bytes: &[u8], size: usize) -> &[u8]
     ensures { result.now ≡ take size bytes.entry.now }
 {
@@ -66,7 +66,7 @@ fn first(bytes: &[u8], size: usize) -> &[u8]
     }
 }
 
-/// Whether what was read of a path begins as its front.
+/// Whether an answer of `read` begins with the first bytes that were read before.
 pub(crate) fn is_alike(answer: &Option<Vec<u8>>, front: &Front) -> bool
     ensures { result ≡ true
         → BeginAlike front.now.size (file_answer answer.now) (file_answer front.now.bytes) }

@@ -1,4 +1,4 @@
-//! What holds of every tree, and of the contents of a tree in memory.
+//! Laws of every tree, and of a tree in memory. The functions do nothing; their contracts are the theorems.
 ghost use Rattle.std.specs.Prelude.{◌≡◌, ℕ, List};
 ghost use Rattle.filetree.specs.Contents.{files_of, listings_of};
 ghost use Rattle.filetree.specs.Agreement.{InEachPair, IsAgreeable};

@@ -1,19 +1,21 @@
-//! Files and directories by their paths, in memory or on a disk, what a path holds as a modulefile, and why none is
-//! found.
+//! Files and directories by their paths, in memory or on a disk; what a path holds as a modulefile, and why a search
+//! finds none (modulefile(5)); the answers of calls over a tree, as relations.
+//! `MemoryTree` takes memory; `DiskTree` reads files and directories by the runtime that it is given, and writes none.
+//! Used by `search`, `requests` and all crates above them.
 #![tactic(auto)]
 
 mod disk;
+mod find_fault;
 mod front;
 mod laws;
 mod look;
 mod memory;
 mod modulefile;
-mod search;
 mod tree;
 
 pub use disk::DiskTree;
+pub use find_fault::FindFault;
 pub use laws::{contents_agree, some_pair_agrees};
 pub use memory::MemoryTree;
 pub use modulefile::{Modulefile, holds_module, read_modulefile};
-pub use search::FindFault;
 pub use tree::{Tree, TreeFault};

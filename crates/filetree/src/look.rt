@@ -1,4 +1,4 @@
-//! What the system says is at a path.
+//! The type of the file at a path, as the system answers it (stat(2)).
 ghost use Rattle.std.specs.Prelude.{◌≡◌, ◌≢◌, ◌↔◌, true, Ok};
 ghost use Rattle.std.specs.Fs.{IsDir, IsFile, file_type};
 ghost use Rattle.std.specs.IoError.{error_kind};
@@ -9,17 +9,20 @@ use std::io::ErrorKind;
 use std::rt::Files;
 use std::{fs, io};
 
-/// What is at a path.
+/// What is at a path, after symbolic links are followed.
 #[derive(Clone, Copy)]
 pub(crate) enum Thing {
-    /// No name leads to anything.
+    /// The path names nothing.
     Nothing,
+    /// A regular file.
     File,
+    /// A directory.
     Directory,
     /// A pipe, a socket or a device.
     Other,
 }
 
+/// The fault of an error of the system: any error but one of memory is the device's.
 fn fault_of(e: &io::Error) -> TreeFault
     ensures { result ≡ fault_of_kind (error_kind e.now) }
 {
@@ -37,7 +40,7 @@ impl From<io::Error> for TreeFault {
     }
 }
 
-/// No name leads to anything there.
+/// Whether the error says that the path names nothing (ENOENT, ENOTDIR).
 fn is_absence(e: &io::Error) -> bool
     ensures { result ≡ is_absence (error_kind e.now) }
 {
@@ -48,6 +51,7 @@ fn is_absence(e: &io::Error) -> bool
     }
 }
 
+/// What the system's metadata say is at a path.
 fn thing_of(found: &fs::Metadata) -> Thing
     ensures something { result ≢ Thing.Nothing }
     ensures file { (result ≡ Thing.File) ↔ IsFile (file_type found.now) }
@@ -62,7 +66,7 @@ fn thing_of(found: &fs::Metadata) -> Thing
     }
 }
 
-/// What the system's answer says is there.
+/// What the system's answer says is at a path, or the fault that it is.
 fn found(answer: io::Result<fs::Metadata>) -> Result<Thing, TreeFault>
     ensures { Finds answer result }
 {
@@ -78,7 +82,8 @@ fn found(answer: io::Result<fs::Metadata>) -> Result<Thing, TreeFault>
     }
 }
 
-/// Looks at a path, behind its links. A text with NUL is no path, so the system isn't asked.
+/// Asks the system what is at a path, following symbolic links. A text with a NUL is no path, so the system isn't
+/// asked.
 pub(crate) fn look<R: Files>(rt: &R, path: &str) -> Result<Thing, TreeFault>
     ensures { has_nul path.now ≡ true → result ≡ Ok Thing.Nothing }
 {

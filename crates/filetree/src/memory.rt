@@ -1,4 +1,4 @@
-//! A tree in memory.
+//! The tree in memory, which holds the files and directories that were put into it.
 ghost use Rattle.std.specs.Prelude.{◌≡◌, ℕ, false, List, map, None, refl, IfOk, OnOk, OnErr, string_bytes, vec_items};
 ghost use Rattle.filetree.specs.Contents.{files_of, listings_of};
 ghost use Rattle.filetree.specs.Agreement.{with_at};
@@ -7,7 +7,8 @@ use crate::tree::{Tree, TreeFault};
 use std::alloc::{AllocError, Global};
 use std::collections::BTreeMap;
 
-/// Files and directories in memory.
+/// Files and directories in memory. A directory is listed by the names that were put at its path, and no path follows
+/// from another: a file may stand where no directory has its name.
 #[derive(Drop)]
 pub struct MemoryTree {
     alloc: Global,
@@ -15,6 +16,7 @@ pub struct MemoryTree {
     listings: BTreeMap<String, Vec<String>>,
 }
 
+/// A copy of some names.
 pub(crate) fn copy_names(alloc: Global, names: &Vec<String>) -> Result<Vec<String>, AllocError>
     ensures { IfOk result (λ copy. map string_bytes (vec_items copy) ≡ map string_bytes (vec_items names.now)) }
 {
@@ -25,6 +27,7 @@ pub(crate) fn copy_names(alloc: Global, names: &Vec<String>) -> Result<Vec<Strin
     Ok(copy)
 }
 
+/// The same names as owned strings.
 fn own_names(alloc: Global, names: &[&str]) -> Result<Vec<String>, AllocError>
     ensures { IfOk result (λ copy. map string_bytes (vec_items copy) ≡ map (λ name. name.now) names.now) }
 {

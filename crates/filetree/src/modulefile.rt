@@ -1,8 +1,8 @@
-//! What a path holds as a modulefile.
+//! What a path holds as a modulefile: the cookie `#%Module`, UTF-8, and the text (modulefile(5)).
 ghost use Rattle.std.specs.Prelude.{◌≡◌, false, IfOk, Some};
 ghost use Rattle.filetree.specs.Agreement.{FailsAt, InEachPair, HasCause, Narrows, begins_with, is_device};
 ghost use Rattle.filetree.specs.Answers.{modulefile_view};
-ghost use Rattle.filetree.specs.Search.{cookie, is_module, modulefile};
+ghost use Rattle.filetree.specs.Modulefiles.{cookie, is_module, modulefile};
 
 use crate::tree::{Tree, TreeFault};
 
@@ -33,9 +33,10 @@ impl Modulefile {
     }
 }
 
-/// What every modulefile begins with.
+/// The bytes that every modulefile begins with.
 const COOKIE: &[u8] = b"#%Module";
 
+/// What the bytes of a whole file are as a modulefile.
 fn modulefile_of(bytes: Vec<u8>) -> Modulefile
     ensures { modulefile_view result ≡ modulefile (Some bytes.items) }
 {
@@ -48,7 +49,7 @@ fn modulefile_of(bytes: Vec<u8>) -> Modulefile
     }
 }
 
-/// What a path holds whose file, if there is one, does not begin with `#%Module`.
+/// What a path holds whose file, if there is one, does not begin with `#%Module`: no file, or one without the cookie.
 fn no_module<T: Tree>(tree: &mut T, path: &str) -> Result<Modulefile, TreeFault>
     requires { InEachPair (T.agrees tree.old) (λ files listings. begins_with cookie (files path.now) ≡ false) }
     ensures before { Narrows (T.agrees tree.old) (T.agrees tree.new) }
@@ -64,7 +65,7 @@ fn no_module<T: Tree>(tree: &mut T, path: &str) -> Result<Modulefile, TreeFault>
     }
 }
 
-/// Reads what the path holds as a modulefile. Of a file that does not begin with `#%Module` no more is asked.
+/// Reads what the path holds as a modulefile. A file that does not begin with `#%Module` is not read further.
 ///
 /// It fails as the tree does.
 pub fn read_modulefile<T: Tree>(tree: &mut T, path: &str) -> Result<Modulefile, TreeFault>
@@ -83,7 +84,7 @@ pub fn read_modulefile<T: Tree>(tree: &mut T, path: &str) -> Result<Modulefile, 
     }
 }
 
-/// Whether the path holds a file that begins with `#%Module`. Nothing else of the file matters.
+/// Whether the path holds a file that begins with `#%Module`, UTF-8 or not. The file is not read further.
 ///
 /// It fails as the tree does.
 pub fn holds_module<T: Tree>(tree: &mut T, path: &str) -> Result<bool, TreeFault>

@@ -1,4 +1,4 @@
-//! What every tree of files keeps.
+//! The trait of trees of files, with the contract of every tree, and its faults.
 ghost use Rattle.std.specs.Prelude.{◌≡◌, ℕ, Bool, true, List, Some, IfOk};
 ghost use Rattle.filetree.specs.declared.tree.TreeFault.TheVariants.{OutOfMemory};
 ghost use Rattle.message.specs.Messages.{text_of};
@@ -13,7 +13,7 @@ use std::fmt::Display;
 /// Why a tree gave no answer.
 #[derive(Clone, Copy, Debug, PartialEq, Eq)]
 pub enum TreeFault {
-    /// No memory was left for the answer.
+    /// An allocation failed.
     OutOfMemory,
     /// The device failed: what is at the path could not be read or listed.
     Device,
@@ -30,7 +30,7 @@ impl TreeFault {
         }
     }
 
-    /// What the fault says.
+    /// The text of the fault, as the error line shows it.
     pub fn message(&self) -> Message<'static>
         ensures { text_of result ≡ tree_message self.now }
     {
@@ -69,16 +69,17 @@ impl<T: Drop> From<AllocFailed<T>> for TreeFault {
 
 /// Files and directories by their paths.
 ///
-/// What a tree says of the files and directories behind it is the set of pairs of maps that agree with it. A call only
-/// makes this set smaller, and its answer is what each pair that is left has at the path.
+/// The meaning of a tree is a set of pairs of maps, one of files and one of directories: those that agree with all its
+/// answers so far. A call only makes this set smaller, and its answer is what each remaining pair has at the path. So a
+/// tree need not know its disk as a whole, and a disk that changes between two calls breaks no clause.
 pub trait Tree {
-    /// How often the device has failed.
+    /// How often the device has failed so far.
     ghost failures: { Self → ℕ };
 
-    /// At which paths the device may have failed. A tree that does not say so has each path here.
+    /// The paths at which the device may have failed so far. A tree that does not record them has every path here.
     ghost failed: { Self → List ℕ → Bool } = { λ _ _. true };
 
-    /// Which files and directories agree with the answers so far.
+    /// Which pairs of maps agree with the answers so far.
     ghost agrees: { Self → Files → Listings → Type 0 };
 
     /// The bytes of the file at the path, or `None` where no file is there.
@@ -91,7 +92,7 @@ pub trait Tree {
         ensures cause { HasCause (failures self.old) (failures self.new) result }
         ensures failed { FailsAt is_device (failed self.old) (failed self.new) result (λ at. at ≡ path.now) };
 
-    /// Whether a file is at the path that begins with these bytes. A tree may answer it without reading more of the file.
+    /// Whether a file is at the path that begins with these bytes. A tree may read no more of the file than that.
     ///
     /// It fails as `read` does.
     fn begins_with(&mut self, path: &str, front: &[u8]) -> Result<bool, TreeFault>
@@ -107,7 +108,7 @@ pub trait Tree {
         }
     }
 
-    /// The names in the directory at the path, or `None` where no directory is there.
+    /// The names in the directory at the path, in any order, or `None` where no directory is there.
     ///
     /// It fails as `read` does.
     fn entries(&mut self, dir: &str) -> Result<Option<Vec<String>>, TreeFault>

@@ -1,4 +1,5 @@
-pub mod Places
+-- Modules that were found, and listed, as callers of the search see them.
+pub mod Located
 pub mod Lines
-pub mod PlaceViews
+pub mod LocatedViews
 pub mod LineViews

@@ -1,22 +1,22 @@
-//! All modules along MODULEPATH, one after the other.
+//! All modules along MODULEPATH, in one list with their directories (module(1), avail).
 ghost use Rattle.std.specs.Prelude.{◌≡◌, ◌<◌, ◌≤◌, ◌++◌, map, IfOk, IfErr, OnOk};
 ghost use Rattle.filetree.specs.Agreement.{FailsAt, Narrows, InEachPair};
 ghost use Rattle.filetree.specs.Causes.{Applies};
-ghost use Rattle.modulesearch.specs.Looked.{ListingLooksAt};
-ghost use Rattle.modulefind.specs.Answers.{cause_of, is_failure};
-ghost use Rattle.modulelist.specs.Listings.{listing_view};
-ghost use Rattle.modulelist.specs.Rows.{row_view};
+ghost use Rattle.search.specs.Looked.{ListingLooksAt};
+ghost use Rattle.search.specs.Answers.{cause_of, is_failure};
+ghost use Rattle.search.specs.Listings.{listing_view};
+ghost use Rattle.search.specs.Rows.{row_view};
 ghost use Rattle.defaultfiles.specs.Leaves.{Leaves};
 ghost use Rattle.lookup.specs.Lines.{line_of, lines_of, Available};
 ghost use Rattle.lookup.specs.LineViews.{line_view};
 
 use defaultfiles::Evaluated;
 use filetree::{FindFault, Tree};
-use modulelist::Row;
+use search::Row;
 use std::alloc::{AllocError, Global};
 use tclrules::Limits;
 
-/// A module of a directory.
+/// A module, with its directory.
 #[derive(Debug, Drop)]
 pub struct Listing {
     /// The directory, as MODULEPATH spells it.
@@ -27,7 +27,7 @@ pub struct Listing {
     pub is_default: bool,
 }
 
-/// Adds the modules of a directory.
+/// Adds each of the modules of a directory, with the directory.
 fn push_modules(
     alloc: Global,
     listings: &mut Vec<Listing>,
@@ -49,8 +49,8 @@ fn push_modules(
     Ok(())
 }
 
-/// The modules of each directory, behind one another.
-fn joined(alloc: Global, directories: &[modulelist::Listing]) -> Result<Vec<Listing>, AllocError>
+/// The modules of all directories in one list, directory after directory.
+fn joined(alloc: Global, directories: &[search::Listing]) -> Result<Vec<Listing>, AllocError>
     ensures { IfOk result (λ listings.
         map line_view listings.items ≡ lines_of (map listing_view directories.now)) }
 {
@@ -64,9 +64,9 @@ fn joined(alloc: Global, directories: &[modulelist::Listing]) -> Result<Vec<List
 }
 
 /// All modules along a MODULEPATH, a list parted by colons: for each directory in turn, a repeated one again, the
-/// well-spelled names of one to four parts of all files below it that begin with `#%Module`, in the order of versions
-/// of the whole name. A module is marked where a default file of its folder names it, each evaluated within the
-/// limits; nothing of a folder is marked where its default file has a fault.
+/// well-spelled names of one to four parts of all files below it that begin with `#%Module`, in version order of the
+/// whole name. A module is marked where a default file of its folder names it, each evaluated within the limits;
+/// nothing of a folder is marked where its default file has a fault.
 ///
 /// It fails with `Device` only where the device failed in this call, at a path that the listing looks at, and with
 /// `OutOfMemory`.
@@ -87,6 +87,6 @@ pub fn available<T: Tree>(
         ListingLooksAt (Leaves limits) files folders modulepath.now at)) }
 {
     let default_files = Evaluated { limits };
-    let directories = modulelist::available(alloc, tree, &default_files, modulepath)?;
+    let directories = search::available(alloc, tree, &default_files, modulepath)?;
     Ok(joined(alloc, &directories)?)
 }

@@ -1,5 +1,5 @@
 use Rattle.std.proofs.Common.{◌≡◌, ◌++◌, length, map}
-use Rattle.modulelist.specs.Listings.{listing_view}
+use Rattle.search.specs.Listings.{listing_view}
 use Rattle.lookup.specs.Lines.{lines_of}
 use Rattle.lookup.specs.LineViews.{line_view}
 use Rattle.lookup.proofs.listings.joined.Given as goal

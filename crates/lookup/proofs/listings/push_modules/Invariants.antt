@@ -1,5 +1,5 @@
 use Rattle.std.proofs.Common.{◌≡◌, ◌++◌, length, map}
-use Rattle.modulelist.specs.Rows.{row_view}
+use Rattle.search.specs.Rows.{row_view}
 use Rattle.lookup.specs.Lines.{line_of}
 use Rattle.lookup.specs.LineViews.{line_view}
 use Rattle.lookup.proofs.listings.push_modules.Given as goal

@@ -1,0 +1,56 @@
+//! The search for the module that a name means, with the path of its file (module(1)).
+ghost use Rattle.std.specs.Prelude.{◌≡◌, ◌<◌, ◌≤◌, false};
+ghost use Rattle.modulename.specs.ModuleName.{is_module_name};
+ghost use Rattle.filetree.specs.Agreement.{FailsAt, Narrows, InEachPair};
+ghost use Rattle.search.specs.Looked.{LooksAt};
+ghost use Rattle.search.specs.Answers.{Tells, is_failure};
+ghost use Rattle.defaultfiles.specs.Leaves.{Leaves};
+ghost use Rattle.lookup.specs.Located.{Located};
+ghost use Rattle.lookup.specs.LocatedViews.{place_view};
+
+use defaultfiles::Evaluated;
+use filetree::{FindFault, Tree};
+use std::alloc::Global;
+use tclrules::Limits;
+
+/// A module that was found, without its text.
+#[derive(Debug, Drop)]
+pub struct Found {
+    /// The module's full name, as `foo/1.0`.
+    pub name: String,
+    /// The path of its modulefile: the directory as MODULEPATH spells it, `/`, and the name.
+    pub path: String,
+}
+
+/// Finds the module that a name means, in the first directory of MODULEPATH, a list parted by colons, that gives one. A
+/// directory gives the modulefile at directory, `/`, name; or else, where a folder is there with files that begin with
+/// `#%Module`, the one of these that its default files name (`.modulerc`, or else `.version`, each evaluated within the
+/// limits), or else the greatest in version order.
+///
+/// It fails with `BadName` exactly where the name is ill-spelled, before anything is read; with `NotFound` where no
+/// directory gives a module; with `BadDefaultFile` where a default file of the folder that was meant has a fault;
+/// with `NotUtf8` where the module found is not UTF-8; with `Device` only where the device failed in this call, at a
+/// path that the search for this name looks at; and with `OutOfMemory`.
+pub fn locate<T: Tree>(
+    alloc: Global,
+    tree: &mut T,
+    modulepath: &str,
+    name: &str,
+    limits: Limits,
+) -> Result<Found, FindFault>
+    ensures before { Narrows (T.agrees tree.old) (T.agrees tree.new) }
+    ensures later { T.failures tree.old ≤ T.failures tree.new }
+    ensures told { Tells (T.agrees tree.new) (T.failures tree.old < T.failures tree.new) place_view result
+        (λ files folders. Located (Leaves limits) files folders modulepath.now name.now) }
+    ensures failed { FailsAt is_failure (T.failed tree.old) (T.failed tree.new) result (λ at.
+        InEachPair (T.agrees tree.new) (λ files folders.
+        LooksAt (Leaves limits) files folders modulepath.now name.now at)) }
+    ensures unread { is_module_name name.now ≡ false → tree.new ≡ tree.old }
+{
+    let default_files = Evaluated { limits };
+    let module = search::locate(alloc, tree, &default_files, modulepath, name)?;
+    Ok(Found {
+        name: module.name,
+        path: module.path,
+    })
+}

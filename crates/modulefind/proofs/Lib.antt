@@ -1,6 +1,0 @@
-pub mod SayingLemmas
-pub mod NamedLemmas
-pub mod VersionLemmas
-pub mod StepLemmas
-pub mod FailureLemmas
-pub mod LookLemmas

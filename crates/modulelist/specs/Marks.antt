@@ -1,8 +1,0 @@
--- The mark of a default.
-use Rattle.std.specs.Prelude.{Bool, false, Option, Some, None, bytes_eq}
-use Rattle.modulename.specs.ModuleName.{Text}
-
--- a module, marked where it is the default
-abbrev pub is_marked_by : Option Text → Text → Bool
-is_marked_by None name = false
-is_marked_by (Some default) name = bytes_eq default name

@@ -1,2 +1,0 @@
-pub mod OneFound
-pub mod OneListing

@@ -1,5 +1,0 @@
-use Rattle.modulesearch.proofs.OneListing.{one_listed}
-use Rattle.modulesearch.proofs.laws.one_listed.Goals as goal
-
-pub returns : goal.returns
-returns g c = λ files listings modulepath ls ks h k. one_listed (g.D.DefaultFiles.leaves c.args.default_files.now) files listings modulepath ls ks h k

@@ -1,0 +1,66 @@
+-- What follows a prefix of a text, and the last default of some commands.
+use Rattle.std.proofs.Common.{◌≡◌, ◌≢◌, ℕ, Bool, true, false, List, [], ◌∷◌, ◌++◌, drop, Option, Some, None, option_map, MatchOption, Bor, refl, sym, ap, ◌∙◌, arith}
+use Rattle.std.specs.Prelude.{◌==◌, if◌then◌else◌, option_and_then}
+use Rattle.std.specs.Option.{option_or}
+use Rattle.std.specs.Str.Pattern.{FindsTextPrefix, StripsPrefix}
+use Rattle.std.proofs.lemmas.Bool.Decides.{nat_tests}
+use Rattle.modulename.specs.ModuleName.{Text}
+use Rattle.search.specs.DefaultFiles.{after_front, default_by, last_default}
+
+itself : (b : ℕ) → (b == b) ≡ true
+itself b = grind (arith, nat_tests)
+
+pub after_front-front : (front rest : Text) → after_front front (front ++ rest) ≡ Some rest
+after_front-front [] rest = refl
+after_front-front (c ∷ cs) rest = rw (itself c) (after_front-front cs rest)
+
+-- a text without the prefix has no rest after it
+same_head : (c d : ℕ) → (c == d) ≡ true → c ≡ d
+same_head c d h = grind (arith, nat_tests)
+
+other_head : (t : Bool) (o : Option Text) → (t ≡ true → o ≡ None) → (if t then o else None) ≡ None
+other_head true o h = h refl
+other_head false o h = refl
+
+pub after_front-none : (front text : Text) → ((rest : Text) → text ≢ front ++ rest) → after_front front text ≡ None
+after_front-none [] text h = absurd (h text refl)
+after_front-none (c ∷ cs) [] h = refl
+after_front-none (c ∷ cs) (d ∷ ds) h =
+    other_head (c == d) (after_front cs ds) (λ e. after_front-none cs ds (λ rest g. h rest (ap (λ x. x ∷ ds) (sym (same_head c d e)) ∙ ap (λ xs. c ∷ xs) g)))
+
+step : (t : Bool) (o : Option Text) (f : Text → Option Text) → (if t then option_and_then f o else None) ≡ option_and_then f (if t then o else None)
+step true o f = refl
+step false o f = refl
+
+-- one prefix after another
+pub after_front-append : (front more text : Text) → after_front (front ++ more) text ≡ option_and_then (after_front more) (after_front front text)
+after_front-append [] more text = refl
+after_front-append (c ∷ cs) more [] = refl
+after_front-append (c ∷ cs) more (d ∷ ds) =
+    ap (λ o. if c == d then o else None) (after_front-append cs more ds) ∙ step (c == d) (after_front cs ds) (after_front more)
+
+-- what `strip_prefix` says
+pub stripped : (front text : Text) (r : Option (Bor Text)) → MatchOption r (FindsTextPrefix front text None) (λ x. StripsPrefix (FindsTextPrefix front) text x.now)
+    → option_map (λ v. v.now) r ≡ after_front front text
+stripped front text None h = sym (after_front-none front text h)
+stripped front text (Some x) (n, found, here, len) =
+    ap Some here ∙ sym (after_front-front front (drop n text)) ∙ ap (after_front front) (sym found.1)
+
+pub behind_none : (front more text : Text) (r : Option (Bor Text)) → option_map (λ v. v.now) r ≡ after_front front text → r ≡ None → None ≡ after_front (front ++ more) text
+behind_none front more text r h e =
+    let none : after_front front text ≡ None = sym h ∙ ap (option_map (λ v. v.now)) e in
+    sym (after_front-append front more text ∙ ap (option_and_then (after_front more)) none)
+
+pub behind_some : (front more text rest : Text) (r : Option (Bor Text)) (o : Option Text) → option_map (λ v. v.now) r ≡ after_front front text → option_map (λ v. v.now) r ≡ Some rest
+    → o ≡ after_front more rest → o ≡ after_front (front ++ more) text
+behind_some front more text rest r o h e made =
+    made ∙ sym (after_front-append front more text ∙ ap (option_and_then (after_front more)) (sym h ∙ e))
+
+-- one more command of those that come after each other
+pub last_default-more : (name : Text) (words : List Text) (after : List (List Text)) (last : Option Text) (all : Option Text)
+    → all ≡ option_or (last_default name (words ∷ after)) last → all ≡ option_or (last_default name after) (option_or (default_by name words) last)
+last_default-more name words after last all h = h ∙ or_or (last_default name after) (default_by name words) last
+  where
+    or_or : (o p q : Option Text) → option_or (option_or o p) q ≡ option_or o (option_or p q)
+    or_or None p q = refl
+    or_or (Some x) p q = refl

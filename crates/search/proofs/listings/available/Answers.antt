@@ -1,0 +1,93 @@
+use Rattle.std.proofs.lemmas.Result.{err_from_is_err_and}
+use Rattle.std.proofs.Common.{◌≡◌, ◌<◌, ◌≤◌, ◌-◌, ℕ, true, take, drop, Bor, List, [], ◌∷◌, ◌++◌, Option, length, get_or, map, refl, sym, ap, ◌∙◌, subst, append-nil, string_bytes, vec_items, arith}
+use Rattle.modulename.specs.ModuleName.{Text}
+use Rattle.filetree.specs.Agreement.{Files, Listings, InEachPair, is_device}
+use Rattle.filetree.specs.Modulefiles.{directories}
+use Rattle.search.specs.DefaultFiles.{Left}
+use Rattle.search.specs.Listed.{Listing, IsListing, AreListings}
+use Rattle.search.specs.Looked.{LooksThrough, ListingLooksAt}
+use Rattle.search.proofs.FailureLemmas.{fails_then}
+use Rattle.search.proofs.VersionLemmas.{has, split_first}
+use Rattle.search.specs.Rows.{row_view}
+use Rattle.search.specs.Listings.{listing_view}
+use Rattle.search.proofs.ListingLookLemmas.{first_has, later_has}
+use Rattle.search.proofs.listings.available.Goals as goal
+
+nothing : Bor (List ℕ)
+nothing = record { ref_ptr = (0, 0); now = [] }
+
+none_left : (leaves : Text → Text → Option Left → Type 0) (files : Files) (folders : Listings) {X : Type 0} (view : X → Text) (rest : List X) → length rest < 1
+    → AreListings leaves files folders (map view rest) []
+none_left leaves files folders view [] h = tt
+none_left leaves files folders view (x ∷ xs) h = absurd (omega arith)
+
+-- the listing of the first remaining directory, before those of the others
+listed_first : (leaves : Text → Text → Option Left → Type 0) (files : Files) (folders : Listings) {X : Type 0} (view : X → Text) (d : X) (rest : List X) → 1 ≤ length rest
+    → (l : Listing) → l.0 ≡ view (get_or rest 0 d) → IsListing leaves files folders (view (get_or rest 0 d)) l.1
+    → (more : List Listing) → AreListings leaves files folders (map view (take (length rest - 1) (drop 1 rest))) more → AreListings leaves files folders (map view rest) (l ∷ more)
+listed_first leaves files folders view d rest some l dir rows more h =
+    subst (λ dirs. AreListings leaves files folders dirs (l ∷ more)) (sym (split_first view d rest some)) (dir, rows, h)
+
+pushed : {X Y : Type 0} (view : X → Y) (xs ys : List X) (x : X) → ys ≡ xs ++ x ∷ [] → (more : List Y) → map view xs ++ view x ∷ more ≡ map view ys ++ more
+pushed view xs ys x e more = sym (ap (λ zs. map view zs ++ more) e ∙ at xs)
+  where
+    at : (zs : List _) → map view (zs ++ x ∷ []) ++ more ≡ map view zs ++ view x ∷ more
+    at [] = refl
+    at (z ∷ zs) = ap (λ ws. view z ∷ ws) (at zs)
+
+pub returns-clause-listed : goal.returns-clause-listed
+returns-clause-listed g c = λ files folders a.
+    let leaves = g.D.DefaultFiles.leaves c.args.default_files.now in
+    let listings = map listing_view c.loop-rest.listings.items in
+    subst (AreListings leaves files folders (directories c.args.modulepath.now)) (append-nil listings)
+    (subst (λ dirs. AreListings leaves files folders dirs (listings ++ [])) (ap (map (λ dir. dir.now)) c.as_slice-rest.ensures.value ∙ c.in_ok-dirs.ensures)
+    (c.loop-rest.invariant.so_far files folders a [] (none_left leaves files folders (λ dir. dir.now) c.loop-rest.rest.now c.in_default.len_below)))
+
+pub returns-clause-failed : goal.returns-clause-failed
+returns-clause-failed g c = c.loop-rest.invariant.unfailed
+
+pub returns-in_err-from_str-clause-failed : goal.returns-in_err-from_str-clause-failed
+returns-in_err-from_str-clause-failed g c =
+    let p = err_from_is_err_and c.from_residual-in_err-from_str.result c.from_residual-in_err-from_str.ensures.1 in
+    rw (p.1, p.2) (c.in_ok-modules.ensures.failed ∙ c.loop-rest.invariant.unfailed)
+
+pub returns-in_err-push-clause-failed : goal.returns-in_err-push-clause-failed
+returns-in_err-push-clause-failed g c =
+    let p = err_from_is_err_and c.from_residual-in_err-push.result c.from_residual-in_err-push.ensures.1 in
+    rw (p.1, p.2) (c.in_ok-modules.ensures.failed ∙ c.loop-rest.invariant.unfailed)
+
+pub returns-in_err-modules-clause-failed : goal.returns-in_err-modules-clause-failed
+unfolding nothing
+returns-in_err-modules-clause-failed g c =
+    let leaves = g.D.DefaultFiles.leaves c.args.default_files.now in
+    let modulepath = c.args.modulepath.now in
+    let rest = c.loop-rest.rest.now in
+    let dir = (get_or rest 0 nothing).now in
+    let agrees = g.T.Tree.agrees c.modules_of.new.tree in
+    let fails = is_device c.in_err-modules.field-0.0 in
+    let p = err_from_is_err_and c.from_residual-in_err-modules.result c.from_residual-in_err-modules.ensures.1 in
+    let among : has dir (directories modulepath) ≡ true =
+    ap (has dir) (sym (ap (map (λ d. d.now)) c.as_slice-rest.ensures.value ∙ c.in_ok-dirs.ensures))
+    ∙ c.loop-rest.invariant.among dir (first_has (λ d. d.now) nothing rest c.in-len1-up.len_at_least) in
+    rw (p.1, p.2) (fails_then fails fails (g.T.Tree.failed c.args.tree.now) (g.T.Tree.failed c.loop-rest.tree) (g.T.Tree.failed c.modules_of.new.tree)
+    (λ at. InEachPair agrees (λ files folders. LooksThrough leaves files folders dir at))
+    (λ at. InEachPair agrees (λ files folders. ListingLooksAt leaves files folders modulepath at)) c.loop-rest.invariant.unfailed refl
+    (λ at h files folders a. (dir, among, h files folders a)) c.in_err-modules.ensures.failed)
+
+pub loop-rest-preserved : goal.loop-rest-preserved
+unfolding nothing
+loop-rest-preserved g c = record {
+  before = λ files folders a. c.loop-rest.invariant.before files folders (c.modules_of.ensures.before files folders a);
+  so_far = λ files folders a more h.
+      let leaves = g.D.DefaultFiles.leaves c.args.default_files.now in
+      let b = c.modules_of.ensures.before files folders a in
+      let listing : Listing = (string_bytes c.in_ok-from_str.field-0, map row_view (vec_items c.in_ok-modules.modules)) in
+      subst (AreListings leaves files folders (map (λ d. d.now) c.as_slice-rest.result.now))
+      (pushed listing_view c.loop-rest.listings.items c.push.new.self.items _ c.in_ok-push.ensures.items more)
+      (c.loop-rest.invariant.so_far files folders b (listing ∷ more)
+      (listed_first leaves files folders (λ d. d.now) nothing c.loop-rest.rest.now c.in-len1-up.len_at_least listing c.in_ok-from_str.ensures.ok
+      (c.in_ok-modules.ensures.answer files folders a) more h));
+  later = omega arith;
+  unfailed = c.in_ok-modules.ensures.failed ∙ c.loop-rest.invariant.unfailed;
+  among = λ d h. c.loop-rest.invariant.among d (later_has (λ dir. dir.now) nothing c.loop-rest.rest.now c.in-len1-up.len_at_least d h);
+}

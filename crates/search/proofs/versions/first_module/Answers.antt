@@ -1,0 +1,54 @@
+use Rattle.std.proofs.Common.{◌≡◌, List, ℕ, Bor, [], get_or, map, refl, ◌∙◌, arith}
+use Rattle.std.proofs.lemmas.Result.{err_from_is_err_and}
+use Rattle.filetree.specs.Agreement.{InEachPair, is_device}
+use Rattle.filetree.specs.Modulefiles.{path_of}
+use Rattle.search.specs.Versions.{is_module_in, LooksDown}
+use Rattle.search.proofs.FailureLemmas.{fails_then}
+use Rattle.search.proofs.VersionLemmas.{find_later, looks_first, looks_later}
+use Rattle.search.proofs.versions.first_module.Goals as goal
+
+nothing : Bor (List ℕ)
+nothing = record { ref_ptr = (0, 0); now = [] }
+
+pub loop-rest-preserved : goal.loop-rest-preserved
+unfolding nothing
+loop-rest-preserved g c = record {
+  before = λ files listings a. c.loop-rest.invariant.before files listings (c.is_module_in.ensures.before files listings a);
+  none_yet = λ files listings a.
+      c.loop-rest.invariant.none_yet files listings (c.is_module_in.ensures.before files listings a)
+      ∙ find_later (λ v. v.now) (is_module_in files c.args.dir.now c.args.name.now) nothing c.loop-rest.rest.now c.in-len1-up.len_at_least
+      (c.in_ok-is_module_in.ensures.answer files listings a ∙ c.if-branch.false);
+  later = omega arith;
+  unfailed = c.in_ok-is_module_in.ensures.failed ∙ c.loop-rest.invariant.unfailed;
+  looked = λ files listings a at h.
+      c.loop-rest.invariant.looked files listings (c.is_module_in.ensures.before files listings a) at
+      (looks_later (λ v. v.now) files c.args.dir.now c.args.name.now nothing c.loop-rest.rest.now c.in-len1-up.len_at_least at
+      (c.in_ok-is_module_in.ensures.answer files listings a ∙ c.if-branch.false) h);
+}
+
+pub returns-in_err-is_module_in-clause-failed : goal.returns-in_err-is_module_in-clause-failed
+unfolding nothing
+returns-in_err-is_module_in-clause-failed g c =
+    let dir = c.args.dir.now in
+    let name = c.args.name.now in
+    let rest = c.loop-rest.rest.now in
+    let p = err_from_is_err_and c.from_residual.result c.from_residual.ensures.1 in
+    rw (p.1, p.2) (fails_then (is_device c.in_err-is_module_in.field-0.0) (is_device c.in_err-is_module_in.field-0.0)
+    (g.T.Tree.failed c.args.tree.now) (g.T.Tree.failed c.loop-rest.tree) (g.T.Tree.failed c.is_module_in.new.tree)
+    (λ at. at ≡ path_of dir (path_of name (get_or rest 0 nothing).now))
+    (λ at. InEachPair (g.T.Tree.agrees c.is_module_in.new.tree) (λ files listings. LooksDown files dir name (map (λ v. v.now) c.args.versions.now) at))
+    c.loop-rest.invariant.unfailed refl
+    (λ at e files listings a. c.loop-rest.invariant.looked files listings (c.is_module_in.ensures.before files listings a) at
+    (looks_first (λ v. v.now) files dir name nothing rest c.in-len1-up.len_at_least at e))
+    c.in_err-is_module_in.ensures.failed)
+
+pub returns-in_err-from_str-clause-failed : goal.returns-in_err-from_str-clause-failed
+returns-in_err-from_str-clause-failed g c =
+    let p = err_from_is_err_and c.from_residual-in_err-from_str.result c.from_residual-in_err-from_str.ensures.1 in
+    rw (p.1, p.2) (c.in_ok-is_module_in.ensures.failed ∙ c.loop-rest.invariant.unfailed)
+
+pub returns-then-branch-clause-failed : goal.returns-then-branch-clause-failed
+returns-then-branch-clause-failed g c = c.in_ok-is_module_in.ensures.failed ∙ c.loop-rest.invariant.unfailed
+
+pub returns-clause-failed : goal.returns-clause-failed
+returns-clause-failed g c = c.loop-rest.invariant.unfailed

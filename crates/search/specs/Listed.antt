@@ -1,0 +1,67 @@
+-- All modules along a MODULEPATH (module(1), avail): for each directory the modules below it, each once, in version
+-- order of their full names, marked where they are defaults.
+use Rattle.std.specs.Prelude.{◌≡◌, ◌↔◌, Bool, true, ◌&&◌, List, [], ◌∷◌, ◌++◌, map, bytes_eq, Option, Some, Ok}
+use Rattle.std.specs.List.{list_any}
+use Rattle.std.specs.List.Sorted.{IsStrictlySortedBy}
+use Rattle.modulename.specs.ModuleName.{Text, parts, is_module_name}
+use Rattle.filetree.specs.Agreement.{Files, Listings}
+use Rattle.filetree.specs.Modulefiles.{directories, path_of}
+use Rattle.moduleversion.specs.Versions.{version_order}
+use Rattle.search.specs.DefaultFiles.{Left}
+use Rattle.search.specs.Found.{IsModuleAt, HasEntry, NamedDefault}
+
+-- each part is an entry of the folder that is reached by the parts before it
+abbrev pub LeadsThrough : Listings → Text → List Text → Type 0
+LeadsThrough listings path [] = Unit {0}
+LeadsThrough listings path (part ∷ rest) = HasEntry listings path part × LeadsThrough listings (path_of path part) rest
+
+-- a module below the directory: a well-spelled name of one to four parts, of a file with the cookie
+pub record IsBelow (files : Files) (listings : Listings) (dir name : Text) : Type 0 where
+  pub spelled : is_module_name name ≡ true
+  pub leads : LeadsThrough listings dir (parts name)
+  pub file : IsModuleAt files (path_of dir name)
+
+-- A default file of the module's folder names it. Where a default file has a fault, no module of the folder is named.
+pub record IsNamed (leaves : Text → Text → Option Left → Type 0) (files : Files) (listings : Listings) (dir name : Text)
+    : Type 0 where
+  pub folder : Text
+  pub version : Text
+  pub joined : name ≡ path_of folder version
+  pub last : parts name ≡ parts folder ++ version ∷ []
+  pub named : NamedDefault leaves files listings dir folder (Ok (Some version))
+
+-- a module's full name, and whether it is marked as a default
+abbrev pub Row : Type 0
+Row = Text × Bool
+
+-- the names of a listing
+abbrev pub names_of : List Row → List Text
+names_of rows = map (λ row. row.0) rows
+
+-- the name is in a listing, marked as a default
+abbrev pub is_marked : Text → List Row → Bool
+is_marked name rows = list_any (λ row. bytes_eq name row.0 && row.1) rows
+
+-- the listing of a directory: its modules, and no others, each once, in version order, with their marks
+pub record IsListing (leaves : Text → Text → Option Left → Type 0) (files : Files) (listings : Listings) (dir : Text)
+    (rows : List Row) : Type 0 where
+  pub order : IsStrictlySortedBy version_order (names_of rows)
+  pub names : (name : Text) → (list_any (bytes_eq name) (names_of rows) ≡ true) ↔ IsBelow files listings dir name
+  pub marks : (name : Text)
+      → (is_marked name rows ≡ true) ↔ (IsBelow files listings dir name × IsNamed leaves files listings dir name)
+
+-- a directory with its modules
+abbrev pub Listing : Type 0
+Listing = Text × List Row
+
+-- the listings of some directories, in turn
+abbrev pub AreListings : (Text → Text → Option Left → Type 0) → Files → Listings → List Text → List Listing → Type 0
+AreListings leaves files listings [] [] = Unit {0}
+AreListings leaves files listings [] (l ∷ ls) = ⊥
+AreListings leaves files listings (dir ∷ dirs) [] = ⊥
+AreListings leaves files listings (dir ∷ dirs) (l ∷ ls) =
+    (l.0 ≡ dir) × IsListing leaves files listings dir l.1 × AreListings leaves files listings dirs ls
+
+-- each directory of the MODULEPATH in turn, a repeated one again
+abbrev pub Listed : (Text → Text → Option Left → Type 0) → Files → Listings → Text → List Listing → Type 0
+Listed leaves files listings modulepath rows = AreListings leaves files listings (directories modulepath) rows

@@ -1,0 +1,13 @@
+-- Why a search finds no modulefile, apart from want of memory and a device that failed (module(1), modulefile(5)).
+use Rattle.modulename.specs.ModuleName.{Text}
+
+-- a reason, with the name or the path that it is about
+pub data Reason : Type 0 where
+  -- the name is ill-spelled
+  bad_name : (name : Text) → Reason
+  -- no directory gives a module of this name
+  not_found : (name : Text) → Reason
+  -- the default file at this path has a fault
+  bad_default : (path : Text) → Reason
+  -- the module's file isn't UTF-8
+  not_utf8_at : (path : Text) → Reason

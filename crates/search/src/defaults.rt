@@ -1,0 +1,197 @@
+//! The default that the default files of a folder name: `.modulerc`, or else `.version` (modulefile(5)).
+ghost use Rattle.std.specs.Prelude.{◌≡◌, map, Some, IfOk, string_bytes};
+ghost use Rattle.filetree.specs.Agreement.{FailsAt, Files, Listings, InEachPair, HasCause, is_device};
+ghost use Rattle.filetree.specs.Modulefiles.{path_of};
+ghost use Rattle.search.specs.DefaultFiles.{Names, said};
+ghost use Rattle.search.specs.Found.{IsCandidate, NamedDefault, default_file};
+ghost use Rattle.search.specs.Looked.{LooksAtVersion, LooksBy, LooksForNamed};
+ghost use Rattle.search.specs.VersionsNamed.{file_name, says, said_view, named_view, IsCandidateIfAny, NamedBy};
+ghost use Rattle.std.specs.Option.{option_map};
+ghost use Rattle.search.specs.Ended.{ended_view};
+
+use crate::candidates::is_module_in;
+use crate::default_files::{DefaultFiles, Ended};
+use crate::paths::{has, path_of};
+use crate::version_named::DefaultFile;
+use crate::versions::is_version;
+use filetree::{Modulefile, Tree, TreeFault, read_modulefile};
+use std::alloc::{AllocError, Global};
+
+/// The candidate that default files name.
+#[derive(Debug, Drop)]
+pub enum Named {
+    /// They name no candidate.
+    Nothing,
+    /// The candidate of this version.
+    Candidate(String),
+    /// The default file at this path has a fault.
+    BadFile(String),
+}
+
+/// The version that a default file names.
+#[derive(Drop)]
+enum Said {
+    /// It names no version, or is absent, or has no cookie.
+    Nothing,
+    /// It names this version, which may be no candidate.
+    Version(String),
+    /// The default file at this path has a fault.
+    BadFile(String),
+}
+
+/// The version that the default file at a path names, by the result of its evaluation; `None` there is an evaluation
+/// with a fault.
+fn said_by_ended(
+    alloc: Global,
+    file: DefaultFile,
+    name: &str,
+    path: String,
+    ended: Option<Ended>,
+) -> Result<Said, AllocError>
+    ensures { IfOk result (λ s.
+        said_view s ≡ said (says file name.now) (string_bytes path) (option_map ended_view ended)) }
+{
+    let Some(ended) = ended else {
+        return Ok(Said::BadFile(path));
+    };
+    match file.said(name, &ended) {
+        None => Ok(Said::Nothing),
+        Some(version) => Ok(Said::Version(String::from_str(alloc, version)?)),
+    }
+}
+
+/// The version that a default file in the folder of a name names. The file is read, and evaluated where it has the
+/// cookie.
+fn said_by<T: Tree, D: DefaultFiles>(
+    alloc: Global,
+    tree: &mut T,
+    default_files: &D,
+    dir: &str,
+    name: &str,
+    file: DefaultFile,
+) -> Result<Said, TreeFault>
+    ensures before { InEachPair (T.agrees tree.new) (λ files listings. T.agrees tree.old files listings) }
+    ensures answer { IfOk result (λ s. InEachPair (T.agrees tree.new) (λ files listings.
+        Names (D.leaves default_files.now) files (says file name.now)
+        (default_file dir.now name.now (file_name file)) (said_view s))) }
+    ensures cause { HasCause (T.failures tree.old) (T.failures tree.new) result }
+    ensures failed { FailsAt is_device (T.failed tree.old) (T.failed tree.new) result (λ at.
+        at ≡ default_file dir.now name.now (file_name file)) }
+{
+    let folder = path_of(alloc, dir, name)?;
+    let path = path_of(alloc, &folder, file.file_name())?;
+    match read_modulefile(tree, &path)? {
+        Modulefile::Absent => Ok(Said::Nothing),
+        Modulefile::NoCookie => Ok(Said::Nothing),
+        Modulefile::NotUtf8 => Ok(Said::BadFile(path)),
+        Modulefile::Script(text) => {
+            let ended = default_files.evaluate(alloc, &path, &text)?;
+            Ok(said_by_ended(alloc, file, name, path, ended)?)
+        }
+    }
+}
+
+/// This version of a name, in whose folder are these entries, where it is a candidate; else `None`. Only for one of the
+/// entries that can be a version is a file asked for.
+fn candidate_of<T: Tree>(
+    alloc: Global,
+    tree: &mut T,
+    dir: &str,
+    name: &str,
+    entries: &[String],
+    version: String,
+) -> Result<Option<String>, TreeFault>
+    requires { InEachPair (T.agrees tree.old) (λ files listings.
+        listings (path_of dir.now name.now) ≡ Some (map string_bytes entries.now)) }
+    ensures before { InEachPair (T.agrees tree.new) (λ files listings. T.agrees tree.old files listings) }
+    ensures answer { IfOk result (λ r. InEachPair (T.agrees tree.new) (λ files listings.
+        IsCandidateIfAny (IsCandidate files listings dir.now name.now) (string_bytes version) (option_map string_bytes r))) }
+    ensures cause { HasCause (T.failures tree.old) (T.failures tree.new) result }
+    ensures failed { FailsAt is_device (T.failed tree.old) (T.failed tree.new) result (λ at.
+        InEachPair (T.agrees tree.new) (λ files listings.
+        LooksAtVersion listings dir.now name.now (string_bytes version) at)) }
+{
+    if !has(entries, &version) || !is_version(alloc, name, &version)? {
+        return Ok(None);
+    }
+    if is_module_in(alloc, tree, dir, name, &version)? {
+        Ok(Some(version))
+    } else {
+        Ok(None)
+    }
+}
+
+/// The candidate that one of the default files in the folder of a name names, if it names one.
+fn named_by<T: Tree, D: DefaultFiles>(
+    alloc: Global,
+    tree: &mut T,
+    default_files: &D,
+    dir: &str,
+    name: &str,
+    entries: &[String],
+    file: DefaultFile,
+) -> Result<Named, TreeFault>
+    requires { InEachPair (T.agrees tree.old) (λ files listings.
+        listings (path_of dir.now name.now) ≡ Some (map string_bytes entries.now)) }
+    ensures before { InEachPair (T.agrees tree.new) (λ files listings. T.agrees tree.old files listings) }
+    ensures answer { IfOk result (λ n. InEachPair (T.agrees tree.new) (λ files listings.
+        NamedBy (D.leaves default_files.now) files listings dir.now name.now file (named_view n))) }
+    ensures cause { HasCause (T.failures tree.old) (T.failures tree.new) result }
+    ensures failed { FailsAt is_device (T.failed tree.old) (T.failed tree.new) result (λ at.
+        InEachPair (T.agrees tree.new) (λ files listings. LooksBy (D.leaves default_files.now) files listings
+        dir.now name.now (says file name.now) (file_name file) at)) }
+{
+    match said_by(alloc, tree, default_files, dir, name, file)? {
+        Said::Nothing => Ok(Named::Nothing),
+        Said::BadFile(path) => Ok(Named::BadFile(path)),
+        Said::Version(version) => match candidate_of(alloc, tree, dir, name, entries, version)? {
+            None => Ok(Named::Nothing),
+            Some(version) => Ok(Named::Candidate(version)),
+        },
+    }
+}
+
+/// The candidate that the default files in the folder of a name, with these entries, name: `.modulerc`, or else
+/// `.version`, which isn't read where `.modulerc` names a candidate. A default file without the cookie has no effect,
+/// nor has one that names no candidate.
+///
+/// It fails as the tree does, and for want of memory.
+pub fn named_default<T: Tree, D: DefaultFiles>(
+    alloc: Global,
+    tree: &mut T,
+    default_files: &D,
+    dir: &str,
+    name: &str,
+    entries: &[String],
+) -> Result<Named, TreeFault>
+    requires { InEachPair (T.agrees tree.old) (λ files listings.
+        listings (path_of dir.now name.now) ≡ Some (map string_bytes entries.now)) }
+    ensures before { InEachPair (T.agrees tree.new) (λ files listings. T.agrees tree.old files listings) }
+    ensures answer { IfOk result (λ n. InEachPair (T.agrees tree.new) (λ files listings.
+        NamedDefault (D.leaves default_files.now) files listings dir.now name.now (named_view n))) }
+    ensures cause { HasCause (T.failures tree.old) (T.failures tree.new) result }
+    ensures failed { FailsAt is_device (T.failed tree.old) (T.failed tree.new) result (λ at.
+        InEachPair (T.agrees tree.new) (λ files listings.
+        LooksForNamed (D.leaves default_files.now) files listings dir.now name.now at)) }
+{
+    match named_by(
+        alloc,
+        tree,
+        default_files,
+        dir,
+        name,
+        entries,
+        DefaultFile::Modulerc,
+    )? {
+        Named::Nothing => named_by(
+            alloc,
+            tree,
+            default_files,
+            dir,
+            name,
+            entries,
+            DefaultFile::Version,
+        ),
+        named => Ok(named),
+    }
+}

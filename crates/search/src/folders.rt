@@ -1,0 +1,148 @@
+//! The walk through the folders below a directory of MODULEPATH that lists their modules.
+ghost use Rattle.std.specs.Prelude.{◌≡◌, ◌++◌, ◌+◌, ◌≤◌, List, map, Some, length, OnOk, IfOk, string_bytes};
+ghost use Rattle.std.specs.Option.{option_map};
+ghost use Rattle.filetree.specs.Agreement.{FailsAt, Files, Listings, InEachPair, HasCause, is_device};
+ghost use Rattle.search.specs.Listed as listed;
+ghost use Rattle.search.specs.BelowFolder.{folder_path, parts_of, names_in, IsUnder, AreFiles, AreRows, IsDefaultOf};
+ghost use Rattle.search.specs.BelowFolder.{LooksForDefault, LooksFrom};
+ghost use Rattle.search.specs.Rows.{row_view};
+
+use crate::default_files::DefaultFiles;
+use crate::defaults::{Named, named_default};
+use crate::names::{folder_path, modules_among, names_in};
+use crate::paths::path_of;
+use crate::rows::{Row, push_rows};
+use filetree::{Tree, TreeFault};
+use std::alloc::Global;
+
+/// A walk through the folders below a directory. A folder is given by its name below the directory; `None` is the
+/// directory itself.
+#[derive_where(Clone, Copy)]
+pub(crate) struct Walk<'a, D> {
+    pub(crate) alloc: Global,
+    /// What evaluates default files.
+    pub(crate) default_files: &'a D,
+    /// The directory of MODULEPATH below which the walk goes.
+    pub(crate) dir: &'a str,
+}
+
+impl<D: DefaultFiles> Walk<'_, D> {
+    /// The full name of the default that the default files of a folder, with these entries, name. Those of the
+    /// directory itself aren't read, and a fault in one is no default.
+    fn default_name<T: Tree>(
+        &self,
+        tree: &mut T,
+        front: Option<&str>,
+        entries: &[String],
+    ) -> Result<Option<String>, TreeFault>
+        requires { InEachPair (T.agrees tree.old) (λ files folders.
+            folders (folder_path self.now.dir.now (option_map (λ f. f.now) front))
+            ≡ Some (map string_bytes entries.now)) }
+        ensures before { InEachPair (T.agrees tree.new) (λ files folders. T.agrees tree.old files folders) }
+        ensures answer { IfOk result (λ default. InEachPair (T.agrees tree.new) (λ files folders.
+            IsDefaultOf (D.leaves self.now.default_files.now) files folders self.now.dir.now
+            (option_map (λ f. f.now) front.entry)
+            (option_map string_bytes default))) }
+        ensures cause { HasCause (T.failures tree.old) (T.failures tree.new) result }
+        ensures failed { FailsAt is_device (T.failed tree.old) (T.failed tree.new) result (λ at.
+            InEachPair (T.agrees tree.new) (λ files folders. LooksForDefault (D.leaves self.now.default_files.now) files folders
+            self.now.dir.now (option_map (λ f. f.now) front.entry) at)) }
+    {
+        let Some(front) = front else {
+            return Ok(None);
+        };
+        match named_default(
+            self.alloc,
+            tree,
+            self.default_files,
+            self.dir,
+            front,
+            entries,
+        )? {
+            Named::Candidate(version) => Ok(Some(path_of(self.alloc, front, &version)?)),
+            Named::Nothing => Ok(None),
+            Named::BadFile(_) => Ok(None),
+        }
+    }
+
+    /// Adds the modules that are files in a folder with these entries and these full names of them. Default files are
+    /// read only where there is a module.
+    fn list_files<T: Tree>(
+        &self,
+        tree: &mut T,
+        front: Option<&str>,
+        entries: &[String],
+        names: &[String],
+        rows: &mut Vec<Row>,
+    ) -> Result<(), TreeFault>
+        requires listed { InEachPair (T.agrees tree.old) (λ files folders.
+            folders (folder_path self.now.dir.now (option_map (λ f. f.now) front))
+            ≡ Some (map string_bytes entries.now)) }
+        requires named { map string_bytes names.now
+            ≡ names_in (option_map (λ f. f.now) front) (map string_bytes entries.now) }
+        ensures before { InEachPair (T.agrees tree.new) (λ files folders. T.agrees tree.old files folders) }
+        ensures added { OnOk result (InEachPair (T.agrees tree.new) (λ files folders. (more : List listed.Row)
+            × (map row_view rows.new.items ≡ map row_view rows.old.items ++ more)
+            × AreFiles (D.leaves self.now.default_files.now) files folders self.now.dir.now
+            (map string_bytes names.now) more)) }
+        ensures cause { HasCause (T.failures tree.old) (T.failures tree.new) result }
+        ensures failed { FailsAt is_device (T.failed tree.old) (T.failed tree.new) result (λ at.
+            InEachPair (T.agrees tree.new) (λ files folders. LooksFrom (D.leaves self.now.default_files.now) files folders
+            self.now.dir.now (option_map (λ f. f.now) front.entry) at)) }
+    {
+        let modules = modules_among(self.alloc, tree, self.dir, names)?;
+        if modules.is_empty() {
+            return Ok(());
+        }
+        let default = self.default_name(tree, front, entries)?;
+        push_rows(self.alloc, rows, &modules, as_text(&default))?;
+        Ok(())
+    }
+
+    /// Adds the modules in a folder and in the folders below it, `levels` levels of names in all. A name has four parts
+    /// at most, so the levels that are asked for have to suffice for that.
+    pub(crate) fn list_folder<T: Tree>(
+        &self,
+        tree: &mut T,
+        front: Option<&str>,
+        levels: usize,
+        rows: &mut Vec<Row>,
+    ) -> Result<(), TreeFault>
+        requires { 4 ≤ length (parts_of (option_map (λ f. f.now) front)) + levels }
+        ensures before { InEachPair (T.agrees tree.new) (λ files folders. T.agrees tree.old files folders) }
+        ensures added { OnOk result (InEachPair (T.agrees tree.new) (λ files folders. (more : List listed.Row)
+            × (map row_view rows.new.items ≡ map row_view rows.old.items ++ more)
+            × AreRows (D.leaves self.now.default_files.now) files folders self.now.dir.now
+            (IsUnder files folders self.now.dir.now (option_map (λ f. f.now) front.entry)) more)) }
+        ensures cause { HasCause (T.failures tree.old) (T.failures tree.new) result }
+        ensures failed { FailsAt is_device (T.failed tree.old) (T.failed tree.new) result (λ at.
+            InEachPair (T.agrees tree.new) (λ files folders. LooksFrom (D.leaves self.now.default_files.now) files folders
+            self.now.dir.now (option_map (λ f. f.now) front.entry) at)) }
+    {
+        if levels == 0 {
+            return Ok(());
+        }
+        let folder = folder_path(self.alloc, self.dir, front)?;
+        let Some(entries) = tree.entries(&folder)? else {
+            return Ok(());
+        };
+        let names = names_in(self.alloc, front, &entries)?;
+        self.list_files(tree, front, &entries, &names, rows)?;
+        let mut rest = names.as_slice();
+        while let [name, after @ ..] = rest {
+            self.list_folder(tree, Some(name.as_str()), levels - 1, rows)?;
+            rest = after;
+        }
+        Ok(())
+    }
+}
+
+/// The text of an optional string, borrowed.
+fn as_text(text: &Option<String>) -> Option<&str>
+    ensures { option_map (λ t. t.now) result ≡ option_map string_bytes text.now }
+{
+    match text {
+        None => None,
+        Some(text) => Some(text.as_str()),
+    }
+}

@@ -1,0 +1,85 @@
+//! The listing of all modules along a MODULEPATH, directory by directory (module(1), avail).
+ghost use Rattle.std.specs.Prelude.{◌≡◌, map, IfOk, string_bytes};
+ghost use Rattle.filetree.specs.Agreement.{FailsAt, Files, Listings, InEachPair, HasCause, is_device};
+ghost use Rattle.search.specs.Listed.{IsListing, AreListings, Listed};
+ghost use Rattle.search.specs.Looked.{LooksThrough, ListingLooksAt};
+ghost use Rattle.search.specs.Rows.{row_view};
+ghost use Rattle.search.specs.Listings.{listing_view};
+
+use crate::default_files::DefaultFiles;
+use crate::folders::Walk;
+use crate::found::directories;
+use crate::rows::{Row, drop_repeats, sort_rows};
+use filetree::{Tree, TreeFault};
+use modulename::MOST_PARTS;
+use std::alloc::Global;
+
+/// The listing of one directory of MODULEPATH.
+#[derive(Debug, Drop)]
+pub struct Listing {
+    /// The directory, as MODULEPATH spells it.
+    pub dir: String,
+    /// Its modules, each once, in version order of their full names.
+    pub modules: Vec<Row>,
+}
+
+/// The modules below a directory, each once, in version order of their full names.
+fn modules_of<T: Tree, D: DefaultFiles>(
+    alloc: Global,
+    tree: &mut T,
+    default_files: &D,
+    dir: &str,
+) -> Result<Vec<Row>, TreeFault>
+    ensures before { InEachPair (T.agrees tree.new) (λ files folders. T.agrees tree.old files folders) }
+    ensures answer { IfOk result (λ rows. InEachPair (T.agrees tree.new) (λ files folders.
+        IsListing (D.leaves default_files.now) files folders dir.now (map row_view rows.items))) }
+    ensures cause { HasCause (T.failures tree.old) (T.failures tree.new) result }
+    ensures failed { FailsAt is_device (T.failed tree.old) (T.failed tree.new) result (λ at.
+        InEachPair (T.agrees tree.new) (λ files folders.
+        LooksThrough (D.leaves default_files.now) files folders dir.now at)) }
+{
+    let walk = Walk {
+        alloc,
+        default_files,
+        dir,
+    };
+    let mut rows = Vec::new(alloc);
+    walk.list_folder(tree, None, MOST_PARTS, &mut rows)?;
+    sort_rows(&mut rows)?;
+    drop_repeats(&mut rows);
+    Ok(rows)
+}
+
+/// All modules along a MODULEPATH, a list parted by colons: for each directory, a repeated one again, the
+/// well-spelled names of one to four parts of all files below it that begin with `#%Module`, in version order of the
+/// whole name. A module is marked where a default file of its folder names it; nothing of a folder is marked where its
+/// default file has a fault.
+///
+/// It fails as the tree does, at a path that the listing looks at, and for want of memory.
+pub fn available<T: Tree, D: DefaultFiles>(
+    alloc: Global,
+    tree: &mut T,
+    default_files: &D,
+    modulepath: &str,
+) -> Result<Vec<Listing>, TreeFault>
+    ensures before { InEachPair (T.agrees tree.new) (λ files folders. T.agrees tree.old files folders) }
+    ensures listed { IfOk result (λ listings. InEachPair (T.agrees tree.new) (λ files folders.
+        Listed (D.leaves default_files.now) files folders modulepath.now (map listing_view listings.items))) }
+    ensures cause { HasCause (T.failures tree.old) (T.failures tree.new) result }
+    ensures failed { FailsAt is_device (T.failed tree.old) (T.failed tree.new) result (λ at.
+        InEachPair (T.agrees tree.new) (λ files folders.
+        ListingLooksAt (D.leaves default_files.now) files folders modulepath.now at)) }
+{
+    let dirs = directories(alloc, modulepath)?;
+    let mut listings = Vec::new(alloc);
+    let mut rest = dirs.as_slice();
+    while let [dir, after @ ..] = rest {
+        let modules = modules_of(alloc, tree, default_files, dir)?;
+        listings.push(Listing {
+            dir: String::from_str(alloc, dir)?,
+            modules,
+        })?;
+        rest = after;
+    }
+    Ok(listings)
+}

@@ -1,0 +1,86 @@
+//! Full names and paths of what stands below a directory, folder by folder.
+ghost use Rattle.std.specs.Prelude.{◌≡◌, map, filter, IfOk, string_bytes};
+ghost use Rattle.std.specs.Option.{option_map};
+ghost use Rattle.filetree.specs.Agreement.{FailsAt, Files, Listings, InEachPair, HasCause, is_device};
+ghost use Rattle.search.specs.Single.{is_single};
+ghost use Rattle.search.specs.BelowFolder.{folder_path, name_below, names_in, is_module_below, LooksAmong};
+
+use crate::paths::{is_single, path_of};
+use filetree::{Tree, TreeFault, holds_module};
+use modulename::is_module_name;
+use std::alloc::{AllocError, Global};
+
+/// The path of a folder below a directory; of the directory itself where `front` is `None`.
+pub(crate) fn folder_path(
+    alloc: Global,
+    dir: &str,
+    front: Option<&str>,
+) -> Result<String, AllocError>
+    ensures { IfOk result (λ path. string_bytes path ≡ folder_path dir.now (option_map (λ f. f.now) front.entry)) }
+{
+    match front {
+        None => String::from_str(alloc, dir),
+        Some(front) => path_of(alloc, dir, front),
+    }
+}
+
+/// The full name of an entry of a folder below a directory; of the directory itself where `front` is `None`.
+fn name_below(alloc: Global, front: Option<&str>, entry: &str) -> Result<String, AllocError>
+    ensures { IfOk result (λ name. string_bytes name ≡ name_below (option_map (λ f. f.now) front.entry) entry.now) }
+{
+    match front {
+        None => String::from_str(alloc, entry),
+        Some(front) => path_of(alloc, front, entry),
+    }
+}
+
+/// The full names of the entries of a folder; entries whose names are ill-spelled are passed over.
+pub(crate) fn names_in(
+    alloc: Global,
+    front: Option<&str>,
+    entries: &[String],
+) -> Result<Vec<String>, AllocError>
+    ensures { IfOk result (λ names.
+        map string_bytes names.items ≡ names_in (option_map (λ f. f.now) front.entry) (map string_bytes entries.now)) }
+{
+    let mut names = Vec::new(alloc);
+    let mut rest = entries;
+    while let [entry, after @ ..] = rest {
+        if is_single(entry) {
+            let name = name_below(alloc, front, entry)?;
+            if is_module_name(&name) {
+                names.push(name)?;
+            }
+        }
+        rest = after;
+    }
+    Ok(names)
+}
+
+/// Those of the names below a directory whose files begin with `#%Module`.
+///
+/// It fails as the tree does, at the path of one of the names, and for want of memory.
+pub(crate) fn modules_among<'a, T: Tree>(
+    alloc: Global,
+    tree: &mut T,
+    dir: &str,
+    names: &'a [String],
+) -> Result<Vec<&'a str>, TreeFault>
+    ensures before { InEachPair (T.agrees tree.new) (λ files folders. T.agrees tree.old files folders) }
+    ensures answer { IfOk result (λ modules. InEachPair (T.agrees tree.new) (λ files folders.
+        map (λ m. m.now) modules.items ≡ filter (is_module_below files dir.now) (map string_bytes names.entry.now))) }
+    ensures cause { HasCause (T.failures tree.old) (T.failures tree.new) result }
+    ensures failed { FailsAt is_device (T.failed tree.old) (T.failed tree.new) result
+        (LooksAmong dir.now (map string_bytes names.entry.now)) }
+{
+    let mut modules = Vec::new(alloc);
+    let mut rest = names;
+    while let [name, after @ ..] = rest {
+        let path = path_of(alloc, dir, name)?;
+        if holds_module(tree, &path)? {
+            modules.push(name.as_str())?;
+        }
+        rest = after;
+    }
+    Ok(modules)
+}

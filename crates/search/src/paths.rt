@@ -1,0 +1,33 @@
+//! Paths of names below directories, and tests of names.
+ghost use Rattle.std.specs.Prelude.{◌≡◌, map, bytes_eq, string_bytes, IfOk};
+ghost use Rattle.std.specs.List.{list_any};
+ghost use Rattle.search.specs.Single.{is_single};
+ghost use Rattle.filetree.specs.Modulefiles.{path_of};
+
+use std::alloc::{AllocError, Global};
+
+/// The path of a name below a directory: the directory, `/`, the name.
+///
+/// It fails for want of memory alone.
+pub fn path_of(alloc: Global, dir: &str, name: &str) -> Result<String, AllocError>
+    ensures { IfOk result (λ path. string_bytes path ≡ path_of dir.now name.now) }
+{
+    let mut path = String::from_str(alloc, dir)?;
+    path.push('/')?;
+    path.push_str(name)?;
+    Ok(path)
+}
+
+/// Whether this is one of the names.
+pub(crate) fn has(names: &[String], name: &str) -> bool
+    ensures { result ≡ list_any (bytes_eq name.now) (map string_bytes names.now) }
+{
+    names.iter().any(|other| name == other.as_str())
+}
+
+/// Whether a name has one part, which is to say no `/`.
+pub fn is_single(name: &str) -> bool
+    ensures { result ≡ is_single name.now }
+{
+    !name.as_bytes().contains(&b'/')
+}

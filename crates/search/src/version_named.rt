@@ -1,0 +1,102 @@
+//! The version that a default file names, by the result of its evaluation (modulefile(5)).
+ghost use Rattle.std.specs.Prelude.{◌≡◌, ◌++◌, ◌∷◌, [], map, option_map, string_bytes};
+ghost use Rattle.search.specs.DefaultFiles.{after_front, version_in, default_by, last_default};
+ghost use Rattle.search.specs.Ended.{ended_view};
+ghost use Rattle.search.specs.VersionsNamed.{file_name, says};
+
+use crate::default_files::Ended;
+use crate::paths::has;
+
+/// The two default files of a folder.
+#[derive(Clone, Copy)]
+pub(crate) enum DefaultFile {
+    /// `.modulerc`, which names a version by the command `module-version`.
+    Modulerc,
+    /// `.version`, which names a version by the global variable `ModulesVersion`.
+    Version,
+}
+
+impl DefaultFile {
+    /// The name of the file in its folder.
+    pub(crate) fn file_name(self) -> &'static str
+        ensures { result.now ≡ file_name self }
+    {
+        match self {
+            DefaultFile::Modulerc => ".modulerc",
+            DefaultFile::Version => ".version",
+        }
+    }
+
+    /// The version in the folder of a name that the file names, by the result of its evaluation, if it names one.
+    pub(crate) fn said<'a>(self, name: &str, ended: &'a Ended) -> Option<&'a str>
+        ensures { option_map (λ v. v.now) result ≡ says self name.now (ended_view ended.entry.now) }
+    {
+        match self {
+            DefaultFile::Modulerc => last_default(name, &ended.commands),
+            DefaultFile::Version => match &ended.version {
+                None => None,
+                Some(version) => Some(version.as_str()),
+            },
+        }
+    }
+}
+
+/// The rest of a text after this prefix; `None` where the text doesn't begin with it.
+fn after_front<'a>(front: &str, text: &'a str) -> Option<&'a str>
+    ensures { option_map (λ v. v.now) result ≡ after_front front.now text.entry.now }
+{
+    text.strip_prefix(front)
+}
+
+/// The rest of a text after `name/`; `None` where it doesn't begin so.
+fn below_name<'a>(name: &str, spelled: &'a str) -> Option<&'a str>
+    ensures { option_map (λ v. v.now) result ≡ after_front (name.now ++ 47 ∷ []) spelled.entry.now }
+{
+    match after_front(name, spelled) {
+        None => None,
+        Some(rest) => after_front("/", rest),
+    }
+}
+
+/// The version V in the folder of a name that is spelled `name/V`, `/V` or `./V`.
+fn version_in<'a>(name: &str, spelled: &'a str) -> Option<&'a str>
+    ensures { option_map (λ v. v.now) result ≡ version_in name.now spelled.entry.now }
+{
+    if let Some(version) = below_name(name, spelled) {
+        return Some(version);
+    }
+    if let Some(version) = after_front("/", spelled) {
+        return Some(version);
+    }
+    after_front("./", spelled)
+}
+
+/// The version that one `module-version` command makes the default of the folder of a name, if it makes one. Other
+/// symbolic versions than `default` have no effect.
+fn default_by<'a>(name: &str, words: &'a [String]) -> Option<&'a str>
+    ensures { option_map (λ v. v.now) result ≡ default_by name.now (map string_bytes words.entry.now) }
+{
+    let [_command, spelled, rest @ ..] = words else {
+        return None;
+    };
+    if !has(rest, "default") {
+        return None;
+    }
+    version_in(name, spelled)
+}
+
+/// The version that `module-version` commands make the default of the folder of a name: the last that makes one counts.
+fn last_default<'a>(name: &str, commands: &'a [Vec<String>]) -> Option<&'a str>
+    ensures { option_map (λ v. v.now) result
+        ≡ last_default name.now (map (λ words. map string_bytes words.items) commands.entry.now) }
+{
+    let mut last = None;
+    let mut rest = commands;
+    while let [words, after @ ..] = rest {
+        if let Some(version) = default_by(name, words) {
+            last = Some(version);
+        }
+        rest = after;
+    }
+    last
+}
