@@ -1,4 +1,7 @@
-//! What requests make of an environment, over a tree of modulefiles (module(1)).
+//! Requests run over an environment, one alone or one after another: `run`, `run_changes`, `session` (module(1)).
+//! Takes memory; reads files and folders through the `Tree` that it is given, and changes an `Env` only where it owns
+//! it.
+//! Used by sessioncheck, rehearsal and modulecmd.
 #![tactic(auto)]
 
 mod asking;

@@ -1,4 +1,4 @@
--- The numbers of refusals, and what each says: the text of its layer's fault, or its own.
+-- The number and the text of each refusal (own): those of its layer's fault, or its own.
 use Rattle.std.specs.Prelude.{ℕ, ◌≡◌, ◌==◌, true, List, [], ◌∷◌, codes, string_bytes}
 use Rattle.std.specs.List.{list_any}
 use Rattle.environment.specs.Reasons as edits
@@ -55,7 +55,7 @@ memory_numbers (avail texts) = 31 ∷ 41 ∷ []
 memory_numbers (show names) = 11 ∷ 31 ∷ 41 ∷ []
 memory_numbers (whatis names) = 11 ∷ 31 ∷ 41 ∷ []
 
--- want of memory, where the refusal is that, has one of these numbers
+-- where the refusal is want of memory, its number is one of these
 abbrev pub WantsAmong : List ℕ → Refusal → Type 0
 WantsAmong numbers refusal = list_any (λ n. n == memory_number refusal) numbers ≡ true
 
@@ -63,6 +63,7 @@ WantsAmong numbers refusal = list_any (λ n. n == memory_number refusal) numbers
 abbrev pub number_of : Refusal → ℕ
 number_of refusal = number_by (memory_number refusal) (cause_of refusal)
 
+-- the text of each refusal
 abbrev pub message_of : Refusal → Text
 message_of refusals.OutOfMemory = codes "Out of memory"
 message_of (refusals.Run fault) = runs.message_of fault

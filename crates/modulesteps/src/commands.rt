@@ -1,4 +1,4 @@
-//! Whole requests.
+//! The subcommands, each over all its names: `load`, `unload`, `switch`, `purge`, `list`, `avail`, `show`, `whatis`.
 ghost use Rattle.std.specs.Prelude.{◌≡◌, ◌<◌, ◌≤◌, [], ◌∷◌, Some, IfOk, IfErr, map, reverse, string_bytes};
 ghost use Rattle.std.specs.Option.{option_map};
 ghost use Rattle.environment.specs.Environment.{Environment};
@@ -37,15 +37,18 @@ use requests::{Action, Request};
 use std::alloc::{AllocError, Global};
 use tclrules::Limits;
 
-/// What is done for each name.
+/// What a subcommand does for each of its names.
 #[derive(Clone, Copy)]
 pub(crate) enum Doing {
+    /// The module that the name means is loaded.
     Load,
+    /// The last loaded module that the name means is unloaded.
     Unload,
+    /// A report on the module that the name means is made.
     Report(Topic),
 }
 
-/// Does it for a name.
+/// Does this for one name: loads, unloads or reports on the module that it means.
 fn do_name<T: Tree, V: Vars>(
     alloc: Global,
     terms: Terms,
@@ -78,7 +81,7 @@ fn do_name<T: Tree, V: Vars>(
     }
 }
 
-/// Does it for each name in turn.
+/// Does this for each name in turn, until one is refused.
 fn do_each<T: Tree, V: Vars>(
     alloc: Global,
     terms: Terms,
@@ -108,7 +111,7 @@ fn do_each<T: Tree, V: Vars>(
     Ok(())
 }
 
-/// Refuses where a module that was loaded before has lost what it needs.
+/// Refuses (53) where a module that was loaded before has lost what it needs.
 fn end<V: Vars>(alloc: Global, before: &[Loaded], env: &V, done: &Done) -> Result<(), Refusal>
     ensures { GivesOrRefuses (λ u. done_view done.now (V.vars env.now)) result
         (EndsRequest (map entry_of before.now) (done_view done.now (V.vars env.now))) }
@@ -120,7 +123,7 @@ fn end<V: Vars>(alloc: Global, before: &[Loaded], env: &V, done: &Done) -> Resul
     }
 }
 
-/// Does it for each name, and ends the command.
+/// Does this for each name in turn, and then judges what loaded modules need (53).
 fn change_each<T: Tree, V: Vars>(
     alloc: Global,
     terms: Terms,
@@ -147,7 +150,7 @@ fn change_each<T: Tree, V: Vars>(
     Ok(done)
 }
 
-/// Loads or unloads each of at least one name.
+/// Loads or unloads for each of at least one name (else 56).
 fn change_names<T: Tree, V: Vars>(
     alloc: Global,
     terms: Terms,
@@ -213,7 +216,7 @@ fn purge<T: Tree, V: Vars>(
     )
 }
 
-/// The first part of a name.
+/// The first part of a name, as `gcc` of `gcc/9`.
 fn first_part(name: &str) -> &str
     ensures { result.now ≡ steps.first_part (parts name.entry.now) }
 {
@@ -223,7 +226,7 @@ fn first_part(name: &str) -> &str
     }
 }
 
-/// Without an old name it is the first part of the new one.
+/// The name of the module that a switch unloads: without an old name it is the first part of the new one.
 fn old_name<'a>(old: Option<&'a str>, new: &'a str) -> &'a str
     ensures { result.now ≡ steps.old_name (option_map (λ x. x.now) old.entry) new.entry.now }
 {
@@ -296,7 +299,7 @@ fn switch<T: Tree, V: Vars>(
     Ok(done)
 }
 
-/// Reports on each of at least one name.
+/// Reports on the module of each of at least one name (else 56).
 fn report_names<T: Tree, V: Vars>(
     alloc: Global,
     terms: Terms,
@@ -334,7 +337,7 @@ fn report_names<T: Tree, V: Vars>(
     Ok(done)
 }
 
-/// What a request has done that only reports.
+/// What a request has done that makes no move and reports this text.
 fn reporting(alloc: Global, text: &str) -> Result<Done, AllocError>
     ensures { IfOk result (λ done. (e : Environment) → done_view done e ≡ steps.reported (begun e) [] text.now) }
 {
@@ -354,7 +357,7 @@ fn list<V: Vars>(alloc: Global, env: &V) -> Result<Done, Refusal>
     Ok(reporting(alloc, text.as_str())?)
 }
 
-/// Reports the modules along MODULEPATH.
+/// Reports the modules along MODULEPATH whose names begin with one of the texts; without texts, all.
 fn avail<T: Tree, V: Vars>(
     alloc: Global,
     terms: Terms,
@@ -380,10 +383,13 @@ fn avail<T: Tree, V: Vars>(
     Ok(reporting(alloc, text.as_str())?)
 }
 
-/// Makes of the variables what the request makes of them, over a tree of modulefiles, and answers what it did besides.
+/// Does a request: makes of the variables what its step over a tree of modulefiles makes of them, and answers what it
+/// did besides. The loaded modules are read first (35); then the names are gone through in turn, and after them what
+/// loaded modules need is judged once more (53).
 ///
 /// It is refused as the request's step over the tree is, for want of memory, or by 43 where the device failed in this
-/// call, at a path that the request looks at. Then the variables may be anything: hand in a copy to keep them.
+/// call, at a path that the request looks at. The variables may then hold anything, so a caller who needs the old ones
+/// hands in a copy.
 pub fn step<T: Tree, V: Vars>(
     alloc: Global,
     request: &Request,

@@ -1,10 +1,10 @@
--- What a command line asks for (module(1)).
+-- What a command line asks for (module(1), Sub-commands).
 use Rattle.std.specs.Prelude.{Bool, ◌||◌, List, [], ◌∷◌, codes, if◌then◌else◌, bytes_eq, Option, Some, None, Result, Ok, Err}
 use Rattle.environment.specs.Texts.{Text}
 use Rattle.shells.specs.declared.shell.Shell.{Shell}
 use Rattle.requests.specs.Reasons.{RequestReason, bad_arguments, unknown_subcommand}
 
--- each with names, or texts, as they were typed
+-- What is asked for: with the names of modules, or the texts, as they were typed.
 pub data Asked : Type 0 where
   load : (names : List Text) → Asked
   unload : (names : List Text) → Asked
