@@ -1,5 +1,5 @@
 //! A whole command: the words of a command line in, the text for a shell and the messages out (module(1)).
-//! Takes memory; reads files and folders through the `Tree`, the input of a check, and writes to the two writers.
+//! Takes memory; reads the files and folders (`Tree`) and the input, and writes to the writers, that it is given.
 //! Used by the programs modulecmd_main and modcheck, and by every caller of the library.
 #![tactic(auto)]
 

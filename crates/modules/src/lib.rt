@@ -1,6 +1,5 @@
 //! Requests run over an environment, one alone or one after another: `run`, `run_changes`, `session` (module(1)).
-//! Takes memory; reads files and folders through the `Tree` that it is given, and changes an `Env` only where it owns
-//! it.
+//! Takes memory; changes the `Env` and reads the files and folders (`Tree`) that it is given.
 //! Used by sessioncheck, rehearsal and modulecmd.
 #![tactic(auto)]
 

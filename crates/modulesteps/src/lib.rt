@@ -1,6 +1,5 @@
-//! The step of a request: what one request makes of the variables of an environment, or why it is refused (module(1)).
-//! Takes memory and touches the variables that it is given; reads files and folders through the `Tree` that it is
-//! given.
+//! The step of a request: what it makes of the variables of an environment, or why it is refused (module(1)).
+//! Takes memory; changes the variables and reads the files and folders (`Tree`) that it is given.
 //! Used by modules, rehearsal, sessioncheck and modulecmd.
 #![tactic(auto)]
 

@@ -1,5 +1,5 @@
 //! What a list of requests would print, and what shells that run these texts hold in the end (own).
-//! Takes memory; reads files and folders through the `Tree` that it is given.
+//! Takes memory; changes the `Env` and reads the files and folders (`Tree`) that it is given.
 //! Used by modulecmd.
 #![tactic(auto)]
 

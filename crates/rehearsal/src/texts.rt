@@ -1,4 +1,4 @@
-//! Rehearses requests: runs them one after another, and keeps the text that each prints.
+//! Rehearses requests: runs them one after another, and collects the text that each prints.
 ghost use Rattle.std.specs.Prelude.{◌≡◌, map, IfOk, IfErr};
 ghost use Rattle.filetree.specs.Agreement.{Narrows, InEachPair};
 ghost use Rattle.shells.specs.declared.shell.Shell.{Shell};
@@ -40,9 +40,9 @@ fn print_request<T: Tree>(
     }
 }
 
-/// Runs requests one after another over an environment and a tree of modulefiles, as a session, and answers the
-/// environment that results, with the text that each accepted request prints for its shell. A refused one has no text
-/// and changes nothing; so has one whose changes have no text in its shell (62).
+/// Runs requests one after another over an environment and a tree of modulefiles, as a session, and answers what they
+/// result in: the environment at the end, with the text that each accepted request prints for its shell. A refused one
+/// has no text and changes nothing; so has one whose changes have no text in its shell (62).
 ///
 /// For every pair of maps that agrees with the tree it is a rehearsal. No more requests are without a text because the
 /// device failed than it failed. So shells that ran the texts so far hold the environment that the session has there.

@@ -1,5 +1,4 @@
-//! What a request is and what it makes of an environment (module(1)): definitions, their laws, and the parsing of
-//! words.
+//! What a request is and what it makes of an environment (module(1)): definitions, laws, and the parsing of words.
 //! Takes memory for the words of a request and touches nothing else.
 //! Used by reports, requeststep, modules, sessioncheck, rehearsal and modulecmd.
 #![tactic(auto)]
