@@ -49,7 +49,7 @@ checked exit agrees before now e arguments input input' out out' err err' a is h
         string_bytes a.text,
         is.says,
         subst Whether is.accepted (tells_so exit a.is_accepted),
-        subst (λ x. Writes x (report_of is.found)) (sym (writes_so exit a.is_accepted)) (subst (λ report. Writes exit report) is.told h),
+        subst (λ x. Writes x (report_of is.found)) (sym (writes_so exit a.is_accepted)) (subst (λ report. Writes exit report) is.report h),
       ),
     )
 

@@ -14,12 +14,12 @@ use Rattle.reversal.specs.Runs.{live_after, AreFit}
 use Rattle.relations.specs.Relations.{After}
 use Rattle.requests.specs.Laws.{CommandsReturn, OneOutcome}
 use Rattle.requests.specs.Reasons.{RequestReason}
-use Rattle.requests.specs.Requests.{Asked, Request}
+use Rattle.requests.specs.Requests.{RequestedAction, Request}
 use Rattle.requests.specs.Steps.{Site, Done, RequestStep}
 use Rattle.filetree.specs.Causes.{Cause, memory, device, because, Applies}
 use Rattle.modulesteps.specs.Answers.{cause_of}
 use Rattle.modulesteps.specs.Messages.{memory_number, number_by}
-use Rattle.modules.specs.Replies.{site_in, left_by, changed_view}
+use Rattle.modules.specs.Replies.{site_in, changed_env, changed_view}
 use Rattle.modulecmd.specs.declared.refuse.CommandFault.{CommandFault}
 use Rattle.modulecmd.specs.declared.refuse.CommandFault.TheVariants.{Refused, Unprinted, UnknownShell, WriteFailed}
 use Rattle.modulecmd.specs.Command as command
@@ -80,7 +80,7 @@ does_once one arguments e files listings o p (x, made, a) (y, made', b) =
     made_once e files listings (command_of arguments) o p one (subst (λ z. After-of z o) made a) (subst (λ z. After-of z p) made' b)
 
 -- the text of a step leads back as the step does
-pub leads_back : CommandsReturn → OneEffect → DifferenceMakes → (s : Site) (e : Environment) (asked : Asked) (f : Effect) (text : Text)
+pub leads_back : CommandsReturn → OneEffect → DifferenceMakes → (s : Site) (e : Environment) (asked : RequestedAction) (f : Effect) (text : Text)
     → RequestStep s e asked (Ok f.1) → SaysDifference f.0 text e f.1.env → LeadsBack e f text
 leads_back returns one makes s e asked f text step says =
     λ ways start new live is_start in_order stands fit is_new fitting made.
@@ -98,11 +98,11 @@ unprinted shell ss (prints.NotSayable name) Is Lacks failed lacks h = lacks (str
 pub answers : CommandsReturn → OneEffect → DifferenceMakes → (agrees : Files → Listings → Type 0) (arguments : List Text) (e : Environment) (r : Request) (a : Answer)
     → command_of arguments ≡ Ok r → a.shell ≡ r.0
     → InEachPair agrees (λ files listings. RequestStep (site_in standard r.0 files listings) e r.1 (Ok (changed_view e a.changed)))
-    → AreChanges e (left_by e a.changed) (new_values_in a.changed.changes) → IsText r.0 (string_bytes a.text) (new_values_in a.changed.changes)
+    → AreChanges e (changed_env e a.changed) (new_values_in a.changed.changes) → IsText r.0 (string_bytes a.text) (new_values_in a.changed.changes)
     → IsAnswer agrees e (CommandDoes arguments e) (effect_in e a) (string_bytes a.text)
 answers returns one makes agrees arguments e r a made shell step exact says =
     let Read : Shell → Type 0 = λ s. IsText s (string_bytes a.text) (new_values_in a.changed.changes) in
-    let difference : SaysDifference a.shell (string_bytes a.text) e (left_by e a.changed) = record { changes = new_values_in a.changed.changes; exact = exact; says = subst Read (sym shell) says } in
+    let difference : SaysDifference a.shell (string_bytes a.text) e (changed_env e a.changed) = record { changes = new_values_in a.changed.changes; exact = exact; says = subst Read (sym shell) says } in
     let Came : Shell → Files → Listings → Type 0 = λ s files listings. CommandDoes arguments e files listings (Ok (s, changed_view e a.changed)) in (
       λ files listings agreed. subst (λ s. Came s files listings) (sym shell) (does arguments e files listings r (Ok (changed_view e a.changed)) made (step files listings agreed)),
       difference,

@@ -22,7 +22,7 @@ pub record IsCheckAnswer (agrees : Files → Listings → Type 0) (before now : 
   pub found : Findings
   pub checks : ChecksInput agrees before now e arguments input input' shell found
   pub says : SaysDifference shell (string_bytes answer.text) e found.env
-  pub told : string_bytes answer.report ≡ report_of found
+  pub report : string_bytes answer.report ≡ report_of found
   pub accepted : answer.is_accepted ≡ all_accepted found
 
 -- how a check ended whose texts are written

@@ -12,7 +12,7 @@ use Rattle.shelltext.specs.Printing.{IsUnsayable, print_fault_number}
 use Rattle.tclrules.specs.declared.limits.Limits.{Limits}
 use Rattle.requests.specs.Reasons as requests
 use Rattle.requests.specs.Reasons.{RequestReason, bad_arguments}
-use Rattle.requests.specs.Requests.{Asked, Request, request_of}
+use Rattle.requests.specs.Requests.{RequestedAction, Request, request_of}
 use Rattle.requests.specs.Steps.{Done, RequestStep}
 use Rattle.filetree.specs.Causes.{Applies}
 use Rattle.modulesteps.specs.Answers.{cause_of}
@@ -33,7 +33,7 @@ pub data CommandReason : Type 0 where
   because : (reason : RequestReason) → CommandReason
 
 -- the request for this shell, or the reason why the words make none
-abbrev pub for_shell : Shell → Result Asked RequestReason → Result Request CommandReason
+abbrev pub for_shell : Shell → Result RequestedAction RequestReason → Result Request CommandReason
 for_shell shell (Ok asked) = Ok (shell, asked)
 for_shell shell (Err reason) = Err (because reason)
 

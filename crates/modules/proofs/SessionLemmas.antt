@@ -5,8 +5,8 @@ use Rattle.environment.specs.Environment.{Environment}
 use Rattle.requests.specs.Laws.{SessionsReturn, StepsAreMade}
 use Rattle.requests.specs.Reasons.{RequestReason}
 use Rattle.requests.specs.RequestViews.{request_view}
-use Rattle.requests.specs.Requests.{Asked, Request}
-use Rattle.requests.specs.declared.asked.Request as code
+use Rattle.requests.specs.Requests.{RequestedAction, Request}
+use Rattle.requests.specs.declared.action.Request as code
 use Rattle.requests.specs.Returning.{AreNew, AreFitting}
 use Rattle.requests.specs.Sessions as sessions
 use Rattle.requests.specs.Sessions.{Response, Session, IsResponse, env_after, in_shell, is_cause, session_moves}
@@ -34,7 +34,7 @@ responses_push e [] o = refl
 responses_push e (p ∷ os) o = ap (λ rs. response_of e p ∷ rs) (responses_push (env_after e (response_of e p)) os o)
 
 -- the moves of an accepted step lead to the environment that it leaves
-pub made_led : StepsAreMade → (s : Site) (e new : Environment) (asked : Asked) (done : Done) → RequestStep s e asked (Ok (done_view done new)) → new ≡ led_to e done
+pub made_led : StepsAreMade → (s : Site) (e new : Environment) (asked : RequestedAction) (done : Done) → RequestStep s e asked (Ok (done_view done new)) → new ≡ led_to e done
 made_led law s e new asked done step = sym (ap (accepted_in e) (law s e asked (done_view done new) step))
 
 plus_assoc : (a b c : ℕ) → a + (b + c) ≡ (a + b) + c
@@ -76,7 +76,7 @@ pub refused_counts : (before after : ℕ) (refusal : Refusal) (Is : RequestReaso
     → before + count_failed (Refused refusal ∷ []) ≤ after
 refused_counts before after refusal Is later h = cause_counts (cause_of refusal) before after Is later h
 
-pub responds : StepsAreMade → (s : Site) (e new : Environment) (asked : Asked) (done : Done) → RequestStep s e asked (Ok (done_view done new)) → IsResponse s e asked (response_of e (Accepted done))
+pub responds : StepsAreMade → (s : Site) (e new : Environment) (asked : RequestedAction) (done : Done) → RequestStep s e asked (Ok (done_view done new)) → IsResponse s e asked (response_of e (Accepted done))
 responds law s e new asked done step =
     let P : Environment → Type 0 = λ x. RequestStep s e asked (Ok (done_view done x)) in
     subst P (made_led law s e new asked done step) step
@@ -85,14 +85,14 @@ responds law s e new asked done step =
 pub memory_is_cause : (refusal : Refusal) → is_cause (memory_number refusal) ≡ true
 memory_is_cause refusal = of_three refusal (λ n. is_cause n ≡ true) refl refl refl
 
-cause_responds : (wanting : ℕ) → is_cause wanting ≡ true → (c : Cause RequestReason) (agrees : Files → Listings → Type 0) (failed : Type 0) (site : Files → Listings → Site) (e : Environment) (asked : Asked)
+cause_responds : (wanting : ℕ) → is_cause wanting ≡ true → (c : Cause RequestReason) (agrees : Files → Listings → Type 0) (failed : Type 0) (site : Files → Listings → Site) (e : Environment) (asked : RequestedAction)
     → Applies c failed (λ r. InEachPair agrees (λ files listings. RequestStep (site files listings) e asked (Err r)))
     → InEachPair agrees (λ files listings. IsResponse (site files listings) e asked (by_cause (number_by wanting c) c))
 cause_responds wanting is memory agrees failed site e asked h = λ files listings agreed. is
 cause_responds wanting is device agrees failed site e asked h = λ files listings agreed. refl
 cause_responds wanting is (because r) agrees failed site e asked h = h
 
-pub refused_responds : (refusal : Refusal) (agrees : Files → Listings → Type 0) (failed : Type 0) (site : Files → Listings → Site) (e : Environment) (asked : Asked)
+pub refused_responds : (refusal : Refusal) (agrees : Files → Listings → Type 0) (failed : Type 0) (site : Files → Listings → Site) (e : Environment) (asked : RequestedAction)
     → Applies (cause_of refusal) failed (λ r. InEachPair agrees (λ files listings. RequestStep (site files listings) e asked (Err r)))
     → InEachPair agrees (λ files listings. IsResponse (site files listings) e asked (response_of e (Refused refusal)))
 refused_responds refusal agrees failed site e asked h = cause_responds (memory_number refusal) (memory_is_cause refusal) (cause_of refusal) agrees failed site e asked h

@@ -16,14 +16,14 @@ abbrev pub site_in : Limits → Shell → Files → Listings → Site
 site_in limits shell files listings = record { files = files; listings = listings; limits = limits; shell = shell }
 
 -- the environment with these changes made in it
-abbrev pub left_by : Environment → Changed → Environment
-left_by e changed = applied (new_values_in changed.changes) e
+abbrev pub changed_env : Environment → Changed → Environment
+changed_env e changed = applied (new_values_in changed.changes) e
 
 -- what was done, with the environment that its changes make
 abbrev pub changed_view : Environment → Changed → Done
 changed_view e changed =
     record {
-      env = left_by e changed;
+      env = changed_env e changed;
       moves = moves_of changed.moves;
       messages = texts_in changed.messages;
       report = string_bytes changed.report;

@@ -17,7 +17,7 @@ use std::alloc::Global;
 /// names don't fit it: `load`, `unload`, `show` and `whatis` take at least one, `switch` one or two, `purge` and `list`
 /// none; `OutOfMemory` (31), memory ran out.
 pub fn request(alloc: Global, shell: Shell, words: &[String]) -> Result<Request, Refusal>
-    ensures asked { GivesOrRefuses (λ request. asked_view request.action) result
+    ensures action { GivesOrRefuses (λ request. asked_view request.action) result
         (Is (request_of (map string_bytes words.now))) }
     ensures shell { IfOk result (λ request. request.shell ≡ shell) }
 {

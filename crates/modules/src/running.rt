@@ -7,7 +7,7 @@ ghost use Rattle.requests.specs.Steps.{RequestStep};
 ghost use Rattle.requests.specs.Looked.{RequestLooksAt};
 ghost use Rattle.modulesteps.specs.Answers.{Tells, is_failure};
 ghost use Rattle.modulesteps.specs.Messages.{WantsAmong, memory_numbers};
-ghost use Rattle.modules.specs.Replies.{left_by, changed_view, reply_view, site_in};
+ghost use Rattle.modules.specs.Replies.{changed_env, changed_view, reply_view, site_in};
 
 use crate::reply::{Changed, Reply};
 use environment::{Env, Vars, Working};
@@ -37,7 +37,7 @@ pub fn run_changes<T: Tree>(
         (asked_view request.now.action)) }
     ensures wanting { IfErr result (WantsAmong (memory_numbers (asked_view request.now.action))) }
     ensures exact { IfOk result (λ changed.
-        AreChanges env.now (left_by env.now changed) (new_values_in changed.changes)) }
+        AreChanges env.now (changed_env env.now changed) (new_values_in changed.changes)) }
     ensures failed { FailsAt is_failure (T.failed tree.old) (T.failed tree.new) result (λ at.
         InEachPair (T.agrees tree.new) (λ files listings.
         RequestLooksAt (site_in limits request.now.shell files listings) env.now

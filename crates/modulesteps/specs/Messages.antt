@@ -10,7 +10,7 @@ use Rattle.modulerun.specs.Messages as runs
 use Rattle.modulerun.specs.declared.run_fault.RunFault.{RunFault}
 use Rattle.modulerun.specs.declared.run_fault.RunFault.TheVariants as faults
 use Rattle.requests.specs.Reasons.{RequestReason, reason_number}
-use Rattle.requests.specs.Requests.{Asked, load, unload, switch, purge, list, avail, show, whatis}
+use Rattle.requests.specs.Requests.{RequestedAction, load, unload, switch, purge, list, avail, show, whatis}
 use Rattle.modulesteps.specs.Answers.{cause_of}
 use Rattle.modulesteps.specs.Spaced.{spaced}
 use Rattle.modulesteps.specs.declared.refusal.Refusal.{Refusal}
@@ -45,7 +45,7 @@ memory_number (refusals.NotAModulefile path) = 31
 
 -- The numbers that want of memory can have in a request: 31 in each; 41 where files are searched for or read; 11 where
 -- they are evaluated.
-abbrev pub memory_numbers : Asked → List ℕ
+abbrev pub memory_numbers : RequestedAction → List ℕ
 memory_numbers (load names) = 11 ∷ 31 ∷ 41 ∷ []
 memory_numbers (unload names) = 11 ∷ 31 ∷ 41 ∷ []
 memory_numbers (switch old new) = 11 ∷ 31 ∷ 41 ∷ []

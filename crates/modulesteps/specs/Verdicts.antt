@@ -22,7 +22,7 @@ in_sh limits files listings = record { files = files; listings = listings; limit
 -- the verdict
 abbrev pub verdict_view : Verdict → verdicts.Verdict
 verdict_view Plain = verdicts.plain
-verdict_view Asked = verdicts.asking
+verdict_view Asked = verdicts.asks
 verdict_view OneWay = verdicts.one_way
 
 -- The name means a module whose file makes the same records in every context, or is refused there, and unloading undoes

@@ -10,7 +10,7 @@ ghost use Rattle.filetree.specs.Agreement.{FailsAt, InEachPair, Narrows};
 ghost use Rattle.defaultfiles.specs.Leaves.{Leaves};
 ghost use Rattle.modulesearch.specs.Looked.{ListingLooksAt};
 ghost use Rattle.modulename.specs.ModuleName.{parts};
-ghost use Rattle.requests.specs.Requests as asked;
+ghost use Rattle.requests.specs.Requests as actions;
 ghost use Rattle.requests.specs.RequestViews.{asked_view};
 ghost use Rattle.requests.specs.Steps as steps;
 ghost use Rattle.requests.specs.Steps.{begun, Each, EndsRequest, Named, Changes, ShowsNames, ListsLoaded, ListsAll, RequestStep};
@@ -198,7 +198,7 @@ fn purge<T: Tree, V: Vars>(
     ensures under { V.under env.new ≡ V.under env.old }
     ensures told { Tells (T.agrees tree.new) (T.failures tree.old < T.failures tree.new)
         (λ done. done_view done (V.vars env.new)) result
-        (λ files listings. RequestStep (site_of terms files listings) (V.vars env.old) asked.purge) }
+        (λ files listings. RequestStep (site_of terms files listings) (V.vars env.old) actions.purge) }
     ensures failed { FailsAt is_failure (T.failed tree.old) (T.failed tree.new) result (λ at.
         InEachPair (T.agrees tree.new) (λ files listings.
         PurgeLooksAt (site_of terms files listings) (V.vars env.old) at)) }
@@ -286,7 +286,7 @@ fn switch<T: Tree, V: Vars>(
     ensures told { Tells (T.agrees tree.new) (T.failures tree.old < T.failures tree.new)
         (λ done. done_view done (V.vars env.new)) result
         (λ files listings. RequestStep (site_of terms files listings) (V.vars env.old)
-        (asked.switch (option_map (λ x. x.now) old.entry) new.now)) }
+        (actions.switch (option_map (λ x. x.now) old.entry) new.now)) }
     ensures failed { FailsAt is_failure (T.failed tree.old) (T.failed tree.new) result (λ at.
         InEachPair (T.agrees tree.new) (λ files listings.
         SwitchLooksAt (site_of terms files listings) (steps.old_name (option_map (λ x. x.now) old.entry) new.now)

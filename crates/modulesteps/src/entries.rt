@@ -58,12 +58,12 @@ pub(crate) fn names_of(alloc: Global, entries: &[Loaded]) -> Result<Vec<String>,
 fn push_conflicts<'a>(
     alloc: Global,
     all: &mut Vec<&'a str>,
-    kept: &'a Record,
+    recorded: &'a Record,
 ) -> Result<(), AllocError>
     ensures { OnOk result (shown all.new.items
-        ≡ shown all.old.items ++ conflict_names (record_view kept.entry.now ∷ [])) }
+        ≡ shown all.old.items ++ conflict_names (record_view recorded.entry.now ∷ [])) }
 {
-    if let Record::Conflict(names) = kept {
+    if let Record::Conflict(names) = recorded {
         let mut names = slices(alloc, names.as_slice())?;
         all.append(&mut names)?;
     }
@@ -90,11 +90,15 @@ fn copy_names(alloc: Global, names: &[String]) -> Result<Vec<String>, AllocError
 }
 
 /// Adds the alternatives of a `prereq`; other records have none.
-fn push_group(alloc: Global, groups: &mut Vec<Vec<String>>, kept: &Record) -> Result<(), AllocError>
+fn push_group(
+    alloc: Global,
+    groups: &mut Vec<Vec<String>>,
+    recorded: &Record,
+) -> Result<(), AllocError>
     ensures { OnOk result (map texts_in groups.new.items
-        ≡ map texts_in groups.old.items ++ prereq_groups (record_view kept.now ∷ [])) }
+        ≡ map texts_in groups.old.items ++ prereq_groups (record_view recorded.now ∷ [])) }
 {
-    if let Record::Prereq(names) = kept {
+    if let Record::Prereq(names) = recorded {
         groups.push(copy_names(alloc, names.as_slice())?)?;
     }
     Ok(())

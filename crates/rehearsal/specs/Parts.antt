@@ -18,7 +18,7 @@ use Rattle.rehearsal.specs.Rehearsals.{IsPrint, one_failed}
 pub record Came (agrees : Files → Listings → Type 0) (limits : Limits) (r : Request) (old new : Environment)
     (print : Option Text) (before after : ℕ) : Type 0 where
   pub response : Response
-  pub told : InEachPair agrees (λ files listings. IsResponse (site_in limits r.0 files listings) old r.1 response)
+  pub answers : InEachPair agrees (λ files listings. IsResponse (site_in limits r.0 files listings) old r.1 response)
   pub printed : InEachPair agrees (λ files listings. (shell : Shell)
       → IsPrint (site_in limits shell files listings) old r response print)
   pub left : new ≡ env_after old response

@@ -11,7 +11,7 @@ use Rattle.reversal.specs.Runs.{live_after, AreFit}
 use Rattle.reversal.specs.Requests as moves
 use Rattle.reversal.specs.Laws.{Holds}
 use Rattle.requests.specs.Reasons.{RequestReason}
-use Rattle.requests.specs.Requests.{Asked, Request, load, unload, switch, purge, list, avail, show, whatis}
+use Rattle.requests.specs.Requests.{RequestedAction, Request, load, unload, switch, purge, list, avail, show, whatis}
 use Rattle.requests.specs.Steps.{Site, Done, RequestStep}
 use Rattle.requests.specs.Sessions.{Response, Session, left_by, outcome_of, session_moves, is_told}
 use Rattle.requests.specs.Returning.{AreNew, AreFitting}
@@ -20,11 +20,11 @@ use Rattle.requests.specs.PlainRuns.{ArePlain}
 -- A request has one outcome at most.
 abbrev pub OneOutcome : Type 0
 OneOutcome =
-    (s : Site) (e : Environment) (asked : Asked) (o p : Result Done RequestReason)
-    → RequestStep s e asked o → RequestStep s e asked p → o ≡ p
+    (s : Site) (e : Environment) (action : RequestedAction) (o p : Result Done RequestReason)
+    → RequestStep s e action o → RequestStep s e action p → o ≡ p
 
 -- a request other than `avail`
-abbrev pub IsNotAvail : Asked → Type 0
+abbrev pub IsNotAvail : RequestedAction → Type 0
 IsNotAvail (load names) = Unit {0}
 IsNotAvail (unload names) = Unit {0}
 IsNotAvail (switch old new) = Unit {0}
@@ -37,21 +37,21 @@ IsNotAvail (whatis names) = Unit {0}
 -- Each of these has an outcome.
 abbrev pub SomeOutcome : Type 0
 SomeOutcome =
-    (s : Site) (e : Environment) (asked : Asked) → IsNotAvail asked
-    → (o : Result Done RequestReason) × RequestStep s e asked o
+    (s : Site) (e : Environment) (action : RequestedAction) → IsNotAvail action
+    → (o : Result Done RequestReason) × RequestStep s e action o
 
 -- The moves of an accepted step take the environment to the one that results, and each fits where it is made.
 abbrev pub StepsLead : Type 0
 StepsLead =
-    (s : Site) (e : Environment) (asked : Asked) (d : Done) → RequestStep s e asked (Ok d) → Lead d.moves e d.env
+    (s : Site) (e : Environment) (action : RequestedAction) (d : Done) → RequestStep s e action (Ok d) → Lead d.moves e d.env
 
 -- So the environment that results is the one that they make.
 abbrev pub StepsAreMade : Type 0
 StepsAreMade =
-    (s : Site) (e : Environment) (asked : Asked) (d : Done) → RequestStep s e asked (Ok d) → made d.moves e ≡ Ok d.env
+    (s : Site) (e : Environment) (action : RequestedAction) (d : Done) → RequestStep s e action (Ok d) → made d.moves e ≡ Ok d.env
 
 -- a request that only reports
-abbrev pub Reports : Asked → Type 0
+abbrev pub Reports : RequestedAction → Type 0
 Reports (load names) = ⊥
 Reports (unload names) = ⊥
 Reports (switch old new) = ⊥
@@ -64,7 +64,7 @@ Reports (whatis names) = Unit {0}
 -- It changes no variable, and moves nothing.
 abbrev pub ReportsLeave : Type 0
 ReportsLeave =
-    (s : Site) (e : Environment) (asked : Asked) (d : Done) → Reports asked → RequestStep s e asked (Ok d)
+    (s : Site) (e : Environment) (action : RequestedAction) (d : Done) → Reports action → RequestStep s e action (Ok d)
     → (d.env ≡ e) × (d.moves ≡ [])
 
 -- A session is a run of what its requests moved.
@@ -107,7 +107,7 @@ PlainSessionsReturn =
 -- the start.
 abbrev pub CommandsReturn : Type 0
 CommandsReturn =
-    (ways : Text → Way) (s : Site) (start e : Environment) (live : List Module) (asked : Asked) (d : Done)
+    (ways : Text → Way) (s : Site) (start e : Environment) (live : List Module) (action : RequestedAction) (d : Done)
     → IsStart ways start → IsInOrder ways e → Stands ways start live e → AreFit ways live
-    → RequestStep s e asked (Ok d) → AreNew start d.moves → AreFitting ways live d.moves
+    → RequestStep s e action (Ok d) → AreNew start d.moves → AreFitting ways live d.moves
     → Holds ways start (live_after live d.moves) d.env × AreFit ways (live_after live d.moves)

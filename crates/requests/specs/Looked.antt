@@ -9,7 +9,7 @@ use Rattle.defaultfiles.specs.Leaves.{Leaves}
 use Rattle.modulerecords.specs.Effects as modes
 use Rattle.modulesearch.specs.Looked as search
 use Rattle.requests.specs.Reasons.{RequestReason}
-use Rattle.requests.specs.Requests.{Asked, load, unload, switch, purge, list, avail, show, whatis}
+use Rattle.requests.specs.Requests.{RequestedAction, load, unload, switch, purge, list, avail, show, whatis}
 use Rattle.requests.specs.Steps.{Site, Done, begun, entries_of, modulepath, last_meant, old_name}
 use Rattle.requests.specs.Steps.{LoadsName, UnloadsName, ShowsName, shown_text, described_text}
 
@@ -62,7 +62,7 @@ pub record PurgeLooksAt (s : Site) (e : Environment) (at : Text) : Type 0 where
   pub unloading : EachLooksAt (UnloadsName s false) UnloadLooksAt (reverse (names_of entries)) (begun e) at
 
 -- The request looks at this path.
-abbrev pub RequestLooksAt : Site → Environment → Asked → Text → Type 0
+abbrev pub RequestLooksAt : Site → Environment → RequestedAction → Text → Type 0
 RequestLooksAt s e (load names) at = EachLooksAt (LoadsName s false) (LoadLooksAt s) names (begun e) at
 RequestLooksAt s e (unload names) at = EachLooksAt (UnloadsName s false) UnloadLooksAt names (begun e) at
 RequestLooksAt s e (switch old new) at = SwitchLooksAt s (old_name old new) new (begun e) at

@@ -7,18 +7,18 @@ use Rattle.environment.specs.Texts.{Text}
 use Rattle.message.specs.Messages.{quoting}
 use Rattle.requests.specs.declared.request_fault.RequestFault.{RequestFault}
 use Rattle.requests.specs.declared.request_fault.RequestFault.TheVariants as faults
-use Rattle.requests.specs.declared.asked.Action.{Action}
-use Rattle.requests.specs.declared.asked.Action.TheVariants as actions
-use Rattle.requests.specs.declared.asked.Request as code
+use Rattle.requests.specs.declared.action.Action.{Action}
+use Rattle.requests.specs.declared.action.Action.TheVariants as actions
+use Rattle.requests.specs.declared.action.Request as code
 use Rattle.requests.specs.Reasons.{RequestReason, bad_arguments, unknown_subcommand}
-use Rattle.requests.specs.Requests.{Asked, Request, load, unload, switch, purge, list, avail, show, whatis}
+use Rattle.requests.specs.Requests.{RequestedAction, Request, load, unload, switch, purge, list, avail, show, whatis}
 
 -- the words, each by its bytes
 abbrev pub texts_of : Vec (String Global) Global → List Text
 texts_of words = map string_bytes words.items
 
 -- what an action asks for
-abbrev pub asked_view : Action → Asked
+abbrev pub asked_view : Action → RequestedAction
 asked_view (actions.Load names) = load (texts_of names)
 asked_view (actions.Unload names) = unload (texts_of names)
 asked_view (actions.Switch old new) = switch (option_map string_bytes old) (string_bytes new)

@@ -7,7 +7,7 @@ use Rattle.modulerecords.specs.Moves.{Move}
 use Rattle.reversal.specs.Requests as moves
 use Rattle.reversal.specs.Requests.{all_moves}
 use Rattle.requests.specs.Reasons.{RequestReason}
-use Rattle.requests.specs.Requests.{Asked, Request}
+use Rattle.requests.specs.Requests.{RequestedAction, Request}
 use Rattle.requests.specs.Steps.{Site, Done, RequestStep}
 
 -- The response to a request: accepted; refused for its reason; or given up because memory ran out, a device failed or
@@ -23,10 +23,10 @@ abbrev pub is_cause : ℕ → Bool
 is_cause number = list_any (λ n. n == number) (11 ∷ 31 ∷ 41 ∷ 61 ∷ 43 ∷ 62 ∷ [])
 
 -- an accepted or refused request has the outcome of its step; one that was given up has a cause
-abbrev pub IsResponse : Site → Environment → Asked → Response → Type 0
-IsResponse s e asked (accepted d) = RequestStep s e asked (Ok d)
-IsResponse s e asked (refused reason) = RequestStep s e asked (Err reason)
-IsResponse s e asked (given_up number) = is_cause number ≡ true
+abbrev pub IsResponse : Site → Environment → RequestedAction → Response → Type 0
+IsResponse s e action (accepted d) = RequestStep s e action (Ok d)
+IsResponse s e action (refused reason) = RequestStep s e action (Err reason)
+IsResponse s e action (given_up number) = is_cause number ≡ true
 
 -- only an accepted request changes the environment
 abbrev pub env_after : Environment → Response → Environment

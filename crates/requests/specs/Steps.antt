@@ -27,7 +27,7 @@ use Rattle.modulesearch.specs.Found.{Found}
 use Rattle.modulesearch.specs.Listed.{Listing, Listed}
 use Rattle.requests.specs.Refusals.{refused_as, unless, RefusedAs}
 use Rattle.requests.specs.Reasons.{RequestReason, bad_arguments, missed, file_gone, not_a_modulefile, stopped, refused_edit}
-use Rattle.requests.specs.Requests.{Asked, load, unload, switch, purge, list, avail, show, whatis}
+use Rattle.requests.specs.Requests.{RequestedAction, load, unload, switch, purge, list, avail, show, whatis}
 use Rattle.requests.specs.Conditions.{load_objection, end_objection}
 use Rattle.requests.specs.Reports.{loaded_text, avail_text}
 
@@ -226,7 +226,7 @@ ListsAll s e texts o =
     × (o ≡ Ok (reported (begun e) [] (avail_text texts listings)))
 
 -- The step of a request.
-abbrev pub RequestStep : Site → Environment → Asked → Result Done RequestReason → Type 0
+abbrev pub RequestStep : Site → Environment → RequestedAction → Result Done RequestReason → Type 0
 RequestStep s e (load names) = Named names (Changes e (λ before. Each (LoadsName s false) names))
 RequestStep s e (unload names) = Named names (Changes e (λ before. Each (UnloadsName s false) names))
 RequestStep s e (switch old new) = Changes e (λ before. Switches s old new)

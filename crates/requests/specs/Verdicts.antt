@@ -21,13 +21,13 @@ pub data Verdict : Type 0 where
   -- it asked nothing, and unloading undoes its records
   plain : Verdict
   -- it asked about the environment, the mode, the shell, the typed name or the loaded modules
-  asking : Verdict
+  asks : Verdict
   -- it asked nothing, and has a record that unloading doesn't undo
   one_way : Verdict
 
 -- the verdict by the result of the evaluation
 abbrev pub verdict_of : Ran → Verdict
-verdict_of ran = if ran.asked then asking else if list_all is_reversible ran.records then plain else one_way
+verdict_of ran = if ran.asked then asks else if list_all is_reversible ran.records then plain else one_way
 
 -- the context of a verdict: for loading, in sh
 abbrev pub judged_in : Site → Text → search.FoundModule → List Entry → Environment → Context

@@ -3,13 +3,13 @@
 //! Used by reports, requeststep, modules, sessioncheck, rehearsal and modulecmd.
 #![tactic(auto)]
 
-mod asked;
+mod action;
 mod laws;
 mod request_fault;
 mod rows;
 mod words;
 
-pub use asked::{Action, Request};
+pub use action::{Action, Request};
 pub use laws::{
     command_returns, judged_session_returns, outcomes, plain_session_returns, reports,
     session_returns, sessions, some_outcome, verdicts,

@@ -1,11 +1,11 @@
 //! Parses the words of a command line into a request (module(1)).
 ghost use Rattle.std.specs.Prelude.{◌≡◌, List, map, IfOk, string_bytes, vec_items, Ok};
 ghost use Rattle.environment.specs.Texts.{Text};
-ghost use Rattle.requests.specs.Requests.{Asked, some_names, switch_of, no_names, request_of};
+ghost use Rattle.requests.specs.Requests.{RequestedAction, some_names, switch_of, no_names, request_of};
 ghost use Rattle.message.specs.Answers.{Gives};
 ghost use Rattle.requests.specs.RequestViews.{reason_of, asked_view, texts_of};
 
-use crate::asked::{Action, Request};
+use crate::action::{Action, Request};
 use crate::request_fault::RequestFault;
 use shells::Shell;
 use std::alloc::{AllocError, Global};
@@ -23,7 +23,7 @@ fn copied(alloc: Global, words: &[String]) -> Result<Vec<String>, AllocError>
 
 /// A copy of the names that follow a subcommand which needs at least one; 56 where there is none.
 fn some_names(alloc: Global, words: &[String]) -> Result<Vec<String>, RequestFault>
-    ensures { (make : List Text → Asked)
+    ensures { (make : List Text → RequestedAction)
         → Gives reason_of (λ names. make (texts_of names)) result (some_names make (map string_bytes words.now)) }
 {
     if words.is_empty() {
@@ -80,7 +80,7 @@ fn action_of(alloc: Global, words: &[String]) -> Result<Action, RequestFault>
 /// names don't fit it: `load`, `unload`, `show` and `whatis` take at least one, `switch` one or two, `purge` and `list`
 /// none; `OutOfMemory` (31), memory ran out.
 pub fn request(alloc: Global, shell: Shell, words: &[String]) -> Result<Request, RequestFault>
-    ensures asked { Gives reason_of (λ request. asked_view request.action) result
+    ensures action { Gives reason_of (λ request. asked_view request.action) result
         (request_of (map string_bytes words.now)) }
     ensures shell { IfOk result (λ request. request.shell ≡ shell) }
 {

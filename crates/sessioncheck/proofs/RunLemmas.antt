@@ -5,7 +5,7 @@ use Rattle.environment.specs.Environment.{Environment}
 use Rattle.filetree.specs.Causes.{Cause, Applies, memory, device, because}
 use Rattle.relations.specs.Relations.{Is}
 use Rattle.requests.specs.Reasons.{RequestReason}
-use Rattle.requests.specs.Requests.{Asked, request_of}
+use Rattle.requests.specs.Requests.{RequestedAction, request_of}
 use Rattle.requests.specs.Sessions.{Response, accepted, refused, given_up, IsResponse, env_after, is_cause}
 use Rattle.requests.specs.Steps.{Site}
 use Rattle.modulesteps.specs.Answers.{cause_of}
@@ -17,7 +17,7 @@ use Rattle.modules.specs.declared.sessions.Outcome.TheVariants.{Refused}
 use Rattle.sessioncheck.specs.Sessions.{IsLineResponse, LineSession}
 
 -- the response of a line's request is the line's
-pub line_responds : (s : Site) (e : Environment) (words : List Text) (asked : Asked) (o : Response) → request_of words ≡ Ok asked
+pub line_responds : (s : Site) (e : Environment) (words : List Text) (asked : RequestedAction) (o : Response) → request_of words ≡ Ok asked
     → IsResponse s e asked o → IsLineResponse s e words o
 line_responds s e words asked (accepted d) made h = (Ok asked, sym made, h)
 line_responds s e words asked (refused reason) made h = (Ok asked, sym made, h)

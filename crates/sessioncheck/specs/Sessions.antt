@@ -5,7 +5,7 @@ use Rattle.environment.specs.Environment.{Environment}
 use Rattle.shells.specs.declared.shell.Shell.{Shell}
 use Rattle.relations.specs.Relations.{Is, ◌>>◌}
 use Rattle.requests.specs.Reasons.{RequestReason}
-use Rattle.requests.specs.Requests.{Asked, Request, request_of}
+use Rattle.requests.specs.Requests.{RequestedAction, Request, request_of}
 use Rattle.requests.specs.Sessions.{Response, accepted, refused, given_up, is_cause, env_after}
 use Rattle.requests.specs.Steps.{Site, Done, RequestStep}
 
@@ -27,8 +27,8 @@ LineSession s e (words ∷ lines) [] = ⊥
 LineSession s e (words ∷ lines) (o ∷ os) = IsLineResponse s e words o × LineSession s (env_after e o) lines os
 
 -- these requests after that of a line, if it makes one
-abbrev pub with_request : Shell → Result Asked RequestReason → List Request → List Request
-with_request shell (Ok asked) rs = (shell, asked) ∷ rs
+abbrev pub with_request : Shell → Result RequestedAction RequestReason → List Request → List Request
+with_request shell (Ok action) rs = (shell, action) ∷ rs
 with_request shell (Err reason) rs = rs
 
 -- the requests of the lines that make one, in order
@@ -37,8 +37,8 @@ requests_in shell [] = []
 requests_in shell (words ∷ lines) = with_request shell (request_of words) (requests_in shell lines)
 
 -- these responses after that of a line, if it makes a request
-abbrev pub with_response : Result Asked RequestReason → Response → List Response → List Response
-with_response (Ok asked) o os = o ∷ os
+abbrev pub with_response : Result RequestedAction RequestReason → Response → List Response → List Response
+with_response (Ok action) o os = o ∷ os
 with_response (Err reason) o os = os
 
 -- the responses of the lines that make a request, in order
