@@ -25,7 +25,7 @@ use Rattle.modulesteps.specs.declared.files.Asking.{Asking}
 use Rattle.modulesteps.specs.declared.files.Topic.{Topic}
 use Rattle.modulesteps.specs.declared.files.Topic.TheVariants.{Commands, Whatis}
 use Rattle.modulesteps.specs.declared.commands.Doing.{Doing}
-use Rattle.modulesteps.specs.declared.commands.Doing.TheVariants.{Load, Unload, Report}
+use Rattle.modulesteps.specs.declared.commands.Doing.TheVariants.{Load, Unload, ReportOn}
 
 -- the entries of a list of loaded modules
 abbrev pub entries_view : Vec Loaded Global → List Entry
@@ -89,13 +89,13 @@ ReportsFound asking topic m xs d =
 abbrev pub DoesForName : Doing → Site → Text → Done → Result Done RequestReason → Type 0
 DoesForName Load s = LoadsName s false
 DoesForName Unload s = UnloadsName s false
-DoesForName (Report topic) s = ShowsName s (topic_mode topic) (topic_text topic)
+DoesForName (ReportOn topic) s = ShowsName s (topic_mode topic) (topic_text topic)
 
 -- the paths that the step for one name looks at
 abbrev pub LooksForName : Doing → Site → Text → Done → Text → Type 0
 LooksForName Load s = LoadLooksAt s
 LooksForName Unload s = UnloadLooksAt
-LooksForName (Report topic) s = ShowLooksAt s
+LooksForName (ReportOn topic) s = ShowLooksAt s
 
 -- the paths that the steps for all names look at
 abbrev pub LooksForEach : Doing → Site → List Text → Done → Text → Type 0

@@ -18,7 +18,7 @@ ghost use Rattle.requests.specs.Looked.{PurgeLooksAt, SwitchLooksAt, RequestLook
 ghost use Rattle.modulesteps.specs.Views.{site_of, done_view};
 ghost use Rattle.modulesteps.specs.Answers.{GivesOrRefuses, Tells, is_failure};
 ghost use Rattle.modulesteps.specs.Messages.{WantsAmong, memory_numbers};
-ghost use Rattle.modulesteps.specs.declared.commands.Doing.TheVariants.{Report};
+ghost use Rattle.modulesteps.specs.declared.commands.Doing.TheVariants.{ReportOn};
 ghost use Rattle.modulesteps.specs.Parts.{DoesForName, LooksForName, LooksForEach, topic_mode, topic_text};
 
 use crate::conditions::first_lost;
@@ -45,7 +45,7 @@ pub(crate) enum Doing {
     /// The last loaded module that the name means is unloaded.
     Unload,
     /// A report on the module that the name means is made.
-    Report(Topic),
+    ReportOn(Topic),
 }
 
 /// Does this for one name: loads, unloads or reports on the module that it means.
@@ -77,7 +77,7 @@ fn do_name<T: Tree, V: Vars>(
     match doing {
         Doing::Load => load_name(alloc, asking, env, tree, done),
         Doing::Unload => unload_name(alloc, asking, env, tree, done),
-        Doing::Report(topic) => report_name(alloc, terms, topic, typed, env, tree, done),
+        Doing::ReportOn(topic) => report_name(alloc, terms, topic, typed, env, tree, done),
     }
 }
 
@@ -318,7 +318,7 @@ fn report_names<T: Tree, V: Vars>(
         (topic_text topic) (V.vars env.old) (map string_bytes names.now))) }
     ensures failed { FailsAt is_failure (T.failed tree.old) (T.failed tree.new) result (λ at.
         InEachPair (T.agrees tree.new) (λ files listings.
-        LooksForEach (Report topic) (site_of terms files listings) (map string_bytes names.now)
+        LooksForEach (ReportOn topic) (site_of terms files listings) (map string_bytes names.now)
         (begun (V.vars env.old)) at)) }
 {
     if names.is_empty() {
@@ -328,7 +328,7 @@ fn report_names<T: Tree, V: Vars>(
     do_each(
         alloc,
         terms,
-        Doing::Report(topic),
+        Doing::ReportOn(topic),
         names,
         env,
         tree,

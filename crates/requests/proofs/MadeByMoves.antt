@@ -34,10 +34,10 @@ lead_more [] m e d t h f k = (subst (λ x. Fits m x) h f, (t, subst (λ x. moved
 lead_more (x ∷ ms) m e d t h f k = (h.0, (h.1.0, h.1.1, lead_more ms m h.1.0 d t h.1.2 f k))
 
 made_went : (e : Environment) (d : Done) (m : Move) (messages : List Text) → Fits m d.env → IsMadeByMoves e d → AreMadeByMoves e (Is (went d m messages))
-made_went e d m messages fits made t h =
+made_went e d m messages fits by_moves t h =
     let b = bound (refused_as refused_edit (moved m d.env)) (λ x. Ok (moved_on d m messages x)) t (sym h) in
     let same : moved_on d m messages b.0 ≡ t = cc in
-    subst (λ x. IsMadeByMoves e x) same (lead_more d.moves m e d.env b.0 made fits (ok_of_refused_as refused_edit (moved m d.env) b.0 b.1))
+    subst (λ x. IsMadeByMoves e x) same (lead_more d.moves m e d.env b.0 by_moves fits (ok_of_refused_as refused_edit (moved m d.env) b.0 b.1))
 
 -- the list that was read
 list_read : (o : Option (List Entry)) (xs : List Entry) → Ok xs ≡ consistent o → o ≡ Some xs
@@ -58,7 +58,7 @@ found_entry p xs x h =
     ∙ find_any p (λ y. bytes_eq x.name y.name && bytes_eq x.path y.path) (reverse xs) x h (and_from (bytes_eq x.name x.name) (bytes_eq x.path x.path) ((bytes_eq-Decides x.name x.name).1 refl) ((bytes_eq-Decides x.path x.path).1 refl))
 
 made_same : (e : Environment) (d : Done) → IsMadeByMoves e d → AreMadeByMoves e (Is (Ok d))
-made_same e d made t h = let same : d ≡ t = cc in subst (λ x. IsMadeByMoves e x) same made
+made_same e d by_moves t h = let same : d ≡ t = cc in subst (λ x. IsMadeByMoves e x) same by_moves
 
 made_then : {A : Type 0} {First : Result A RequestReason → Type 0} {Rest : A → Result Done RequestReason → Type 0} (e : Environment) → ((x : A) → First (Ok x) → AreMadeByMoves e (Rest x)) → AreMadeByMoves e (Then First Rest)
 made_then {First = First} {Rest = Rest} e all_made t h = let g = went_on First Rest t h in all_made g.0 g.1 t g.2
@@ -71,52 +71,52 @@ made_refused : (e : Environment) (r : RequestReason) → AreMadeByMoves e (Is (E
 made_refused e r t h = absurd (let g : Ok t ≡ Err r = h in cc)
 
 made_found : (s : Site) (w : Bool) (typed : Text) (e : Environment) (d : Done) (xs : List Entry) (m : search.FoundModule) → loaded_in d.env ≡ Some xs → IsMadeByMoves e d → AreMadeByMoves e (LoadsFound s w typed d xs m)
-made_found s w typed e d xs m read made =
-    made_if e (has m.name (names_of xs)) _ _ (λ b. made_same e d made) (λ b. made_then e (λ ran h.
-    λ t g. made_went e d (Loads (module_of m.name m.path ran)) ran.messages (xs, read, b) made t
+made_found s w typed e d xs m read by_moves =
+    made_if e (has m.name (names_of xs)) _ _ (λ b. made_same e d by_moves) (λ b. made_then e (λ ran h.
+    λ t g. made_went e d (Loads (module_of m.name m.path ran)) ran.messages (xs, read, b) by_moves t
     (sym (allowed (load_objection m.name ran.records xs) (went d (Loads (module_of m.name m.path ran)) ran.messages) t (sym g)))))
 
 made_load : (s : Site) (w : Bool) (e : Environment) (typed : Text) (d : Done) → IsMadeByMoves e d → AreMadeByMoves e (LoadsName s w typed d)
-made_load s w e typed d made =
+made_load s w e typed d by_moves =
     made_then e (λ xs h.
-    made_if e (has typed (names_of xs)) _ _ (λ b. made_same e d made) (λ b. made_then e (λ m g.
-    made_found s w typed e d xs m (list_read (loaded_in d.env) xs h) made)))
+    made_if e (has typed (names_of xs)) _ _ (λ b. made_same e d by_moves) (λ b. made_then e (λ m g.
+    made_found s w typed e d xs m (list_read (loaded_in d.env) xs h) by_moves)))
 
 made_meant : (s : Site) (w : Bool) (typed : Text) (e : Environment) (d : Done) (xs : List Entry) (p : Entry → Bool) (x : Option Entry) → find p (reverse xs) ≡ x → loaded_in d.env ≡ Some xs → IsMadeByMoves e d → AreMadeByMoves e (UnloadsMeant s w typed d xs x)
-made_meant s w typed e d xs p None f read made = made_same e d made
-made_meant s w typed e d xs p (Some x) f read made =
+made_meant s w typed e d xs p None f read by_moves = made_same e d by_moves
+made_meant s w typed e d xs p (Some x) f read by_moves =
     made_then e (λ text h. made_then e (λ ran g.
-    made_went e d (Unloads (module_of x.name x.path ran)) ran.messages (xs, read, found_entry p xs x f) made))
+    made_went e d (Unloads (module_of x.name x.path ran)) ran.messages (xs, read, found_entry p xs x f) by_moves))
 
 made_unload : (s : Site) (w : Bool) (e : Environment) (typed : Text) (d : Done) → IsMadeByMoves e d → AreMadeByMoves e (UnloadsName s w typed d)
-made_unload s w e typed d made =
+made_unload s w e typed d by_moves =
     made_then e (λ xs h.
-    made_if e (is_module_name typed) _ _ (λ b. made_meant s w typed e d xs (λ x. means typed x.name) (last_meant typed xs) refl (list_read (loaded_in d.env) xs h) made) (λ b. made_refused e (missed (bad_name typed))))
+    made_if e (is_module_name typed) _ _ (λ b. made_meant s w typed e d xs (λ x. means typed x.name) (last_meant typed xs) refl (list_read (loaded_in d.env) xs h) by_moves) (λ b. made_refused e (missed (bad_name typed))))
 
 made_show : (s : Site) (mode : Mode) (text_of : search.FoundModule → List Record → Text) (e : Environment) (typed : Text) (d : Done) → IsMadeByMoves e d → AreMadeByMoves e (ShowsName s mode text_of typed d)
-made_show s mode text_of e typed d made =
-    made_then e (λ xs h. made_then e (λ m g. made_then e (λ ran f. made_same e _ made)))
+made_show s mode text_of e typed d by_moves =
+    made_then e (λ xs h. made_then e (λ m g. made_then e (λ ran f. made_same e _ by_moves)))
 
 made_each : (e : Environment) (Does : Text → Done → Result Done RequestReason → Type 0) → ((name : Text) (d : Done) → IsMadeByMoves e d → AreMadeByMoves e (Does name d)) → (names : List Text) (d : Done) → IsMadeByMoves e d → AreMadeByMoves e (Each Does names d)
-made_each e Does all_made [] d made = made_same e d made
-made_each e Does all_made (name ∷ names) d made =
-    made_then e (λ t h. made_each e Does all_made names t (all_made name d made t h))
+made_each e Does all_made [] d by_moves = made_same e d by_moves
+made_each e Does all_made (name ∷ names) d by_moves =
+    made_then e (λ t h. made_each e Does all_made names t (all_made name d by_moves t h))
 
 made_named : (e : Environment) (names : List Text) (Does : Result Done RequestReason → Type 0) → AreMadeByMoves e Does → AreMadeByMoves e (Named names Does)
 made_named e [] Does all_made = made_refused e bad_arguments
 made_named e (name ∷ names) Does all_made = all_made
 
 made_end : (e : Environment) (before : List Entry) (d : Done) → IsMadeByMoves e d → AreMadeByMoves e (EndsRequest before d)
-made_end e before d made =
-    made_then e (λ after h. λ t g. made_same e d made t (sym (allowed (end_objection before after) (Ok d) t (sym g))))
+made_end e before d by_moves =
+    made_then e (λ after h. λ t g. made_same e d by_moves t (sym (allowed (end_objection before after) (Ok d) t (sym g))))
 
 made_changes : (e : Environment) (Does : List Entry → Done → Result Done RequestReason → Type 0) → ((before : List Entry) (d : Done) → IsMadeByMoves e d → AreMadeByMoves e (Does before d)) → AreMadeByMoves e (Changes e Does)
 made_changes e Does all_made =
     made_then e (λ before h. made_then e (λ d g. made_end e before d (all_made before (begun e) refl d g)))
 
 made_switch : (s : Site) (e : Environment) (old : Option Text) (new : Text) (d : Done) → IsMadeByMoves e d → AreMadeByMoves e (Switches s old new d)
-made_switch s e old new d made =
-    made_then {First = UnloadsName s true (old_name old new) d} {Rest = LoadsName s true new} e (λ t h. made_load s true e new t (made_unload s true e (old_name old new) d made t h))
+made_switch s e old new d by_moves =
+    made_then {First = UnloadsName s true (old_name old new) d} {Rest = LoadsName s true new} e (λ t h. made_load s true e new t (made_unload s true e (old_name old new) d by_moves t h))
 
 made_shown : (s : Site) (mode : Mode) (text_of : search.FoundModule → List Record → Text) (e : Environment) (names : List Text) → AreMadeByMoves e (ShowsNames s mode text_of e names)
 made_shown s mode text_of e names =
@@ -124,13 +124,13 @@ made_shown s mode text_of e names =
 
 pub led_by_moves : (s : Site) (e : Environment) (asked : RequestedAction) → AreMadeByMoves e (RequestStep s e asked)
 led_by_moves s e (load names) =
-    made_named e names (Changes e (λ before. Each (LoadsName s false) names)) (made_changes e (λ before. Each (LoadsName s false) names) (λ before d made. made_each e (LoadsName s false) (made_load s false e) names d made))
+    made_named e names (Changes e (λ before. Each (LoadsName s false) names)) (made_changes e (λ before. Each (LoadsName s false) names) (λ before d by_moves. made_each e (LoadsName s false) (made_load s false e) names d by_moves))
 led_by_moves s e (unload names) =
-    made_named e names (Changes e (λ before. Each (UnloadsName s false) names)) (made_changes e (λ before. Each (UnloadsName s false) names) (λ before d made. made_each e (UnloadsName s false) (made_unload s false e) names d made))
+    made_named e names (Changes e (λ before. Each (UnloadsName s false) names)) (made_changes e (λ before. Each (UnloadsName s false) names) (λ before d by_moves. made_each e (UnloadsName s false) (made_unload s false e) names d by_moves))
 led_by_moves s e (switch old new) =
-    made_changes e (λ before. Switches s old new) (λ before d made. made_switch s e old new d made)
+    made_changes e (λ before. Switches s old new) (λ before d by_moves. made_switch s e old new d by_moves)
 led_by_moves s e purge =
-    made_changes e (λ before. Each (UnloadsName s false) (reverse (names_of before))) (λ before d made. made_each e (UnloadsName s false) (made_unload s false e) (reverse (names_of before)) d made)
+    made_changes e (λ before. Each (UnloadsName s false) (reverse (names_of before))) (λ before d by_moves. made_each e (UnloadsName s false) (made_unload s false e) (reverse (names_of before)) d by_moves)
 led_by_moves s e list = made_then e (λ xs h. made_same e _ refl)
 led_by_moves s e (avail texts) = λ d h. made_same e _ refl d h.2
 led_by_moves s e (show names) = made_named e names (ShowsNames s modes.display shown_text e names) (made_shown s modes.display shown_text e names)
