@@ -43,12 +43,14 @@ SomeOutcome =
 -- The moves of an accepted step take the environment to the one that results, and each fits where it is made.
 abbrev pub StepsLead : Type 0
 StepsLead =
-    (s : Site) (e : Environment) (action : RequestedAction) (d : Done) → RequestStep s e action (Ok d) → Lead d.moves e d.env
+    (s : Site) (e : Environment) (action : RequestedAction) (d : Done) → RequestStep s e action (Ok d)
+    → Lead d.moves e d.env
 
 -- So the environment that results is the one that they make.
 abbrev pub StepsAreMade : Type 0
 StepsAreMade =
-    (s : Site) (e : Environment) (action : RequestedAction) (d : Done) → RequestStep s e action (Ok d) → made d.moves e ≡ Ok d.env
+    (s : Site) (e : Environment) (action : RequestedAction) (d : Done) → RequestStep s e action (Ok d)
+    → made d.moves e ≡ Ok d.env
 
 -- a request that only reports
 abbrev pub Reports : RequestedAction → Type 0
