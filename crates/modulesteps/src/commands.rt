@@ -48,7 +48,7 @@ pub(crate) enum Doing {
     ReportOn(Topic),
 }
 
-/// Does this for one name: loads, unloads or reports on the module that it means.
+/// Loads, unloads or reports on the module that one name means.
 fn do_name<T: Tree, V: Vars>(
     alloc: Global,
     terms: Terms,
@@ -81,7 +81,7 @@ fn do_name<T: Tree, V: Vars>(
     }
 }
 
-/// Does this for each name in turn, until one is refused.
+/// Loads, unloads or reports on the module of each name in turn, until one is refused.
 fn do_each<T: Tree, V: Vars>(
     alloc: Global,
     terms: Terms,
@@ -123,7 +123,7 @@ fn end<V: Vars>(alloc: Global, before: &[Loaded], env: &V, done: &Done) -> Resul
     }
 }
 
-/// Does this for each name in turn, and then judges what loaded modules need (53).
+/// Loads or unloads the module of each name in turn, and then judges what loaded modules need (53).
 fn change_each<T: Tree, V: Vars>(
     alloc: Global,
     terms: Terms,
@@ -150,7 +150,7 @@ fn change_each<T: Tree, V: Vars>(
     Ok(done)
 }
 
-/// Loads or unloads for each of at least one name (else 56).
+/// Loads or unloads the module of each of at least one name (else 56), as one command.
 fn change_names<T: Tree, V: Vars>(
     alloc: Global,
     terms: Terms,
@@ -384,8 +384,8 @@ fn avail<T: Tree, V: Vars>(
 }
 
 /// Does a request: makes of the variables what its step over a tree of modulefiles makes of them, and answers what it
-/// did besides. The loaded modules are read first (35); then the names are gone through in turn, and after them what
-/// loaded modules need is judged once more (53).
+/// did besides. Where it loads or unloads, the loaded modules are read first (35); then the names are gone through in
+/// turn, and after them what loaded modules need is judged once more (53).
 ///
 /// It is refused as the request's step over the tree is, for want of memory, or by 43 where the device failed in this
 /// call, at a path that the request looks at. The variables may then hold anything, so a caller who needs the old ones
