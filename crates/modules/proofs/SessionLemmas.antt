@@ -23,7 +23,7 @@ use Rattle.modules.specs.declared.sessions.Outcome.{Outcome}
 use Rattle.modules.specs.declared.sessions.Outcome.TheVariants.{Accepted, Refused}
 use Rattle.modules.specs.Responses.{accepted_in, by_cause, count_cause, count_failed, count_one, led_to, response_of, responses, Returns}
 
--- what is left behind one response more
+-- the environment after one response more
 pub left_push : (e : Environment) (os : List Response) (o : Response) → sessions.left_by e (os ++ o ∷ []) ≡ env_after (sessions.left_by e os) o
 left_push e [] o = refl
 left_push e (p ∷ os) o = left_push (env_after e p) os o
@@ -33,7 +33,7 @@ pub responses_push : (e : Environment) (os : List Outcome) (o : Outcome)
 responses_push e [] o = refl
 responses_push e (p ∷ os) o = ap (λ rs. response_of e p ∷ rs) (responses_push (env_after e (response_of e p)) os o)
 
--- the moves of an accepted step lead to the environment that it leaves
+-- the moves of an accepted step make the environment that results
 pub made_led : StepsAreMade → (s : Site) (e new : Environment) (asked : RequestedAction) (done : Done) → RequestStep s e asked (Ok (done_view done new)) → new ≡ led_to e done
 made_led law s e new asked done step = sym (ap (accepted_in e) (law s e asked (done_view done new) step))
 
@@ -115,7 +115,7 @@ session_returning law s start rs os session ways is_start are_new fitting before
     let Fits : List Response → Type 0 = λ x. AreFitting ways [] (session_moves x) in
     law ways s start rs before after is_start (subst Runs cut session) (subst New cut are_new) (subst Fits cut fitting)
 
--- a request more, behind what was answered so far
+-- a request more, after those with an answer
 pub session_grows : (start e new : Environment) (outcomes : List Outcome) (o : Outcome)
     → e ≡ sessions.left_by start (responses start outcomes) → new ≡ env_after e (response_of e o)
     → (new ≡ sessions.left_by start (responses start (outcomes ++ o ∷ []))) × (responses start (outcomes ++ o ∷ []) ≡ responses start outcomes ++ response_of e o ∷ [])
@@ -126,7 +126,7 @@ session_grows start e new outcomes o left after =
       grown,
     )
 
--- what the rest of a session has as responses, the whole has behind those so far
+-- what the rest of a session has as responses, the whole has after those so far
 pub session_taken : (s : Site) (start e new : Environment) (asked : Request) (rs all : List Request) (sofar : List Response) (grown : List Response) (o : Response)
     → (os : List Response) → (Session s e (asked ∷ rs) (o ∷ os) → Session s start all (sofar ++ o ∷ os))
     → IsResponse (in_shell s asked.0) e asked.1 o → new ≡ env_after e o → grown ≡ sofar ++ o ∷ []
@@ -136,7 +136,7 @@ session_taken s start e new asked rs all sofar grown o os run is_response left m
     let Q : List Response → Type 0 = λ x. Session s start all x in
     subst Q (sym (append_assoc sofar (o ∷ []) os) ∙ ap (λ x. x ++ os) (sym more)) (run (is_response, subst P left rest))
 
--- the first of the requests that are left
+-- the first of the remaining requests
 pub split_first : {X Y : Type 0} (view : X → Y) (x : X) (rest : List X) → 1 ≤ length rest → x ≡ get_or rest 0 x → map view rest ≡ view x ∷ map view (take (length rest - 1) (drop 1 rest))
 split_first view x [] some is = absurd (omega arith)
 split_first view x (y ∷ ys) some is =
@@ -146,7 +146,7 @@ no_more : (s : Site) (e : Environment) (rest : List code.Request) → length res
 no_more s e [] none = tt
 no_more s e (r ∷ rs) none = absurd (omega arith)
 
--- no request is left
+-- no request remains
 pub session_done : (s : Site) (start e : Environment) (rest : List code.Request) (all : List Request) (sofar : List Response) → length rest < 1
     → ((os : List Response) → Session s e (map request_view rest) os → Session s start all (sofar ++ os)) → Session s start all sofar
 session_done s start e rest all sofar none run =

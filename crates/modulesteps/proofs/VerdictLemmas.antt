@@ -1,4 +1,4 @@
--- A verdict, by what the file left.
+-- A verdict, by the result of its file.
 use Rattle.std.proofs.Common.{◌≡◌, Bool, true, false, if◌then◌else◌, Result, Ok, Err, IfOk, refl}
 use Rattle.std.specs.List.{list_all}
 use Rattle.environment.specs.Texts.{Text}

@@ -122,7 +122,7 @@ rehearsed_none s e n = record {
   failures = none_more n n (omega arith);
 }
 
--- no request is left
+-- no request remains
 pub no_requests : (s : Site) (e : Environment) (rest : List code.Request) (n : ℕ) → length rest < 1 → Rehearsal s e (map request_view rest) [] e n n
 no_requests s e [] n none = rehearsed_none s e n
 no_requests s e (r ∷ rs) n none = absurd (omega arith)

@@ -55,7 +55,7 @@ plain_holds agree s e name h =
     let p = plain_parts ran.asked (list_all is_reversible ran.records) same in
     (m, ran, found, p.1, (λ d o n q r. agree s.limits c d m.text ran o (as_ok c s m.text ran runs) p.0 n q r))
 
--- what the evaluation of a verdict left, where it is plain
+-- the result of the evaluation of a verdict, where it is plain
 pub judged_left : (s : Site) (e : Environment) (name : Text) → Judged s e name (Ok plain)
     → (m : search.FoundModule) × Finds s e name (Ok m) × (ran : Ran) × HasLeft s m.name m.path ran × (ran.asked ≡ false) × (list_all is_reversible ran.records ≡ true)
 judged_left s e name h =

@@ -1,4 +1,4 @@
--- The records of each move of a step are what the file at its module's path left.
+-- The records of each move of a step are those that the file at its module's path made.
 use Rattle.std.proofs.Common.{◌≡◌, Bool, true, false, List, [], ◌∷◌, ◌++◌, Option, Some, None, Result, Ok, Err, refl, sym, subst, reverse}
 use Rattle.modulename.specs.ModuleName.{is_module_name}
 use Rattle.environment.specs.Texts.{Text, has}
@@ -26,7 +26,7 @@ use Rattle.requests.specs.Laws.{Reports}
 use Rattle.requests.proofs.Reporting.{reports_leave}
 use Rattle.requests.proofs.FoundText.{IsScript, found_text}
 
--- the records are what the file left
+-- the records are those that the file made
 abbrev pub IsFrom : Site → Module → Type 0
 IsFrom s m = (ran : Ran) × HasLeft s m.name m.path ran × (m.records ≡ ran.records)
 

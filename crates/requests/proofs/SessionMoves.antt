@@ -31,7 +31,7 @@ pub run_leads : LeadsGoOn → (os : List moves.RequestOutcome) (old new : Enviro
 run_leads law [] old new h = h
 run_leads law (o ∷ os) old new (mid, c, r) = law (moves.moves_of o) (moves.all_moves os) old mid new (comes_lead o old mid c) (run_leads law os mid new r)
 
--- responses that were told
+-- responses that aren't given up
 same_response : OneOutcome → (s : Site) (e : Environment) (asked : RequestedAction) (o p : Response) → is_told o ≡ true → is_told p ≡ true → IsResponse s e asked o → IsResponse s e asked p → o ≡ p
 same_response law s e asked (accepted d) (accepted t) a b h k = let q : Ok d ≡ Ok t = law s e asked (Ok d) (Ok t) h k in cc
 same_response law s e asked (accepted d) (refused r) a b h k = absurd (let q : Ok d ≡ Err r = law s e asked (Ok d) (Err r) h k in cc)

@@ -24,7 +24,7 @@ responds s e words (refused reason) (made, is, h) =
     let P : Result RequestedAction RequestReason → Type 0 = λ x. After (RequestStep s e) x (Err reason) in subst P is h
 responds s e words (given_up number) h = h
 
--- what is said of a session that goes on behind some responses
+-- what holds of a session that continues after some responses
 abbrev pub Runs : Site → Environment → List Request → List Response → List Response → Type 0
 Runs s e rs given os = Session s e rs given × (left_by e given ≡ left_by e os) × (session_moves given ≡ session_moves os)
 

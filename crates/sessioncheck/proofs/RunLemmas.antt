@@ -45,7 +45,7 @@ same_number n = omega arith
 pub none_counts : (failures : ℕ) (refusal : Refusal) (Is : RequestReason → Type 0) → Applies (cause_of refusal) ⊥ Is → failures + count_failed (Refused refusal ∷ []) ≤ failures
 none_counts failures refusal Is h = refused_counts failures failures refusal Is (same_number failures) (more_applies (cause_of refusal) (failures < failures) Is h)
 
--- what the rest of the lines has as responses, the whole has behind those so far
+-- what the rest of the lines has as responses, the whole has after those so far
 pub lines_taken : (s : Site) (start e new : Environment) (words : List Text) (lines all : List (List Text)) (sofar grown : List Response) (o : Response)
     → (os : List Response) → (LineSession s e (words ∷ lines) (o ∷ os) → LineSession s start all (sofar ++ o ∷ os))
     → IsLineResponse s e words o → new ≡ env_after e o → grown ≡ sofar ++ o ∷ []
@@ -59,7 +59,7 @@ no_more : {W : Type 0} (view : W → List Text) (s : Site) (e : Environment) (re
 no_more view s e [] none = tt
 no_more view s e (w ∷ ws) none = absurd (omega arith)
 
--- no line is left
+-- no line remains
 pub lines_done : {W : Type 0} (view : W → List Text) (s : Site) (start e : Environment) (rest : List W) (all : List (List Text)) (sofar : List Response) → length rest < 1
     → ((os : List Response) → LineSession s e (map view rest) os → LineSession s start all (sofar ++ os)) → LineSession s start all sofar
 lines_done view s start e rest all sofar none run =
