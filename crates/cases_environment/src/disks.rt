@@ -1,6 +1,6 @@
-//! The files and folders of a disk.
+//! Questions about the files and folders of a disk, real or scripted.
 
-use crate::system::{System, Told};
+use crate::system::{Scripted, System};
 use crate::texts::{bytes_of, parted, push_all};
 use crate::trees::{file_text, folder_text};
 use filetree::{DiskTree, Tree, TreeFault};
@@ -80,34 +80,34 @@ fn both_text(
     Ok(text)
 }
 
-/// A disk that holds what a system is told.
-fn told_disk<'r, 't>(
+/// A disk over a system with scripted answers.
+fn scripted_disk<'r, 't>(
     rt: &'r HostRuntime,
     kind: &str,
     bytes: &'t [u8],
 ) -> DiskTree<(System<'r, 't, 'static>, Global)> {
     let system = System {
         rt,
-        told: Told::by(kind, bytes),
+        scripted: Scripted::by(kind, bytes),
         environment: b"",
     };
     DiskTree::new((system, rt.alloc()))
 }
 
-/// What a disk answers for the file and the folder of a system that is told them.
-pub(crate) fn told_answer(rt: &HostRuntime, line: &str) -> Result<String, AllocError> {
+/// What a disk answers for the file and the folder of a system with scripted answers.
+pub(crate) fn scripted_answer(rt: &HostRuntime, line: &str) -> Result<String, AllocError> {
     let (kind, text) = parted(line);
     let bytes = bytes_of(rt.alloc(), b'\\', text)?;
-    let mut tree = told_disk(rt, kind, &bytes);
+    let mut tree = scripted_disk(rt, kind, &bytes);
     let file = tree.read("/proc/version");
     both_text(rt.alloc(), file, tree.entries("/"))
 }
 
-/// Whether the file of a system that is told it begins with `#%`, on a disk.
+/// Whether the file of a system with scripted answers begins with `#%`, on a disk.
 pub(crate) fn begins_answer(rt: &HostRuntime, line: &str) -> Result<String, AllocError> {
     let (kind, text) = parted(line);
     let bytes = bytes_of(rt.alloc(), b'\\', text)?;
-    let mut tree = told_disk(rt, kind, &bytes);
+    let mut tree = scripted_disk(rt, kind, &bytes);
     match tree.begins_with("/proc/version", b"#%") {
         Ok(true) => String::from_str(rt.alloc(), "yes"),
         Ok(false) => String::from_str(rt.alloc(), "no"),

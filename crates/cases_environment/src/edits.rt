@@ -1,4 +1,4 @@
-//! Edits of an environment.
+//! Calls that edit an environment, each by its name and words.
 
 use crate::texts::{parts, slices};
 use envstate::{
@@ -26,7 +26,7 @@ fn edit_path<V: Vars>(
     }
 }
 
-/// The delimiter of `--delim C` before the name of a variable, and the words behind it.
+/// The delimiter of `--delim C` before the name of a variable, and the words after it.
 fn delimited(words: &[String]) -> (char, &[String]) {
     match words {
         [option, delimiter, words @ ..] if option.as_str() == "--delim" => {
@@ -36,6 +36,7 @@ fn delimited(words: &[String]) -> (char, &[String]) {
     }
 }
 
+/// The groups of a list, which commas part, and each group's names, which bars part.
 fn groups(alloc: Global, list: &str) -> Result<Vec<Vec<String>>, AllocError> {
     let mut groups = Vec::new(alloc);
     for group in &parts(alloc, list, ',')? {
@@ -68,6 +69,7 @@ fn change(alloc: Global, word: &str) -> Result<Change, AllocError> {
     Ok(Change { name, value })
 }
 
+/// Makes the changes of the words, all or none.
 fn apply<V: Vars>(alloc: Global, vars: &mut V, words: &[String]) -> Result<(), EnvFault> {
     let mut changes = Vec::new(alloc);
     for word in words {

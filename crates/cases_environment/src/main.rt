@@ -1,27 +1,30 @@
-//! Answers questions about the environment, a paragraph of standard input after the other. The first line of a
-//! paragraph says what it is about.
+//! Worked examples of the environment: answers questions about variables, processes, disks and texts for shells.
+//! Touches standard input and output, its own arguments and environment, and files and folders of the disk.
+//! Nothing stands above it; the files `stdin` and `stdout` of this crate are the questions and the answers.
+//!
+//! The questions stand in paragraphs of standard input. The first line of a paragraph says what it is about.
 //!
 //! `variables` asks calls of `envstate`, made one after the other over an environment, and over a working one beside
 //! it, which have to answer alike. The paragraph may go on with `from NAME=VALUE...`, the variables before its first
-//! call. Words stand between blanks; `''` is the empty word, and as a delimiter a blank. Behind each call the answer is
-//! printed: of an edit the variables after it, or `!NUMBER` for its refusal, which leaves them. At the end stands what
+//! call. Words stand between blanks; `''` is the empty word, and as a delimiter a blank. After each call its answer is
+//! printed: of an edit the variables after it, or `!NUMBER` for its refusal, which changes none. At the end stands what
 //! the calls have changed.
 //!
 //! `system` asks what a process is given and what a disk answers; each line is shown before its answer. `disk file
 //! PATH`, `disk folder PATH` and `disk again PATH` ask a disk, the last for a file twice, and `disk closed PATH` makes
 //! a folder without permission and asks for it. `memory put-file PATH TEXT` and `memory put-folder PATH NAME` put a
 //! file or a folder of one name into a tree in memory, which `memory file PATH` and `memory folder PATH` ask. `told
-//! KIND TEXT` asks a disk that holds what a system is told, and `begins KIND TEXT` whether its file begins with `#%`.
-//! `process own` asks for what this process is given, and `process variable TEXT` for the variable A of an environment.
-//! `process given KIND ENTRIES TEXT` asks whose environment is taken where a process holds these entries and the
-//! system's list of it is what is told, and `process cut COUNT ENTRIES` where the list is only so many bytes of them. A
-//! KIND is `whole`, `broken` (reading fails behind the text), `forbidden`, `missing` or `starved`.
+//! KIND TEXT` asks a disk of a system whose answers are scripted (`system.rt`), and `begins KIND TEXT` whether its file
+//! begins with `#%`. `process own` asks for what this process is given, and `process variable TEXT` for the variable A
+//! of an environment. `process given KIND ENTRIES TEXT` asks whose environment is taken where a process holds these
+//! entries and the system's list of it is scripted, and `process cut COUNT ENTRIES` where the list is only so many
+//! bytes of them. A KIND is `whole`, `broken` (reading fails after the text), `forbidden`, `missing` or `starved`.
 //!
 //! `shells` asks for the texts of changes. A line is the name of a shell, and then changes: `NAME=VALUE`, or `NAME`
-//! where it is unset. Each line is shown behind `> `, and then the text, or behind `!` the number and the text of the
+//! where it is unset. Each line is shown after `> `, and then the text, or after `!` the number and the text of the
 //! fault.
 //!
-//! Behind a mark, which is `^` in the calls and a backslash elsewhere, `n`, `t` and `s` mean a newline, a tab and a
+//! After a mark, which is `^` in the calls and a backslash elsewhere, `n`, `t` and `s` mean a newline, a tab and a
 //! space, `0` and `@` NUL, `_` the character 31, `?` the character 127, `!` a byte that is in no UTF-8, `*` 40,959
 //! times x, and every other character means itself.
 #![tactic(auto)]
@@ -40,7 +43,7 @@ mod variables;
 
 use std::io;
 
-/// Answers a paragraph.
+/// Answers a paragraph, and ends with an empty line.
 fn answer(rt: &HostRuntime, paragraph: &[String]) -> io::Result<()> {
     let Some((subject, lines)) = paragraph.split_first() else {
         return Ok(());
@@ -54,6 +57,7 @@ fn answer(rt: &HostRuntime, paragraph: &[String]) -> io::Result<()> {
     println!(rt;)
 }
 
+/// Answers each paragraph of standard input.
 fn main(rt: HostRuntime) -> io::Result<()> {
     let alloc = rt.alloc();
     let mut paragraph = Vec::new(alloc);

@@ -1,4 +1,4 @@
-//! The texts of changes for shells.
+//! The texts that shells read changes from.
 
 use crate::texts::{meant, parted};
 use environment::Change;

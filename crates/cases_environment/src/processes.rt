@@ -1,20 +1,20 @@
-//! What a process is given.
+//! Questions about what a process is given: its arguments and its environment.
 
-use crate::system::{System, Told};
+use crate::system::{Scripted, System};
 use crate::texts::{bytes_of, parted};
 use environment::Env;
 use processinput::{arguments, environment_block, environment_of};
 use std::alloc::{AllocError, Global};
 use std::env;
 
-/// The variables that entries say, if there is memory for them.
-fn environment_said(alloc: Global, entries: &[u8]) -> Result<Env, AllocError> {
+/// The variables of entries, if there is memory for them.
+fn environment_from(alloc: Global, entries: &[u8]) -> Result<Env, AllocError> {
     environment_of(alloc, entries).map_err(|_| AllocError)
 }
 
 /// Whether this process is given its arguments, and the PATH that it has.
 fn own_text(rt: &HostRuntime) -> Result<&'static str, AllocError> {
-    let given = environment_said(rt.alloc(), &environment_block(rt)?)?;
+    let given = environment_from(rt.alloc(), &environment_block(rt)?)?;
     let path = env::var(rt, "PATH").ok();
     let is_same = given.get("PATH") == path.as_ref().map(|path| path.as_str());
     Ok(if is_same && arguments(rt).is_ok() {
@@ -26,14 +26,14 @@ fn own_text(rt: &HostRuntime) -> Result<&'static str, AllocError> {
 
 /// The value of the variable A, of which the first of several entries counts.
 fn variable_text(alloc: Global, entries: &[u8]) -> Result<String, AllocError> {
-    let env = environment_said(alloc, entries)?;
+    let env = environment_from(alloc, entries)?;
     match env.get("A") {
         Some(value) => format!(in alloc; "'{value}'"),
         None => String::from_str(alloc, "unset"),
     }
 }
 
-/// Whose environment is taken where a process holds these entries, and the system is told what its list of them is.
+/// Whose environment is taken where a process holds these entries, and the system's list of them is scripted.
 fn given_text(
     rt: &HostRuntime,
     entries: &[u8],
@@ -42,7 +42,7 @@ fn given_text(
 ) -> Result<&'static str, AllocError> {
     let system = System {
         rt,
-        told: Told::by(kind, list),
+        scripted: Scripted::by(kind, list),
         environment: entries,
     };
     let block = environment_block(&(system, rt.alloc()))?;

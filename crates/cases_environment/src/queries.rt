@@ -1,4 +1,4 @@
-//! Calls that change nothing.
+//! Calls that change nothing, each by its name and words.
 
 use crate::texts::push_all;
 use envstate::{
@@ -7,7 +7,7 @@ use envstate::{
 };
 use std::alloc::{AllocError, Global};
 
-/// The texts with a comma behind each.
+/// Adds the texts, each with a comma after it.
 fn push_series(text: &mut String, series: &[String]) -> Result<(), AllocError> {
     for part in series {
         push_all(text, &[part, ","])?;
@@ -24,12 +24,14 @@ fn entries<V: Vars>(alloc: Global, vars: &V) -> Result<String, EnvFault> {
     Ok(text)
 }
 
+/// The names in conflict with a loaded module.
 fn conflicts<V: Vars>(alloc: Global, vars: &V, name: &str) -> Result<String, EnvFault> {
     let mut text = String::new(alloc);
     push_series(&mut text, &conflicts_of(alloc, vars, name)?)?;
     Ok(text)
 }
 
+/// The alternatives of each prereq of a loaded module.
 fn needs<V: Vars>(alloc: Global, vars: &V, name: &str) -> Result<String, EnvFault> {
     let mut text = String::new(alloc);
     for group in &prereqs_of(alloc, vars, name)? {
@@ -42,10 +44,15 @@ fn needs<V: Vars>(alloc: Global, vars: &V, name: &str) -> Result<String, EnvFaul
 /// A call that changes nothing.
 #[derive(Clone, Copy)]
 enum Question<'a> {
+    /// The value of a variable.
     Get(&'a str),
+    /// The loaded modules.
     Loaded,
+    /// The names in conflict with a module.
     Conflicts(&'a str),
+    /// What a module needs.
     Prereqs(&'a str),
+    /// The name of the variable with a variable's counters.
     ShareName(&'a str),
     /// A question about a word, with its answer.
     Holds(bool),
@@ -66,6 +73,7 @@ fn question_of<'a>(query: &str, word: &'a str) -> Option<Question<'a>> {
     }
 }
 
+/// The call that a line's words are; None where they are another.
 fn question_named(words: &[String]) -> Option<Question<'_>> {
     match words {
         [query] => question_of(query.as_str(), ""),
@@ -74,6 +82,7 @@ fn question_named(words: &[String]) -> Option<Question<'_>> {
     }
 }
 
+/// The answer to a call.
 fn answer<V: Vars>(alloc: Global, vars: &V, question: Question<'_>) -> Result<String, EnvFault> {
     match question {
         Question::Get(name) => Ok(String::from_str(alloc, vars.get(name).unwrap_or("-"))?),

@@ -1,4 +1,4 @@
-//! Questions about what a process is given and what a disk answers.
+//! Questions about what a process is given and what a disk answers, each by its first word.
 
 use crate::texts::parted;
 use crate::{disks, processes, trees};
@@ -15,7 +15,7 @@ fn answer_to(
     let (what, rest) = parted(line);
     match what {
         "disk" => disks::answer(rt, disk, rest),
-        "told" => Ok(disks::told_answer(rt, rest)?),
+        "told" => Ok(disks::scripted_answer(rt, rest)?),
         "begins" => Ok(disks::begins_answer(rt, rest)?),
         "memory" => Ok(trees::answer(rt.alloc(), memory, rest)?),
         "process" => Ok(processes::answer(rt, rest)?),
@@ -23,6 +23,7 @@ fn answer_to(
     }
 }
 
+/// Answers a line, which is shown before its answer.
 fn answer_line(
     rt: &HostRuntime,
     disk: &mut DiskTree<HostRuntime>,

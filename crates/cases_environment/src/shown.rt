@@ -1,4 +1,4 @@
-//! What is printed of environments.
+//! Environments and changes, as they are printed.
 
 use crate::texts::push_all;
 use envstate::{Change, Env, EnvFault, Vars};

@@ -1,4 +1,4 @@
-//! A system whose files, listings and environment are told, and whose kinds of things are the real ones.
+//! A system whose files, listings and environment have scripted answers; what kind of thing a path is, is real.
 ghost use Rattle.std.specs.Prelude.{IsErr};
 
 use std::alloc::Allocator;
@@ -8,55 +8,65 @@ use std::io::{ErrorKind, Read, Seek, SeekFrom, Write};
 use std::rt::{Env, Files};
 use std::{fs, io};
 
-/// What opening a file or a directory answers: its bytes, behind which reading ends or fails; or an error.
+/// The scripted answer to opening a file or a directory.
 #[derive(Clone, Copy)]
-pub enum Told<'a> {
+pub enum Scripted<'a> {
+    /// These bytes, after which reading ends.
     Whole(&'a [u8]),
+    /// These bytes, after which reading fails.
     Broken(&'a [u8]),
+    /// An error.
     Refused(ErrorKind),
 }
 
-/// Every file and every directory of this system is what is told, where the real system has such a thing.
+/// A system with one scripted answer for every file and every directory, where the real system has such a thing.
 #[derive(Clone, Copy)]
 pub struct System<'r, 't, 'e> {
+    /// What says of which kind a path is.
     pub rt: &'r HostRuntime,
-    /// Of a file its bytes, of a directory its names, each ended by NUL.
-    pub told: Told<'t>,
+    /// The answer: of a file its bytes, of a directory its names, each ended by NUL.
+    pub scripted: Scripted<'t>,
     /// The entries of the environment, each ended by NUL.
     pub environment: &'e [u8],
 }
 
-/// The bytes that are left of something that was opened.
+/// The bytes that are still to be read of something that was opened.
 #[derive(Drop)]
 pub struct Opened<'a> {
-    left: &'a [u8],
+    remaining: &'a [u8],
+    /// Whether reading fails after them.
     breaks: bool,
 }
 
-impl<'a> Told<'a> {
-    /// What a word says of these bytes.
-    pub fn by(word: &str, bytes: &'a [u8]) -> Told<'a> {
+impl<'a> Scripted<'a> {
+    /// The answer of this kind with these bytes.
+    pub fn by(word: &str, bytes: &'a [u8]) -> Scripted<'a> {
         match word {
-            "whole" => Told::Whole(bytes),
-            "broken" => Told::Broken(bytes),
-            "forbidden" => Told::Refused(ErrorKind::PermissionDenied),
-            "missing" => Told::Refused(ErrorKind::NotFound),
-            _ => Told::Refused(ErrorKind::OutOfMemory),
+            "whole" => Scripted::Whole(bytes),
+            "broken" => Scripted::Broken(bytes),
+            "forbidden" => Scripted::Refused(ErrorKind::PermissionDenied),
+            "missing" => Scripted::Refused(ErrorKind::NotFound),
+            _ => Scripted::Refused(ErrorKind::OutOfMemory),
         }
     }
 
+    /// What is opened, or the error.
     fn open(self) -> io::Result<Opened<'a>> {
         match self {
-            Told::Whole(left) => Ok(Opened {
-                left,
+            Scripted::Whole(remaining) => Ok(Opened {
+                remaining,
                 breaks: false,
             }),
-            Told::Broken(left) => Ok(Opened { left, breaks: true }),
-            Told::Refused(kind) => Err(io::Error::from(kind)),
+            Scripted::Broken(remaining) => Ok(Opened {
+                remaining,
+                breaks: true,
+            }),
+            Scripted::Refused(kind) => Err(io::Error::from(kind)),
         }
     }
 }
 
+/// What no row asks of the system.
 fn unsupported<T: Drop>() -> io::Result<T>
     ensures { IsErr result }
 {
@@ -65,14 +75,17 @@ fn unsupported<T: Drop>() -> io::Result<T>
 
 impl<'a> Read for Opened<'a> {
     fn read(&mut self, buf: &mut [u8]) -> io::Result<usize> {
-        if self.left.is_empty() && self.breaks {
+        if self.remaining.is_empty() && self.breaks {
             return Err(io::Error::from(ErrorKind::Other));
         }
-        // A name at a time, as directories are read.
-        let name = self.left.iter().take_while(|b| **b != 0).count();
-        let n = name.saturating_add(1).min(self.left.len()).min(buf.len());
-        buf[..n].copy_from_slice(&self.left[..n]);
-        self.left = &self.left[n..];
+        // At most one name at a time, as directories are read.
+        let name = self.remaining.iter().take_while(|b| **b != 0).count();
+        let n = name
+            .saturating_add(1)
+            .min(self.remaining.len())
+            .min(buf.len());
+        buf[..n].copy_from_slice(&self.remaining[..n]);
+        self.remaining = &self.remaining[n..];
         Ok(n)
     }
 }
@@ -117,11 +130,11 @@ impl<'r, 't, 'e> Files for System<'r, 't, 'e> {
     type Dir = Opened<'t>;
 
     fn open_file(&self, _how: &OpenOptions, _path: &str) -> io::Result<Opened<'t>> {
-        self.told.open()
+        self.scripted.open()
     }
 
     fn open_dir(&self, _path: &str) -> io::Result<Opened<'t>> {
-        self.told.open()
+        self.scripted.open()
     }
 
     fn metadata(&self, path: &str) -> io::Result<Metadata> {

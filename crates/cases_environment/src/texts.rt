@@ -1,11 +1,11 @@
-//! Texts as they are meant.
+//! Texts of lines: what marks in them mean, and their words and parts.
 
 use std::alloc::{AllocError, Global};
 
-/// How often x stands where a text has `\*`.
+/// How many x a `*` after a mark means.
 const MANY: usize = 40_959;
 
-/// What a byte behind a mark stands for.
+/// The byte that this one means after a mark.
 fn meant_by(byte: u8) -> u8 {
     match byte {
         b'0' | b'@' => 0,
@@ -20,17 +20,17 @@ fn meant_by(byte: u8) -> u8 {
     }
 }
 
-/// The bytes of a text, where a mark stands before what is meant.
+/// The bytes of a text, with what each mark and the byte after it mean.
 pub(crate) fn bytes_of(alloc: Global, mark: u8, text: &str) -> Result<Vec<u8>, AllocError> {
     let mut bytes = Vec::new(alloc);
-    let mut is_behind = false;
+    let mut is_marked = false;
     for byte in text.as_bytes() {
-        if is_behind {
+        if is_marked {
             let count = if *byte == b'*' { MANY } else { 1 };
             bytes.resize(bytes.len().saturating_add(count), meant_by(*byte))?;
-            is_behind = false;
+            is_marked = false;
         } else if *byte == mark {
-            is_behind = true;
+            is_marked = true;
         } else {
             bytes.push(*byte)?;
         }
@@ -38,13 +38,13 @@ pub(crate) fn bytes_of(alloc: Global, mark: u8, text: &str) -> Result<Vec<u8>, A
     Ok(bytes)
 }
 
-/// A text with its marks as they are meant; empty where this is no UTF-8.
+/// A text with what its marks mean; empty where that isn't UTF-8.
 pub(crate) fn meant(alloc: Global, mark: u8, text: &str) -> Result<String, AllocError> {
     let bytes = bytes_of(alloc, mark, text)?;
     String::from_str(alloc, str::from_utf8(&bytes).unwrap_or(""))
 }
 
-/// The first word and the text behind it.
+/// The first word, and the text after it.
 pub(crate) fn parted(line: &str) -> (&str, &str) {
     line.split_once(' ').unwrap_or((line, ""))
 }
@@ -76,7 +76,7 @@ pub(crate) fn slices(alloc: Global, texts: &[String]) -> Result<Vec<&str>, Alloc
     Ok(slices)
 }
 
-/// The texts of a list with such marks between them: `-` has none.
+/// The texts of a list, which this character parts: `-` has none.
 pub(crate) fn parts(alloc: Global, list: &str, mark: char) -> Result<Vec<String>, AllocError> {
     let mut parts = Vec::new(alloc);
     if list != "-" {

@@ -1,4 +1,4 @@
-//! What a tree answers, in words.
+//! What a tree answers, in words, and questions about a tree in memory.
 
 use crate::texts::{bytes_of, parted, push_all};
 use filetree::{MemoryTree, Tree, TreeFault};

@@ -1,4 +1,4 @@
-//! Calls over an environment, and over a working one beside it.
+//! Calls over an environment, and over a working one beside it, which have to answer alike.
 
 use crate::edits::edit;
 use crate::queries::query;
@@ -8,7 +8,7 @@ use envstate::{Env, EnvFault, Vars, Working, changes};
 use std::alloc::{AllocError, Global};
 use std::io;
 
-/// What the two environments answer, where it isn't one answer.
+/// The answer where the two environments have two.
 const TWO_ANSWERS: &str = "the two differ";
 
 /// Sets the variables of the words.
@@ -48,7 +48,7 @@ fn made<V: Vars>(
     }
 }
 
-/// The answer of a call that is no edit, where it has left the variables.
+/// The answer of a call that is no edit, unless it has changed the variables.
 fn unless_lost(
     alloc: Global,
     are_lost: bool,
@@ -62,7 +62,8 @@ fn unless_lost(
     }
 }
 
-/// The answer of the environment: of an edit the variables after it. Whatever else it answers leaves them.
+/// Whether the call was an edit that was made, and its answer: of an edit the variables after it. Any other answer
+/// changes none.
 fn changed(alloc: Global, env: &mut Env, words: &[String]) -> Result<(bool, String), EnvFault> {
     let before = shown(alloc, env)?;
     let made = made(alloc, env, words);
@@ -74,7 +75,7 @@ fn changed(alloc: Global, env: &mut Env, words: &[String]) -> Result<(bool, Stri
     Ok((false, answer))
 }
 
-/// The answer of both to a call.
+/// The answer of both environments to a call.
 fn answer_to(
     alloc: Global,
     env: &mut Env,
@@ -94,7 +95,7 @@ fn answer_to(
     }
 }
 
-/// What has changed, in the words of both.
+/// What has changed, where both environments say the same.
 fn differences(
     alloc: Global,
     old: &Env,
@@ -109,6 +110,7 @@ fn differences(
     }
 }
 
+/// Prints a call and its answer.
 fn print(rt: &HostRuntime, call: &str, answer: &str) -> io::Result<()> {
     if answer.is_empty() {
         println!(rt; "{call} =>")
@@ -117,12 +119,12 @@ fn print(rt: &HostRuntime, call: &str, answer: &str) -> io::Result<()> {
     }
 }
 
-/// What memory was for, where it is the one fault.
+/// The value, or want of memory: it is the one fault that can come.
 fn starved<T: Drop>(outcome: Result<T, EnvFault>) -> Result<T, AllocError> {
     outcome.map_err(|_| AllocError)
 }
 
-/// Answers calls, and says what they have changed.
+/// Answers calls, and prints what they have changed.
 pub(crate) fn answer(rt: &HostRuntime, calls: &[String]) -> io::Result<()> {
     let alloc = rt.alloc();
     let old = starved(start(alloc, calls))?;

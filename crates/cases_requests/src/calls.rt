@@ -1,11 +1,11 @@
-//! One request by each call that runs requests.
+//! Whether `run` and `session` answer a request as `run_changes` does.
 use crate::rehearsed::request_of;
 use anyhow::Result;
 use filetree::Tree;
 use modules::{Env, Limits, Outcome, Request, Shell, run, session};
 use std::alloc::Global;
 
-/// The number of what `run` refuses a request by; none where it accepts it.
+/// The number by which `run` refuses a request; None where it accepts it.
 fn number_of_run<T: Tree>(
     alloc: Global,
     request: &Request,
@@ -19,7 +19,7 @@ fn number_of_run<T: Tree>(
     }
 }
 
-/// The number of what a session of requests refuses its first one by; none where it accepts it.
+/// The number by which a session of requests refuses its first one; None where it accepts it.
 fn number_of_session<T: Tree>(
     alloc: Global,
     requests: &[Request],
@@ -34,8 +34,8 @@ fn number_of_session<T: Tree>(
     })
 }
 
-/// Which of `run` and `session` answers otherwise to the request of these words, of which `run_changes` answered this
-/// number, or none where it accepted it.
+/// A line that names which of `run` and `session` answers otherwise to the request of these words than `run_changes`,
+/// which answered this number, or None where it accepted it; empty where neither does.
 pub(crate) fn difference<T: Tree>(
     alloc: Global,
     line: &str,

@@ -1,10 +1,10 @@
-//! Checks of lines, over a tree in memory, readers and writers.
+//! Questions about checks of lines, over a tree in memory, readers and writers.
 ghost use Rattle.std.specs.Prelude.{Some};
 
 use crate::failing::{Failing, Poor};
-use crate::places::put;
 use crate::shown::{held, marked};
 use crate::texts::{meant, number, parted, words};
+use crate::trees::put;
 use crate::writers::{Limited, kind};
 use anyhow::Result;
 use filetree::{MemoryTree, Tree};
@@ -13,26 +13,28 @@ use std::alloc::Global;
 use std::io;
 use std::io::{ErrorKind, Read};
 
-/// How many reads and listings a check of the rows makes at most.
+/// How many reads and listings a check of these examples makes at most.
 const MOST_CALLS: u64 = 100;
 
-/// A reader that gives at most three bytes at a time, and fails once it has given so many.
+/// A reader that gives at most three bytes at a time, and fails after so many bytes.
 #[derive(Drop)]
 struct Given<'a> {
-    left: &'a [u8],
+    /// The bytes that are still to be read.
+    unread: &'a [u8],
+    /// How many bytes it gives before it fails.
     room: usize,
 }
 
 impl Read for Given<'_> {
-    ghost remaining = { λ r. Some r.left.now };
+    ghost remaining = { λ r. Some r.unread.now };
 
     fn read(&mut self, buf: &mut [u8]) -> io::Result<usize> {
         if self.room == 0 {
             return Err(io::Error::from(ErrorKind::BrokenPipe));
         }
-        let n = self.left.len().min(buf.len()).min(self.room).min(3);
-        buf[..n].copy_from_slice(&self.left[..n]);
-        self.left = &self.left[n..];
+        let n = self.unread.len().min(buf.len()).min(self.room).min(3);
+        buf[..n].copy_from_slice(&self.unread[..n]);
+        self.unread = &self.unread[n..];
         self.room -= n;
         Ok(n)
     }
@@ -57,7 +59,7 @@ fn environment(alloc: Global, rest: &str) -> Result<Env> {
     Ok(environment_of(alloc, block.as_slice())?)
 }
 
-/// How a check ended.
+/// The words for how a check ended.
 fn exit_name(exit: CheckExit) -> &'static str {
     match exit {
         CheckExit::AllAccepted => "all accepted",
@@ -67,7 +69,7 @@ fn exit_name(exit: CheckExit) -> &'static str {
     }
 }
 
-/// What a check of an input wrote, and its status.
+/// What a check of an input wrote, and its status, as they are shown.
 fn shown_check<T: Tree>(
     alloc: Global,
     arguments: &[String],
@@ -92,7 +94,7 @@ fn shown_check<T: Tree>(
     Ok(format!(in alloc; "{out}{lines}= {status}\n")?)
 }
 
-/// What a check of a text wrote, and its status.
+/// What a check of a text wrote, and its status, as they are shown.
 fn shown_text<T: Tree>(
     alloc: Global,
     arguments: &[String],
@@ -101,13 +103,14 @@ fn shown_text<T: Tree>(
     tree: &mut T,
 ) -> Result<String> {
     let mut input = Given {
-        left: text.as_bytes(),
+        unread: text.as_bytes(),
         room: usize::MAX,
     };
     shown_check(alloc, arguments, &mut input, env, tree)
 }
 
 impl Checks {
+    /// An empty tree, an empty environment and no arguments.
     fn new(alloc: Global) -> Checks {
         Checks {
             alloc,
@@ -117,7 +120,7 @@ impl Checks {
         }
     }
 
-    /// What a line answers.
+    /// The answer to a line.
     fn answer(&mut self, line: &str) -> Result<String> {
         let (verb, rest) = parted(line);
         match verb {
@@ -134,22 +137,26 @@ impl Checks {
         }
     }
 
+    /// Changes the tree as a line says.
     fn put(&mut self, verb: &str, rest: &str) -> Result<String> {
         let is_put = put(self.alloc, &mut self.tree, verb, rest)?;
         let text = if is_put { "" } else { "no such line\n" };
         Ok(String::from_str(self.alloc, text)?)
     }
 
+    /// Sets the environment.
     fn begin(&mut self, rest: &str) -> Result<String> {
         self.env = environment(self.alloc, rest)?;
         Ok(String::new(self.alloc))
     }
 
+    /// Sets the arguments.
     fn take(&mut self, rest: &str) -> Result<String> {
         self.arguments = words(self.alloc, rest)?;
         Ok(String::new(self.alloc))
     }
 
+    /// Checks a text.
     fn check(&mut self, rest: &str) -> Result<String> {
         let text = meant(self.alloc, rest)?;
         shown_text(
@@ -161,9 +168,12 @@ impl Checks {
         )
     }
 
-    /// Checks what a reader gives before it fails, and says how much of it was read.
+    /// Checks what a reader gives before it fails, and shows how many bytes were read.
     fn read(&mut self, bytes: &[u8], room: usize) -> Result<String> {
-        let mut input = Given { left: bytes, room };
+        let mut input = Given {
+            unread: bytes,
+            room,
+        };
         let mut text = shown_check(
             self.alloc,
             &self.arguments,
@@ -171,11 +181,12 @@ impl Checks {
             &self.env,
             &mut self.tree,
         )?;
-        let count = bytes.len().saturating_sub(input.left.len());
+        let count = bytes.len().saturating_sub(input.unread.len());
         text.push_str(format!(in self.alloc; "read {count}\n")?.as_str())?;
         Ok(text)
     }
 
+    /// Checks an input that fails after so many bytes.
     fn spoilt(&mut self, rest: &str) -> Result<String> {
         let (room, rest) = parted(rest);
         let text = meant(self.alloc, rest)?;
@@ -183,6 +194,7 @@ impl Checks {
         self.read(text.as_str().as_bytes(), room)
     }
 
+    /// Checks a text with a byte after it that is not UTF-8.
     fn odd(&mut self, rest: &str) -> Result<String> {
         let text = meant(self.alloc, rest)?;
         let mut bytes = Vec::from_slice(self.alloc, text.as_str().as_bytes())?;
@@ -190,6 +202,7 @@ impl Checks {
         self.read(bytes.as_slice(), usize::MAX)
     }
 
+    /// Checks a text that blanks fill up to so many bytes.
     fn long(&mut self, rest: &str) -> Result<String> {
         let (size, rest) = parted(rest);
         let text = meant(self.alloc, rest)?;
@@ -198,6 +211,7 @@ impl Checks {
         self.read(bytes.as_slice(), usize::MAX)
     }
 
+    /// Checks over writers that take so many bytes.
     fn write(&mut self, rest: &str) -> Result<String> {
         let (out_room, rest) = parted(rest);
         let (err_room, rest) = parted(rest);
@@ -222,15 +236,15 @@ impl Checks {
         Ok(format!(in self.alloc; "{how} {status} [{out}] [{err}]\n")?)
     }
 
-    /// Checks lines while each call of the tree in turn fails, up to the first that no call is left for.
+    /// Checks lines while each call of the tree in turn fails, until one more than they make would fail.
     fn failing(&mut self, rest: &str) -> Result<String> {
         let lines = meant(self.alloc, rest)?;
         let mut text = String::new(self.alloc);
         let mut last = String::new(self.alloc);
-        for left in 0..MOST_CALLS {
+        for remaining in 0..MOST_CALLS {
             let mut tree = Failing {
                 tree: &mut self.tree,
-                left,
+                remaining,
                 failed: 0,
             };
             let shown = shown_text(
@@ -253,6 +267,7 @@ impl Checks {
         Ok(text)
     }
 
+    /// Checks a text where memory is refused for the file at a path.
     fn poor(&mut self, rest: &str) -> Result<String> {
         let (path, rest) = parted(rest);
         let text = meant(self.alloc, rest)?;

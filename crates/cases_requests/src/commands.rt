@@ -1,4 +1,4 @@
-//! Calls over one tree and one environment.
+//! Questions about whole commands, requests, sessions and verdicts, over one tree and one environment.
 use crate::calls::difference;
 use crate::failing::{Failing, Poor};
 use crate::rehearsed::{request_of, requests, shown_rehearsal};
@@ -21,10 +21,10 @@ use modules::{
 use std::alloc::Global;
 use std::io;
 
-/// How many reads and listings a command of the rows makes at most.
+/// How many reads and listings a command of these examples makes at most.
 const MOST_CALLS: u64 = 100;
 
-/// What calls share.
+/// What calls share: the tree, the environment, and the limits of `ask` and `verdict`.
 #[derive(Drop)]
 struct Session {
     alloc: Global,
@@ -42,6 +42,7 @@ struct Written {
 }
 
 impl Written {
+    /// What was written, and the status, as they are shown.
     fn shown(&self, alloc: Global) -> Result<String> {
         let err = marked(alloc, "! ", self.err.as_str())?;
         let out = self.out.as_str();
@@ -62,7 +63,7 @@ fn command<T: Tree>(alloc: Global, args: &[String], env: &Env, tree: &mut T) -> 
     })
 }
 
-/// Runs requests one after another, and shows what came of each, and the difference of what they leave.
+/// Runs requests one after another, and shows the outcome of each, and the difference of the environment at the end.
 fn shown_session<T: Tree>(alloc: Global, line: &str, env: &Env, tree: &mut T) -> Result<String> {
     let requests = requests(alloc, line, false)?;
     let (after, outcomes) = session(alloc, requests.as_slice(), env.copy()?, tree, STANDARD)?;
@@ -80,15 +81,15 @@ fn shown_session<T: Tree>(alloc: Global, line: &str, env: &Env, tree: &mut T) ->
     Ok(text)
 }
 
-/// Whether these changes are printed so.
-fn says(alloc: Global, shell: Shell, changes: &[Change], out: &str) -> Result<bool> {
+/// Whether this is the text that a shell reads these changes from.
+fn prints(alloc: Global, shell: Shell, changes: &[Change], out: &str) -> Result<bool> {
     Ok(print_changes(alloc, shell, changes)?.as_str() == out)
 }
 
-/// Whether the difference of two environments is printed so.
-fn says_difference(alloc: Global, shell: Shell, old: &Env, new: &Env, out: &str) -> Result<bool> {
+/// Whether this is the text that a shell reads the difference of two environments from.
+fn prints_difference(alloc: Global, shell: Shell, old: &Env, new: &Env, out: &str) -> Result<bool> {
     let difference = changes(alloc, old, new)?;
-    says(alloc, shell, difference.as_slice(), out)
+    prints(alloc, shell, difference.as_slice(), out)
 }
 
 /// How a command ended, and what its writers hold.
@@ -109,7 +110,7 @@ fn fault_named(alloc: Global, kind: &str, word: &str) -> Result<CommandFault> {
     })
 }
 
-/// The line that is written of a refusal, behind its number and whether all was written.
+/// The line that is written of a refusal, after its number and whether all was written.
 fn shown_line(alloc: Global, fault: &CommandFault) -> Result<String> {
     let mut err = Vec::new(alloc);
     let is_whole = write_refusal(fault, &mut err).is_ok();
@@ -119,6 +120,7 @@ fn shown_line(alloc: Global, fault: &CommandFault) -> Result<String> {
 }
 
 impl Session {
+    /// An empty tree, an empty environment and the limits of the program.
     fn new(alloc: Global) -> Session {
         Session {
             alloc,
@@ -128,7 +130,7 @@ impl Session {
         }
     }
 
-    /// What a call answers.
+    /// The answer to a line.
     fn answer(&mut self, line: &str) -> Result<String> {
         let (verb, rest) = parted(line);
         match verb {
@@ -154,21 +156,24 @@ impl Session {
         }
     }
 
+    /// Begins a new tree.
     fn clear(&mut self) -> Result<String> {
         self.tree = MemoryTree::new(self.alloc);
         Ok(String::new(self.alloc))
     }
 
-    fn put(&mut self, before: &str, rest: &str, behind: &[u8]) -> Result<String> {
+    /// Puts a file into the tree: a text, with bytes before and after it.
+    fn put(&mut self, prefix: &str, rest: &str, suffix: &[u8]) -> Result<String> {
         let (path, text) = parted(rest);
-        let mut bytes = Vec::from_slice(self.alloc, before.as_bytes())?;
+        let mut bytes = Vec::from_slice(self.alloc, prefix.as_bytes())?;
         bytes.extend_from_slice(meant(self.alloc, text)?.as_bytes())?;
-        bytes.extend_from_slice(behind)?;
+        bytes.extend_from_slice(suffix)?;
         let path = meant(self.alloc, path)?;
         self.tree.put_file(path.as_str(), bytes.as_slice())?;
         Ok(String::new(self.alloc))
     }
 
+    /// Puts a folder into the tree.
     fn put_directory(&mut self, rest: &str) -> Result<String> {
         let (path, rest) = parted(rest);
         let names = words(self.alloc, rest)?;
@@ -180,6 +185,7 @@ impl Session {
         Ok(String::new(self.alloc))
     }
 
+    /// Sets the environment.
     fn begin(&mut self, rest: &str) -> Result<String> {
         let mut block = Vec::new(self.alloc);
         for entry in &words(self.alloc, rest)? {
@@ -190,16 +196,19 @@ impl Session {
         Ok(String::new(self.alloc))
     }
 
+    /// Sets the limits of `ask` and `verdict`.
     fn limit(&mut self, rest: &str) -> Result<String> {
         self.limits = limits_of(rest).unwrap_or(STANDARD);
         Ok(String::new(self.alloc))
     }
 
+    /// Runs a command, and shows what it wrote.
     fn run(&mut self, rest: &str) -> Result<String> {
         let args = words(self.alloc, rest)?;
         command(self.alloc, args.as_slice(), &self.env, &mut self.tree)?.shown(self.alloc)
     }
 
+    /// Runs a command, shows what it wrote, and goes on from what it makes of the variables.
     fn go(&mut self, rest: &str) -> Result<String> {
         let args = words(self.alloc, rest)?;
         let written = command(self.alloc, args.as_slice(), &self.env, &mut self.tree)?;
@@ -210,8 +219,7 @@ impl Session {
         Ok(text)
     }
 
-    /// Goes on from what an accepted command makes of the variables, and says what differs between the calls that run
-    /// it.
+    /// Goes on from what an accepted command makes of the variables; a line names a call that does otherwise.
     fn follow(&mut self, args: &[String], out: &str) -> Result<&'static str> {
         let [word, words @ ..] = args else {
             return Ok("no shell\n");
@@ -223,6 +231,7 @@ impl Session {
         self.follow_request(shell, &request, out)
     }
 
+    /// The same, by the request of the command.
     fn follow_request(
         &mut self,
         shell: Shell,
@@ -231,10 +240,10 @@ impl Session {
     ) -> Result<&'static str> {
         let reply = run(self.alloc, request, &self.env, &mut self.tree, STANDARD)?;
         let changed = run_changes(self.alloc, request, &self.env, &mut self.tree, STANDARD)?;
-        if !says(self.alloc, shell, changed.changes.as_slice(), out)? {
+        if !prints(self.alloc, shell, changed.changes.as_slice(), out)? {
             return Ok("run_changes says another text\n");
         }
-        if !says_difference(self.alloc, shell, &self.env, &reply.env, out)? {
+        if !prints_difference(self.alloc, shell, &self.env, &reply.env, out)? {
             return Ok("run leaves another environment\n");
         }
         self.env.apply(changed.changes)?;
@@ -251,7 +260,7 @@ impl Session {
         run_changes(self.alloc, &request, &self.env, &mut self.tree, self.limits)
     }
 
-    /// The number of what a request for sh is refused by, if it is refused, and what is shown of it.
+    /// The number by which a request for sh is refused, if it is, and the answer as it is shown.
     fn answered(&mut self, rest: &str) -> Result<(Option<u16>, String)> {
         match self.changed(rest) {
             Ok(changed) => Ok((None, shown_changed(self.alloc, &changed)?)),
@@ -259,6 +268,7 @@ impl Session {
         }
     }
 
+    /// Runs a request, and shows what it changes.
     fn ask(&mut self, rest: &str) -> Result<String> {
         let (number, mut text) = self.answered(rest)?;
         let differs = difference(
@@ -273,6 +283,7 @@ impl Session {
         Ok(text)
     }
 
+    /// Judges a module, and shows the verdict.
     fn judge(&mut self, rest: &str) -> Result<String> {
         let name = meant(self.alloc, rest)?;
         let verdict = verdict(
@@ -288,10 +299,12 @@ impl Session {
         })
     }
 
+    /// Rehearses requests, and shows what they print.
     fn rehearse(&mut self, rest: &str) -> Result<String> {
         shown_rehearsal(self.alloc, rest, &self.env, &mut self.tree, STANDARD)
     }
 
+    /// Runs requests where memory is refused for the file at a path.
     fn poor(&mut self, rest: &str) -> Result<String> {
         let (path, rest) = parted(rest);
         let mut tree = Poor {
@@ -301,6 +314,7 @@ impl Session {
         shown_session(self.alloc, rest, &self.env, &mut tree)
     }
 
+    /// Runs a command over writers that take so many bytes.
     fn write(&mut self, rest: &str) -> Result<String> {
         let (out_room, rest) = parted(rest);
         let (err_room, rest) = parted(rest);
@@ -319,15 +333,15 @@ impl Session {
         shown_exit(self.alloc, exit, &out, &err)
     }
 
-    /// Runs a command while each call of its tree in turn fails, up to the first that no call is left for.
+    /// Runs a command while each call of its tree in turn fails, until one more than it makes would fail.
     fn failing(&mut self, rest: &str) -> Result<String> {
         let args = words(self.alloc, rest)?;
         let mut text = String::new(self.alloc);
         let mut last = String::new(self.alloc);
-        for left in 0..MOST_CALLS {
+        for remaining in 0..MOST_CALLS {
             let mut tree = Failing {
                 tree: &mut self.tree,
-                left,
+                remaining,
                 failed: 0,
             };
             let written = command(self.alloc, args.as_slice(), &self.env, &mut tree)?;
@@ -345,6 +359,7 @@ impl Session {
         Ok(text)
     }
 
+    /// Shows the line that is written of a refusal.
     fn refused(&mut self, rest: &str) -> Result<String> {
         let (kind, word) = parted(rest);
         let fault = fault_named(self.alloc, kind, word)?;

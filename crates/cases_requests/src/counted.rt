@@ -1,4 +1,4 @@
-//! A tree that counts the calls of another.
+//! A tree that counts how often another is read and listed.
 ghost use Rattle.std.specs.Prelude.{◌≡◌, IfOk};
 
 use filetree::{Tree, TreeFault};
@@ -8,28 +8,30 @@ use std::alloc::{AllocError, Global};
 #[derive(Drop)]
 pub struct Counts {
     /// The file that was asked about last, by its path.
-    asked: String,
+    last_path: String,
     /// How often another file was asked about than before.
     pub reads: u64,
     /// How often a file was read whole.
-    pub wholes: u64,
+    pub whole_reads: u64,
+    /// How often a folder was listed.
     pub listings: u64,
 }
 
 impl Counts {
+    /// Nothing was asked yet.
     fn new(alloc: Global) -> Counts {
         Counts {
-            asked: String::new(alloc),
+            last_path: String::new(alloc),
             reads: 0,
-            wholes: 0,
+            whole_reads: 0,
             listings: 0,
         }
     }
 
     /// Counts the file at the path, where the one before was another.
     fn ask(&mut self, alloc: Global, path: &str) -> Result<(), AllocError> {
-        if self.reads == 0 || self.asked.as_str() != path {
-            self.asked = String::from_str(alloc, path)?;
+        if self.reads == 0 || self.last_path.as_str() != path {
+            self.last_path = String::from_str(alloc, path)?;
             self.reads = self.reads.saturating_add(1);
         }
         Ok(())
@@ -66,13 +68,13 @@ impl<T: Tree> Tree for Counted<'_, T> {
 
     fn read(&mut self, path: &str) -> Result<Option<Vec<u8>>, TreeFault> {
         self.counts.ask(self.alloc, path)?;
-        self.counts.wholes = self.counts.wholes.saturating_add(1);
+        self.counts.whole_reads = self.counts.whole_reads.saturating_add(1);
         self.tree.read(path)
     }
 
-    fn begins_with(&mut self, path: &str, front: &[u8]) -> Result<bool, TreeFault> {
+    fn begins_with(&mut self, path: &str, prefix: &[u8]) -> Result<bool, TreeFault> {
         self.counts.ask(self.alloc, path)?;
-        self.tree.begins_with(path, front)
+        self.tree.begins_with(path, prefix)
     }
 
     fn entries(&mut self, dir: &str) -> Result<Option<Vec<String>>, TreeFault> {

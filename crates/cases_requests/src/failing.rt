@@ -1,14 +1,14 @@
-//! Trees that fail.
+//! Trees of which one call fails, or one file has no memory.
 ghost use Rattle.std.specs.Prelude.{◌+◌};
 
 use filetree::{Tree, TreeFault};
 
-/// A tree of whose calls one fails, once so many were answered: its device.
+/// A tree over another, of whose calls one fails as a device does, after so many were answered.
 #[derive(Drop)]
 pub(crate) struct Failing<'a, T> {
     pub(crate) tree: &'a mut T,
     /// How many calls are answered before the one that fails.
-    pub(crate) left: u64,
+    pub(crate) remaining: u64,
     /// How many calls have failed: none, or one.
     pub(crate) failed: u64,
 }
@@ -21,20 +21,20 @@ impl<T: Tree> Tree for Failing<'_, T> {
     ghost agreeable = { λ t. T.agreeable t.tree.now };
 
     fn read(&mut self, path: &str) -> Result<Option<Vec<u8>>, TreeFault> {
-        if self.left == 0 && self.failed == 0 {
+        if self.remaining == 0 && self.failed == 0 {
             self.failed = 1;
             return Err(TreeFault::Device);
         }
-        self.left = self.left.saturating_sub(1);
+        self.remaining = self.remaining.saturating_sub(1);
         self.tree.read(path)
     }
 
     fn entries(&mut self, dir: &str) -> Result<Option<Vec<String>>, TreeFault> {
-        if self.left == 0 && self.failed == 0 {
+        if self.remaining == 0 && self.failed == 0 {
             self.failed = 1;
             return Err(TreeFault::Device);
         }
-        self.left = self.left.saturating_sub(1);
+        self.remaining = self.remaining.saturating_sub(1);
         self.tree.entries(dir)
     }
 }

@@ -1,55 +1,57 @@
-//! Answers questions about searches, modulefiles and commands, a paragraph of standard input after the other. The first
-//! line of a paragraph says what it is about.
+//! Worked examples of requests: answers questions about searches, modulefiles, whole commands and checks.
+//! Touches standard input and output, and reads files and folders of the disk; else it works over trees in memory.
+//! Nothing stands above it; the files `stdin` and `stdout` of this crate are the questions and the answers.
+//!
+//! The questions stand in paragraphs of standard input. The first line of a paragraph says what it is about.
 //!
 //! `searches`: `file PATH TEXT` and `bytes PATH TEXT` put a file into a tree in memory, where `;` parts the lines of
 //! the text, and `bytes` adds a byte that is not UTF-8; `folder PATH NAME...` puts a folder; `new` begins a new tree.
 //! `locate MODULEPATH NAME` and `avail MODULEPATH` search it, `disk locate MODULEPATH NAME` and `disk avail MODULEPATH`
-//! a disk. Behind an answer stands how often the tree was asked about another file than before, and listed; `whole
-//! locate ..` and `whole avail ..` say how many files were read whole. `limits COMMANDS DEPTH BYTES` says how far
-//! the evaluation of each default file may go from then on; at first as the program `modulecmd` lets it go. The other
+//! a disk. After an answer stands how often the tree was asked about another file than before, and listed; `whole
+//! locate ..` and `whole avail ..` show how many files were read whole. `limits COMMANDS DEPTH BYTES` sets the limits
+//! on the evaluation of each default file from then on; at first they are those of the program `modulecmd`. The other
 //! lines call a part of the search: `text MODULEPATH NAME`, `read PATH`, `evaluate PATH TEXT`, `directories
 //! MODULEPATH`, `path DIR NAME` and `order LEFT RIGHT`.
 //!
-//! `files`: `# TITLE` begins a row: no variable is set, no module is loaded, and the file has its cookie alone. `set
-//! NAME VALUE` sets a variable, `loaded NAME...` says which modules are loaded, `in SHELL MODULE TYPED` for which
-//! shell, module and typed name the file is run, and `commands COUNT` how many commands it may run. `text LINE` adds a
-//! line to the file, and `clear` takes them all out. `load`, `unload`, `display`, `whatis`, `switch load` and `switch
-//! unload` run the file in this mode over the variables, which are from then on those that it leaves. The answer is
+//! `files`: `# TITLE` begins an example: no variable is set, no module is loaded, and the file has its cookie alone.
+//! `set NAME VALUE` sets a variable, `loaded NAME...` sets the loaded modules, `in SHELL MODULE TYPED` the shell,
+//! module and typed name for which the file is run, and `commands COUNT` how many commands it may run. `text LINE` adds
+//! a line to the file, and `clear` takes them all out. `load`, `unload`, `display`, `whatis`, `switch load` and `switch
+//! unload` run the file in this mode over the variables; the next line goes on from those that result. The answer is
 //! `ok`, with `asked` where the file asked about its surroundings, or the number and the text of the refusal. Then come
 //! its messages, what `display` and `whatis` report, and the variables that changed. `records` shows the records of the
 //! run before it. A newline in a message or a value is shown as `␤`.
 //!
-//! `commands` are calls of `modulecmd`, `modules` and `rehearsal`, each shown behind `> `. They share files and folders
+//! `commands` are calls of `modulecmd`, `modules` and `rehearsal`, each shown after `> `. They share files and folders
 //! in memory and an environment. In a text `\n`, `\t`, `\s`, `\z` and `\\` stand for a newline, a tab, a space, NUL and
 //! a backslash; words are parted by blanks, and the word `''` is empty.
 //!
 //! `new` begins a new tree. `module PATH TEXT` puts a modulefile there, whose first line is the cookie; `file PATH
-//! TEXT` and `bytes PATH TEXT` a file of this text, or of it and a byte that is no UTF-8 behind it; `dir PATH NAME...`
-//! a folder with these names. `from NAME=VALUE...` are the variables from there on.
+//! TEXT` and `bytes PATH TEXT` a file of this text, or of it and after it a byte that is no UTF-8; `dir PATH NAME...` a
+//! folder with these names. `from NAME=VALUE...` are the variables from there on.
 //!
 //! `run WORD...` runs a command with these arguments, and shows what it wrote to standard output, each line of standard
-//! error behind `! `, and its status. `go WORD...` does the same, and then the variables are what the command makes of
+//! error after `! `, and its status. `go WORD...` does the same, and then the variables are what the command makes of
 //! them, where `run`, `run_changes`, the printed text and the exact difference agree. `vars` shows them. `ask WORD...`
-//! runs a request under the limits of `limits COMMANDS DEPTH BYTES` and shows its changes, loaded names,
-//! messages and report, or the number and the text of its refusal; it says so where `run` or a session of this request
-//! answers another number. There `nameless KIND` is a request without names, as no words make one.
-//! `verdict NAME` judges a module under these limits.
-//! `session REQUEST, REQUEST...` runs requests one after another, and shows what came of each and how the variables at
-//! the end differ from those at the start. `rehearse SHELL REQUEST, SHELL REQUEST...` rehearses requests: for each
-//! `accepted` and the text that it prints, or `none`, and then the variables that are left. `poor PATH REQUEST,
-//! REQUEST...` does so where memory is refused for the file at the path. `write OUT ERR KIND WORD...` runs a command
-//! whose writers take so many bytes, and shows how it ended and what they hold. `failing WORD...` runs a command while
-//! each of its reads and listings in turn fails, and shows what is new of its answers. `refused KIND WORD` shows the
-//! line that is written of a refusal.
+//! runs a request under the limits of `limits COMMANDS DEPTH BYTES` and shows its changes, loaded names, messages and
+//! report, or the number and the text of its refusal; a line more stands where `run` or a session of this request
+//! answers another number. There `nameless KIND` is a request without names, as no words make one. `verdict NAME`
+//! judges a module under these limits. `session REQUEST, REQUEST...` runs requests one after another, and shows the
+//! outcome of each and how the variables at the end differ from those at the start. `rehearse SHELL REQUEST, SHELL
+//! REQUEST...` rehearses requests: for each `accepted` and the text that it prints, or `none`, and then the variables
+//! at the end. `poor PATH REQUEST, REQUEST...` runs requests where memory is refused for the file at the path. `write
+//! OUT ERR KIND WORD...` runs a command whose writers take so many bytes, and shows how it ended and what they hold.
+//! `failing WORD...` runs a command while each of its reads and listings in turn fails, and shows what is new of its
+//! answers. `refused KIND WORD` shows the line that is written of a refusal.
 //!
 //! `checks` are checks of lines. `new`, `folder`, `file` and `bytes` make the tree as for searches; `from
 //! NAME=VALUE...` are the variables, `arguments WORD...` the arguments from there on. `check TEXT` checks this input,
-//! and shows what it wrote to standard output, each line of standard error behind `! `, and its status. `spoilt COUNT
-//! TEXT` does so where the input fails behind so many bytes, `odd TEXT` where a byte that is not UTF-8 stands behind
-//! it, `long COUNT TEXT` where blanks fill it up to so many bytes; they say how many bytes were read. `write OUT ERR
-//! KIND TEXT` checks over writers that take so many bytes, and shows how it ended and what they hold. `failing TEXT`
-//! checks while each read and listing of the tree in turn fails, and shows what is new of the answers; `poor PATH TEXT`
-//! where memory is refused for the file at the path.
+//! and shows what it wrote to standard output, each line of standard error after `! `, and its status. `spoilt COUNT
+//! TEXT` does so where the input fails after so many bytes, `odd TEXT` where a byte that is not UTF-8 stands after it,
+//! `long COUNT TEXT` where blanks fill it up to so many bytes; they show how many bytes were read. `write OUT ERR KIND
+//! TEXT` checks over writers that take so many bytes, and shows how it ended and what they hold. `failing TEXT` checks
+//! while each read and listing of the tree in turn fails, and shows what is new of the answers; `poor PATH TEXT` where
+//! memory is refused for the file at the path.
 #![tactic(auto)]
 
 mod calls;
@@ -58,17 +60,17 @@ mod commands;
 mod counted;
 mod failing;
 mod parts;
-mod places;
 mod rehearsed;
 mod runs;
 mod searches;
 mod shown;
 mod texts;
+mod trees;
 mod writers;
 
 use std::io;
 
-/// Answers a paragraph.
+/// Answers a paragraph, and ends with an empty line.
 fn answer(rt: &HostRuntime, paragraph: &[String]) -> io::Result<()> {
     let Some((subject, lines)) = paragraph.split_first() else {
         return Ok(());
@@ -83,6 +85,7 @@ fn answer(rt: &HostRuntime, paragraph: &[String]) -> io::Result<()> {
     println!(rt;)
 }
 
+/// Answers each paragraph of standard input.
 fn main(rt: HostRuntime) -> io::Result<()> {
     let alloc = rt.alloc();
     let mut paragraph = Vec::new(alloc);

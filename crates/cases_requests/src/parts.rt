@@ -1,7 +1,7 @@
-//! The parts of a search, each called by itself.
+//! Questions about the parts of a search, each called by itself.
 
-use crate::places::file_text;
 use crate::texts::push_all;
+use crate::trees::file_text;
 use defaultfiles::Evaluated;
 use filetree::{MemoryTree, Modulefile, read_modulefile};
 use lookup::{Limits, version_order};
@@ -47,7 +47,7 @@ fn read_text(alloc: Global, tree: &mut MemoryTree, path: &str) -> Result<String,
     }
 }
 
-/// The words of each command in brackets, and the version behind them.
+/// The words of each command in brackets, and then the version.
 fn ended_text(alloc: Global, ended: &Ended) -> Result<String, AllocError> {
     let mut text = String::new(alloc);
     for words in &ended.commands {
@@ -64,7 +64,7 @@ fn ended_text(alloc: Global, ended: &Ended) -> Result<String, AllocError> {
     Ok(text)
 }
 
-/// What a default file leaves.
+/// The result of a default file.
 fn evaluated_text(
     alloc: Global,
     limits: Limits,
@@ -90,6 +90,7 @@ fn directories_text(alloc: Global, modulepath: &str) -> Result<String, AllocErro
     Ok(text)
 }
 
+/// The order of two versions, in words.
 fn order_text(left: &str, right: &str) -> &'static str {
     match version_order(left, right) {
         Ordering::Less => "less",

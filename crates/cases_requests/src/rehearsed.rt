@@ -1,4 +1,4 @@
-//! Sessions that are rehearsed.
+//! Rehearsals of requests, and the requests of a line.
 use crate::shown::variables;
 use crate::texts::{parted, words};
 use anyhow::Result;
@@ -26,7 +26,7 @@ pub(crate) fn request_of(alloc: Global, shell: Shell, line: &str) -> Result<Requ
     }
 }
 
-/// The requests of a line, parted by commas: each behind the name of its shell, or all for sh.
+/// The requests of a line, parted by commas: each after the name of its shell, or all for sh.
 pub(crate) fn requests(alloc: Global, line: &str, have_shells: bool) -> Result<Vec<Request>> {
     let mut requests = Vec::new(alloc);
     for part in line.split(',') {
@@ -55,7 +55,7 @@ fn shown_prints(alloc: Global, prints: &[Option<String>]) -> Result<String, Allo
     Ok(text)
 }
 
-/// Rehearses requests, and shows what is printed for each and the variables that are left.
+/// Rehearses requests, and shows what is printed for each and the variables at the end.
 pub(crate) fn shown_rehearsal<T: Tree>(
     alloc: Global,
     line: &str,
@@ -64,8 +64,8 @@ pub(crate) fn shown_rehearsal<T: Tree>(
     limits: Limits,
 ) -> Result<String> {
     let requests = requests(alloc, line, true)?;
-    let (left, prints) = rehearse(alloc, requests.as_slice(), env.copy()?, tree, limits)?;
+    let (end, prints) = rehearse(alloc, requests.as_slice(), env.copy()?, tree, limits)?;
     let prints = shown_prints(alloc, prints.as_slice())?;
-    let left = variables(alloc, &left)?;
-    Ok(format!(in alloc; "{prints}left\n{left}")?)
+    let end = variables(alloc, &end)?;
+    Ok(format!(in alloc; "{prints}left\n{end}")?)
 }

@@ -1,4 +1,4 @@
-//! Modulefiles, each with what it is run over.
+//! Questions about modulefiles, each with the variables and the context that it is run over.
 use crate::texts::{STANDARD, parted, push_all};
 use environment::{Change, Env, Vars, changes};
 use modulefile::{Mode, Record, Shell};
@@ -7,9 +7,10 @@ use std::alloc::{AllocError, Global};
 use std::io;
 use tclrules::Limits;
 
+/// The line with which a modulefile begins.
 const COOKIE: &str = "#%Module\n";
 
-/// A modulefile, the variables that it is run over, and the records that its last run left.
+/// A modulefile, what it is run over, and the records that its last run made.
 #[derive(Drop)]
 struct Row {
     alloc: Global,
@@ -36,7 +37,7 @@ fn mode_named(words: &str) -> Option<(Mode, bool)> {
     }
 }
 
-/// Adds the lines of a text, further in.
+/// Adds the lines of a text, indented.
 fn push_lines(answer: &mut String, text: &str) -> Result<(), AllocError> {
     for line in text.lines() {
         push_all(answer, &["\n  ", line])?;
@@ -46,8 +47,8 @@ fn push_lines(answer: &mut String, text: &str) -> Result<(), AllocError> {
 
 /// Adds a text with a sign for each newline in it.
 fn push_shown(answer: &mut String, text: &str) -> Result<(), AllocError> {
-    for (place, line) in text.split('\n').enumerate() {
-        if place > 0 {
+    for (index, line) in text.split('\n').enumerate() {
+        if index > 0 {
             answer.push('␤')?;
         }
         answer.push_str(line)?;
@@ -55,6 +56,7 @@ fn push_shown(answer: &mut String, text: &str) -> Result<(), AllocError> {
     Ok(())
 }
 
+/// Adds a variable with its new value.
 fn push_change(answer: &mut String, change: &Change) -> Result<(), AllocError> {
     push_all(answer, &["\n  ", &change.name])?;
     match &change.value {
@@ -66,7 +68,7 @@ fn push_change(answer: &mut String, change: &Change) -> Result<(), AllocError> {
     }
 }
 
-/// What is shown of a file that ended.
+/// The answer to a run that wasn't refused: its messages and its report.
 fn ran_text(alloc: Global, ran: &Ran, report: &str) -> Result<String, AllocError> {
     let mut text = String::from_str(alloc, if ran.asked { "ok, asked" } else { "ok" })?;
     for message in &ran.messages {
@@ -77,6 +79,7 @@ fn ran_text(alloc: Global, ran: &Ran, report: &str) -> Result<String, AllocError
     Ok(text)
 }
 
+/// The words of a line.
 fn names(alloc: Global, words: &str) -> Result<Vec<String>, AllocError> {
     let mut names = Vec::new(alloc);
     for word in words.split_whitespace() {
@@ -86,6 +89,7 @@ fn names(alloc: Global, words: &str) -> Result<Vec<String>, AllocError> {
 }
 
 impl Row {
+    /// An example at its beginning.
     fn new(alloc: Global) -> Result<Row, AllocError> {
         Ok(Row {
             alloc,
@@ -100,7 +104,7 @@ impl Row {
         })
     }
 
-    /// Takes up what a line says; None where it isn't a line.
+    /// Takes up what a line sets; None where it sets nothing.
     fn take(&mut self, word: &str, rest: &str) -> Result<Option<()>, AllocError> {
         match word {
             "set" => {
@@ -108,7 +112,7 @@ impl Row {
                 self.env.set(name, value).map_err(|_| AllocError)?;
             }
             "loaded" => self.loaded = names(self.alloc, rest)?,
-            "in" => return self.place(rest),
+            "in" => return self.set_module(rest),
             "commands" => match rest.parse::<u64>() {
                 Ok(count) => self.limits.commands = count,
                 Err(_) => return Ok(None),
@@ -123,8 +127,8 @@ impl Row {
         Ok(Some(()))
     }
 
-    /// The shell, module and typed name that the file is run for.
-    fn place(&mut self, words: &str) -> Result<Option<()>, AllocError> {
+    /// Sets the shell, module and typed name that the file is run for; None where the words aren't these three.
+    fn set_module(&mut self, words: &str) -> Result<Option<()>, AllocError> {
         let words = names(self.alloc, words)?;
         let [shell, module, typed] = words.as_slice() else {
             return Ok(None);
@@ -138,6 +142,7 @@ impl Row {
         Ok(Some(()))
     }
 
+    /// The report that a mode makes of records.
     fn report(&self, mode: Mode, path: &str, records: &[Record]) -> Result<String, AllocError> {
         match mode {
             Mode::Display => show_report(self.alloc, path, records),
@@ -146,7 +151,7 @@ impl Row {
         }
     }
 
-    /// Runs the file, and says what it came to.
+    /// Runs the file, and answers how that went.
     fn ran(&mut self, mode: Mode, in_switch: bool, path: &str) -> Result<String, AllocError> {
         let context = Context {
             mode,
@@ -171,6 +176,7 @@ impl Row {
         }
     }
 
+    /// Runs the file, and answers how that went and which variables changed.
     fn run(&mut self, mode: Mode, in_switch: bool) -> Result<String, AllocError> {
         let module = self.module.as_str();
         let path = format!(in self.alloc; "/m/{module}")?;
@@ -201,7 +207,7 @@ impl Row {
     }
 }
 
-/// Answers lines of rows.
+/// Answers lines of examples.
 pub(crate) fn answer(rt: &HostRuntime, lines: &[String]) -> io::Result<()> {
     let mut row = Row::new(rt.alloc())?;
     for line in lines {

@@ -1,13 +1,14 @@
-//! Searches over a tree, with how often it was read and listed.
+//! Questions about searches over a tree, with how often it was read and listed.
 
 use crate::counted::Counted;
 use crate::texts::{STANDARD, limits_of, parted, push_all};
-use crate::{parts, places};
+use crate::{parts, trees};
 use filetree::MemoryTree;
 use lookup::{DiskTree, Limits, Listing, Tree, available, locate};
 use std::alloc::{AllocError, Global};
 use std::io;
 
+/// The module that a name means, or why there is none.
 fn locate_text<T: Tree>(
     alloc: Global,
     tree: &mut T,
@@ -28,7 +29,7 @@ fn locate_text<T: Tree>(
     }
 }
 
-/// Modules behind their directories; a directory stands once before those that follow one another in it.
+/// Modules after their directories; a directory stands once before the modules that follow one another in it.
 fn listings_text(alloc: Global, listings: &[Listing]) -> Result<String, AllocError> {
     let mut text = String::new(alloc);
     let mut dir: Option<&str> = None;
@@ -47,6 +48,7 @@ fn listings_text(alloc: Global, listings: &[Listing]) -> Result<String, AllocErr
     Ok(text)
 }
 
+/// All modules along a MODULEPATH, or why there is no list.
 fn avail_text<T: Tree>(
     alloc: Global,
     tree: &mut T,
@@ -97,9 +99,9 @@ fn searched<T: Tree>(
     };
     let answer = answer.as_str().trim_end();
     let counts = &tree.counts;
-    let (reads, wholes, listings) = (counts.reads, counts.wholes, counts.listings);
+    let (reads, whole_reads, listings) = (counts.reads, counts.whole_reads, counts.listings);
     Ok(Some(if is_whole {
-        format!(in alloc; "{answer} [{wholes} whole]")?
+        format!(in alloc; "{answer} [{whole_reads} whole]")?
     } else {
         format!(in alloc; "{answer} [{reads} read, {listings} listed]")?
     }))
@@ -132,7 +134,7 @@ pub(crate) fn answer(rt: &HostRuntime, lines: &[String]) -> io::Result<()> {
         let (kind, rest) = parted(line);
         if kind == "limits" {
             limits = limits_of(rest).unwrap_or(STANDARD);
-        } else if !places::put(rt.alloc(), &mut tree, kind, rest)? {
+        } else if !trees::put(rt.alloc(), &mut tree, kind, rest)? {
             match answered(rt, &mut tree, limits, kind, rest)? {
                 Some(answer) => println!(rt; "{answer}")?,
                 None => println!(rt; "bad line")?,

@@ -10,7 +10,7 @@ pub(crate) fn held(alloc: Global, bytes: &[u8]) -> Result<String, AllocError> {
     String::from_str(alloc, str::from_utf8(bytes).unwrap_or("not UTF-8"))
 }
 
-/// How a command ended.
+/// The words for how a command ended.
 pub(crate) fn exit_name(exit: Exit) -> &'static str {
     match exit {
         Exit::Success => "success",
@@ -28,7 +28,7 @@ pub(crate) fn verdict_line(verdict: Verdict) -> &'static str {
     }
 }
 
-/// Each line behind a mark; a last line without its end has `\` behind it.
+/// Each line after a mark; a last line without its end has a backslash after it.
 pub(crate) fn marked(alloc: Global, mark: &str, text: &str) -> Result<String, AllocError> {
     let mut out = String::new(alloc);
     for line in text.split_inclusive('\n') {
@@ -52,11 +52,11 @@ pub(crate) fn variables(alloc: Global, env: &Env) -> Result<String> {
 pub(crate) fn differences(alloc: Global, changes: &[Change]) -> Result<String, AllocError> {
     let mut text = String::new(alloc);
     for change in changes {
-        let (before, behind, value) = match &change.value {
+        let (prefix, separator, value) = match &change.value {
             Some(value) => ("", "=", value.as_str()),
             None => ("unset ", "", ""),
         };
-        push_all(&mut text, &[before, &change.name, behind, value, "\n"])?;
+        push_all(&mut text, &[prefix, &change.name, separator, value, "\n"])?;
     }
     Ok(text)
 }
@@ -99,7 +99,7 @@ pub(crate) fn shown_refusal(alloc: Global, refusal: &Refusal) -> Result<String, 
     format!(in alloc; "{number} {refusal}\n")
 }
 
-/// What came of a request.
+/// The outcome of a request.
 pub(crate) fn shown_outcome(alloc: Global, outcome: &Outcome) -> Result<String, AllocError> {
     match outcome {
         Outcome::Accepted(done) => {

@@ -1,8 +1,8 @@
-//! Texts as they are meant, and limits.
+//! Texts of lines: what escapes in them mean, their words, and limits.
 use std::alloc::{AllocError, Global};
 use tclrules::Limits;
 
-/// How far the program `modulecmd` lets an evaluation go.
+/// The limits of the program `modulecmd`.
 pub(crate) const STANDARD: Limits = Limits {
     commands: 100_000,
     depth: 200,
@@ -20,7 +20,7 @@ pub(crate) fn limits_of(line: &str) -> Option<Limits> {
     })
 }
 
-/// The words of a line, parted by blanks, as they are meant; `''` is empty. A line without a text has none.
+/// The words of a line, parted by blanks, with what their escapes mean; `''` is empty. An empty line has none.
 pub(crate) fn words(alloc: Global, line: &str) -> Result<Vec<String>, AllocError> {
     let mut words = Vec::new(alloc);
     for word in line.split(' ') {
@@ -33,7 +33,7 @@ pub(crate) fn words(alloc: Global, line: &str) -> Result<Vec<String>, AllocError
     Ok(words)
 }
 
-/// The character that is meant by this one behind a backslash.
+/// The character that this one means after a backslash.
 fn meant_by(c: char) -> char {
     match c {
         'n' => '\n',
@@ -44,16 +44,16 @@ fn meant_by(c: char) -> char {
     }
 }
 
-/// A text as it is meant.
+/// A text with what its escapes mean.
 pub(crate) fn meant(alloc: Global, text: &str) -> Result<String, AllocError> {
     let mut out = String::new(alloc);
-    let mut is_behind = false;
+    let mut is_escaped = false;
     for c in text.chars() {
-        if is_behind {
+        if is_escaped {
             out.push(meant_by(c))?;
-            is_behind = false;
+            is_escaped = false;
         } else if c == '\\' {
-            is_behind = true;
+            is_escaped = true;
         } else {
             out.push(c)?;
         }
@@ -66,7 +66,7 @@ pub(crate) fn number(word: &str) -> u64 {
     word.parse::<u64>().unwrap_or(0)
 }
 
-/// The first word and the text behind it.
+/// The first word, and the text after it.
 pub(crate) fn parted(line: &str) -> (&str, &str) {
     line.split_once(' ').unwrap_or((line, ""))
 }

@@ -1,4 +1,4 @@
-//! Writers that fail.
+//! Writers that take few bytes, and then fail.
 ghost use Rattle.std.specs.Prelude.{Some};
 
 use std::alloc::Global;
@@ -8,12 +8,16 @@ use std::io::{ErrorKind, Write};
 /// A writer that takes at most three bytes at a time, and fails once it is full.
 #[derive(Drop)]
 pub(crate) struct Limited {
+    /// What was written.
     pub(crate) held: Vec<u8>,
+    /// How many bytes it takes.
     room: u64,
+    /// The error of a write to a full one; `WriteZero` stands for an answer of 0.
     fails_with: ErrorKind,
 }
 
 impl Limited {
+    /// An empty writer.
     pub(crate) fn new(alloc: Global, room: u64, fails_with: ErrorKind) -> Limited {
         Limited {
             held: Vec::new(alloc),
@@ -28,8 +32,8 @@ impl Write for Limited {
 
     fn write(&mut self, buf: &[u8]) -> io::Result<usize> {
         let held = self.held.len() as u64;
-        let left = self.room.saturating_sub(held).min(3) as usize;
-        let n = buf.len().min(left);
+        let remaining = self.room.saturating_sub(held).min(3) as usize;
+        let n = buf.len().min(remaining);
         if n == 0 {
             if self.fails_with == ErrorKind::WriteZero {
                 return Ok(0);

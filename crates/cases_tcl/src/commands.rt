@@ -1,6 +1,6 @@
 //! `command WORDS` runs a command that evaluates no script; the line is the list of its words. `enter` begins a
-//! procedure and `leave` ends it; `body NAME` is the script of a procedure, and `value TEXT` is what an expression
-//! without brackets comes to. A value has at most 64 bytes.
+//! procedure and `leave` ends it; `body NAME` is the script of a procedure, and `value TEXT` is the value of an
+//! expression without brackets. A value has at most 64 bytes.
 //!
 //! The answer is `ok RESULT`, `raised MESSAGE`, or `halted` with what halts.
 use crate::scripts::recorder;
@@ -18,21 +18,26 @@ use tclvariables::{Local, Variables};
 /// How many bytes a value may have.
 const LIMIT: usize = 64;
 
+/// No script is evaluated, so none of its limits but that of values counts.
 const LIMITS: Limits = Limits {
     commands: 0,
     depth: 0,
     value_bytes: LIMIT,
 };
 
-/// What the commands change.
+/// What the commands of all lines share and change.
 #[derive(Drop)]
 pub(crate) struct State {
+    /// The variables and procedures.
     variables: Variables,
+    /// The frames of the procedures that called, the last one last.
     callers: Vec<Option<Local>>,
+    /// What commands that are no core commands are handed to.
     host: Recorder,
 }
 
 impl State {
+    /// No variable is set; the host's environment has HOME.
     pub(crate) fn new(alloc: Global) -> Result<State, AllocError> {
         let mut host = recorder(alloc)?;
         host.environment.push((
@@ -47,6 +52,7 @@ impl State {
     }
 }
 
+/// The value of a command that evaluates no script, by its form.
 fn performed<'a>(alloc: Global, state: &mut State, form: Simple<'a>) -> Result<Value<'a>, Stop> {
     let variables = &mut state.variables;
     let host = &mut state.host;
@@ -67,6 +73,7 @@ fn performed<'a>(alloc: Global, state: &mut State, form: Simple<'a>) -> Result<V
     }
 }
 
+/// The script of a procedure; empty where there is none.
 fn body(alloc: Global, variables: &Variables, name: &str) -> Result<String, AllocError> {
     match variables.procedure(name) {
         Some(procedure) => String::from_str(alloc, procedure.body.as_str()),
@@ -74,7 +81,7 @@ fn body(alloc: Global, variables: &Variables, name: &str) -> Result<String, Allo
     }
 }
 
-/// The value, where a step has it.
+/// The value that a step has; halted where it needs another step.
 fn done(step: Result<Step<'_>, Stop>) -> Result<String, Stop> {
     match step? {
         Step::Done(text) => Ok(text),
@@ -82,7 +89,8 @@ fn done(step: Result<Step<'_>, Stop>) -> Result<String, Stop> {
     }
 }
 
-fn computed(alloc: Global, state: &mut State, owned: &OwnedExpr) -> Result<String, Stop> {
+/// The value of a parsed expression.
+fn expression_value(alloc: Global, state: &mut State, owned: &OwnedExpr) -> Result<String, Stop> {
     let context = Context {
         alloc,
         limits: LIMITS,
@@ -94,20 +102,23 @@ fn computed(alloc: Global, state: &mut State, owned: &OwnedExpr) -> Result<Strin
     done(advance(context, &mut state.host, &mut stack, control))
 }
 
+/// The value of an expression in a text.
 fn value(alloc: Global, state: &mut State, text: &str) -> Result<String, Stop> {
     match own_expr(alloc, String::from_str(alloc, text)?) {
-        Ok(owned) => computed(alloc, state, &owned),
+        Ok(owned) => expression_value(alloc, state, &owned),
         Err(fault) => Err(Stop::of_text(fault)),
     }
 }
 
-fn entered(alloc: Global, state: &mut State) -> Result<String, Stop> {
+/// Begins a procedure.
+fn enter(alloc: Global, state: &mut State) -> Result<String, Stop> {
     let caller = state.variables.enter(alloc);
     state.callers.push(caller)?;
     Ok(String::new(alloc))
 }
 
-fn left(alloc: Global, state: &mut State) -> String {
+/// Ends the procedure that was begun last; nothing where there is none.
+fn leave(alloc: Global, state: &mut State) -> String {
     if let Some(caller) = state.callers.pop() {
         state.variables.leave(caller);
     }
@@ -142,6 +153,7 @@ fn command<'a>(
     }
 }
 
+/// The text of that value.
 fn command_text(
     alloc: Global,
     state: &mut State,
@@ -164,6 +176,7 @@ enum Call<'a> {
     Command(&'a str, &'a [String]),
 }
 
+/// What the words of a line ask for.
 fn call_of(words: &[String]) -> Call<'_> {
     match words {
         [] => Call::Nothing,
@@ -175,17 +188,19 @@ fn call_of(words: &[String]) -> Call<'_> {
     }
 }
 
+/// The result of what the words of a line ask for.
 fn result(alloc: Global, state: &mut State, words: &[String]) -> Result<String, Stop> {
     match call_of(words) {
         Call::Nothing => Ok(String::new(alloc)),
-        Call::Enter => entered(alloc, state),
-        Call::Leave => Ok(left(alloc, state)),
+        Call::Enter => enter(alloc, state),
+        Call::Leave => Ok(leave(alloc, state)),
         Call::Body(name) => Ok(body(alloc, &state.variables, name)?),
         Call::Value(text) => value(alloc, state, text),
         Call::Command(name, rest) => command_text(alloc, state, name, rest, words),
     }
 }
 
+/// What halted an evaluation, in words.
 fn halted(alloc: Global, halt: Halt) -> Result<String, AllocError> {
     match halt {
         Halt::LeftOut(name) => format!(in alloc; "halted: left out {name}"),
@@ -197,6 +212,7 @@ fn halted(alloc: Global, halt: Halt) -> Result<String, AllocError> {
     }
 }
 
+/// A result or a fault, as the answer of its line.
 fn shown(alloc: Global, answer: Result<String, Stop>) -> Result<String, AllocError> {
     match answer {
         Ok(text) => format!(in alloc; "ok {text}"),
@@ -206,6 +222,7 @@ fn shown(alloc: Global, answer: Result<String, Stop>) -> Result<String, AllocErr
     }
 }
 
+/// The answer to a line.
 pub(crate) fn answer(alloc: Global, state: &mut State, line: &str) -> Result<String, AllocError> {
     let result = match elements(alloc, line) {
         Ok(words) => result(alloc, state, &words),

@@ -1,8 +1,8 @@
-//! Texts in hexadecimal digits, with `-` for the empty one. A text may be of parts with `+` between them, and of a part
-//! with `*TIMES` behind it.
+//! Texts in hexadecimal digits, with `-` for the empty one. A text may have parts with `+` between them, and a part
+//! `*TIMES` after it.
 use std::alloc::Global;
 
-/// A part of a text, as often as it says.
+/// Adds a part of a text, as often as it says.
 fn push_part(alloc: Global, text: &mut String, part: &str) -> Option<()> {
     let (digits, times) = part.split_once('*').unwrap_or((part, "1"));
     let once = String::from_utf8(hex::decode(alloc, digits).ok()?).ok()?;
@@ -30,6 +30,7 @@ pub(crate) fn texts_of(alloc: Global, words: &str) -> Option<Vec<String>> {
     Some(texts)
 }
 
+/// Adds a text in digits.
 pub(crate) fn push_shown(alloc: Global, line: &mut String, text: &str) -> Option<()> {
     if text.is_empty() {
         return line.push('-').ok();
@@ -37,7 +38,7 @@ pub(crate) fn push_shown(alloc: Global, line: &mut String, text: &str) -> Option
     line.push_str(&hex::encode(alloc, text).ok()?).ok()
 }
 
-/// A word, and a text behind it.
+/// A word, and after it a text in digits.
 pub(crate) fn shown(alloc: Global, word: &str, text: &str) -> Option<String> {
     let mut line = String::from_str(alloc, word).ok()?;
     line.push(' ').ok()?;

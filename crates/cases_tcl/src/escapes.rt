@@ -1,8 +1,9 @@
 //! Texts that stand in a line as they are, but for a backslash, which is doubled, and `\n`, `\t`, `\r`, `\|` for a
-//! newline, a tab, a carriage return and a bar. `\s` is a blank; any other character behind a backslash is itself. The
+//! newline, a tab, a carriage return and a bar. `\s` is a blank; any other character after a backslash is itself. The
 //! empty text is `-`.
 use std::alloc::{AllocError, Global};
 
+/// The character that this one means after a backslash.
 fn meant(escape: char) -> char {
     match escape {
         'n' => '\n',
@@ -33,6 +34,7 @@ pub(crate) fn text_of(alloc: Global, written: &str) -> Result<String, AllocError
     Ok(text)
 }
 
+/// Adds a character as it is written in a line.
 fn push_character(line: &mut String, character: char) -> Result<(), AllocError> {
     match character {
         '\\' => line.push_str("\\\\"),
@@ -44,7 +46,7 @@ fn push_character(line: &mut String, character: char) -> Result<(), AllocError> 
     }
 }
 
-/// Writes a text.
+/// Adds a text as it is written in a line.
 pub(crate) fn push_text(line: &mut String, text: &str) -> Result<(), AllocError> {
     match text {
         "" => return line.push('-'),

@@ -1,19 +1,25 @@
-//! Answers questions about Tcl, one a line on standard input; the first word says of which kind a question is.
+//! Worked examples of Tcl: answers questions about texts, values and scripts, a line of standard input each.
+//! Touches standard input and output; the evaluated scripts reach an example host (`Recorder`) and nothing else.
+//! Nothing stands above it; the files `stdin` and `stdout` of this crate are the questions and the answers.
+//!
+//! The first word of a line says of which kind its question is:
 //!
 //! - `text`, `value`: a call of tcltext, or of tclvalue (`texts.rt`, `values.rt`). Their texts are in hexadecimal
 //!   digits.
 //! - `command`: a command that evaluates no script, over variables that all these lines share (`commands.rt`).
-//! - `script`, `kept`: a script, and what it comes to or what is kept of it (`scripts.rt`, `kept.rt`). Their texts
-//!   stand as they are, but for the escapes of `escapes.rt`.
+//! - `script`: a script and its result (`scripts.rt`). Its texts stand as they are, but for the escapes of
+//!   `escapes.rt`.
+//! - `kept`: a script, and which texts are cached after its evaluation (`cache.rt`). The texts are written as in
+//!   `script`.
 //! - `#`: a heading, which is its own answer.
 //!
-//! Each answer is a line, and `no answer` stands for a line that asks nothing, and where memory ran out.
+//! Each answer is a line. `no answer` stands for a line that asks nothing, and for want of memory.
 #![tactic(auto)]
 
+mod cache;
 mod commands;
 mod digits;
 mod escapes;
-mod kept;
 mod scripts;
 mod texts;
 mod trees;
@@ -23,7 +29,7 @@ use crate::commands::State;
 use std::alloc::Global;
 use std::io;
 
-/// The answer to a question; None where the line is none, or memory ran out.
+/// The answer to a question; None where the line asks nothing, or memory ran out.
 fn answer(alloc: Global, state: &mut State, line: &str) -> Option<String> {
     let (kind, question) = line.split_once(' ')?;
     match kind {
@@ -31,12 +37,13 @@ fn answer(alloc: Global, state: &mut State, line: &str) -> Option<String> {
         "value" => values::answer(alloc, question),
         "command" => commands::answer(alloc, state, question).ok(),
         "script" => scripts::answer(alloc, question),
-        "kept" => kept::answer(alloc, question),
+        "kept" => cache::answer(alloc, question),
         "#" => String::from_str(alloc, line).ok(),
         _ => None,
     }
 }
 
+/// Answers each line of standard input by a line of standard output.
 fn main(rt: HostRuntime) -> io::Result<()> {
     let mut state = State::new(rt.alloc())?;
     for line in rt.lines(rt.alloc()) {

@@ -1,12 +1,12 @@
 //! `script NAME SETTING...: SCRIPT` evaluates a script. The settings are `commands=`, `depth=` and `bytes=` for limits
 //! other than those of the program, `mode=` for what `mode` answers (otherwise `load`), `env.NAME=` for a variable of
-//! the environment, and `var.NAME=` for a variable of the script. The host keeps the words of `setenv` and what `puts`
-//! says, answers `mode`, and refuses `conflict`.
+//! the environment, and `var.NAME=` for a variable of the script. The host records the words of `setenv` and what
+//! `puts` writes, answers `mode`, and refuses `conflict`.
 //!
-//! The answer is the name and, with tabs between them: `ok COUNT RESULT` with how many commands and turns were counted,
-//! or `err NUMBER LINE MESSAGE` with the line of an error, and 0 for that of another fault; `var NAME=VALUE` for each
-//! global variable where the script ended; `said MESSAGE` for each message; `kept WORDS` for each record, with bars
-//! between its words; and `asked`, where a question was asked.
+//! The answer is the name and, with tabs between them: `ok COUNT RESULT` with how many commands and turns of loops were
+//! counted, or `err NUMBER LINE MESSAGE` with the line of an error, and 0 for that of another fault; `var NAME=VALUE`
+//! for each global variable where the script ended; `said MESSAGE` for each message; `kept WORDS` for each record, with
+//! bars between its words; and `asked`, where a question was asked.
 use crate::escapes::{push_text, text_of};
 use std::alloc::{AllocError, Global};
 use tcleval::evaluate;
@@ -19,14 +19,18 @@ pub(crate) const LIMITS: Limits = Limits {
     value_bytes: 1_048_576,
 };
 
-/// What a script is given.
+/// What a script is evaluated under, and with.
 #[derive(Drop)]
 struct Setting {
+    /// Its limits.
     limits: Limits,
+    /// Its variables at the start.
     variables: Vec<(String, String)>,
+    /// The host of its commands.
     host: Recorder,
 }
 
+/// A host that has recorded nothing yet.
 pub(crate) fn recorder(alloc: Global) -> Result<Recorder, AllocError> {
     Ok(Recorder {
         alloc,
@@ -39,10 +43,12 @@ pub(crate) fn recorder(alloc: Global) -> Result<Recorder, AllocError> {
     })
 }
 
+/// A name and a value, as they are meant.
 fn pair(alloc: Global, name: &str, value: &str) -> Result<(String, String), AllocError> {
     Ok((text_of(alloc, name)?, text_of(alloc, value)?))
 }
 
+/// Adds a name and a value, as they are meant; None where memory ran out.
 fn push_pair(
     alloc: Global,
     pairs: &mut Vec<(String, String)>,
@@ -53,6 +59,7 @@ fn push_pair(
     pairs.push(pair).ok()
 }
 
+/// Sets a variable of the environment or of the script; None where the key names neither.
 fn set_variable(alloc: Global, setting: &mut Setting, key: &str, value: &str) -> Option<()> {
     match key.split_once('.')? {
         ("env", name) => push_pair(alloc, &mut setting.host.environment, name, value),
@@ -61,6 +68,7 @@ fn set_variable(alloc: Global, setting: &mut Setting, key: &str, value: &str) ->
     }
 }
 
+/// Takes up one setting; None where it is none.
 fn set(alloc: Global, setting: &mut Setting, word: &str) -> Option<()> {
     let (key, value) = word.split_once('=')?;
     match key {
@@ -73,6 +81,7 @@ fn set(alloc: Global, setting: &mut Setting, word: &str) -> Option<()> {
     Some(())
 }
 
+/// The settings of the words; None where one of them is none.
 fn setting_of(alloc: Global, words: &str) -> Option<Setting> {
     let mut setting = Setting {
         limits: LIMITS,
@@ -85,6 +94,7 @@ fn setting_of(alloc: Global, words: &str) -> Option<Setting> {
     Some(setting)
 }
 
+/// Adds the count, the result and the global variables of a script that ended.
 fn push_ending(alloc: Global, line: &mut String, ending: &Ending) -> Result<(), AllocError> {
     let count = ending.used_commands;
     line.push_str(&format!(in alloc; "ok {count} ")?)?;
@@ -95,6 +105,7 @@ fn push_ending(alloc: Global, line: &mut String, ending: &Ending) -> Result<(), 
     Ok(())
 }
 
+/// Adds a global variable.
 fn push_variable(line: &mut String, name: &str, value: &str) -> Result<(), AllocError> {
     line.push_str("\tvar ")?;
     push_text(line, name)?;
@@ -102,23 +113,25 @@ fn push_variable(line: &mut String, name: &str, value: &str) -> Result<(), Alloc
     push_text(line, value)
 }
 
+/// Adds a fault: its number, its line and its message.
 fn push_fault(alloc: Global, line: &mut String, fault: &EvalFault) -> Result<(), AllocError> {
     let number = fault.number();
-    let place = match fault {
-        EvalFault::TclError(_, place) => *place,
+    let line_number = match fault {
+        EvalFault::TclError(_, line_number) => *line_number,
         _ => 0,
     };
-    line.push_str(&format!(in alloc; "err {number} {place} ")?)?;
+    line.push_str(&format!(in alloc; "err {number} {line_number} ")?)?;
     match fault {
         EvalFault::TclError(message, _) => push_text(line, message),
         _ => push_text(line, &fault.to_string(alloc)?),
     }
 }
 
+/// Adds the words of a record.
 fn push_record(line: &mut String, record: &[String]) -> Result<(), AllocError> {
     line.push_str("\tkept ")?;
-    for (place, word) in record.iter().enumerate() {
-        if place > 0 {
+    for (index, word) in record.iter().enumerate() {
+        if index > 0 {
             line.push('|')?;
         }
         push_text(line, word)?;
@@ -126,13 +139,14 @@ fn push_record(line: &mut String, record: &[String]) -> Result<(), AllocError> {
     Ok(())
 }
 
+/// Adds a message.
 fn push_message(line: &mut String, message: &str) -> Result<(), AllocError> {
     line.push_str("\tsaid ")?;
     push_text(line, message)
 }
 
-/// What the host was told.
-fn push_told(line: &mut String, host: &Recorder) -> Result<(), AllocError> {
+/// Adds the messages and records of the host, and its mark.
+fn push_trace(line: &mut String, host: &Recorder) -> Result<(), AllocError> {
     for message in &host.messages {
         push_message(line, message)?;
     }
@@ -145,6 +159,7 @@ fn push_told(line: &mut String, host: &Recorder) -> Result<(), AllocError> {
     Ok(())
 }
 
+/// Adds the result of a script, or its fault.
 fn push_outcome(
     alloc: Global,
     line: &mut String,
@@ -156,6 +171,7 @@ fn push_outcome(
     }
 }
 
+/// Evaluates a script, and adds its outcome and what its host has recorded.
 fn push_evaluated(
     alloc: Global,
     line: &mut String,
@@ -169,10 +185,10 @@ fn push_evaluated(
     } = setting;
     let outcome = evaluate(alloc, script, variables, &mut host, limits);
     push_outcome(alloc, line, &outcome)?;
-    push_told(line, &host)
+    push_trace(line, &host)
 }
 
-/// What a script comes to.
+/// The answer to `script`; None where the line asks nothing, or memory ran out.
 pub(crate) fn answer(alloc: Global, question: &str) -> Option<String> {
     let (head, written) = question.split_once(": ")?;
     let (name, words) = head.split_once(' ').unwrap_or((head, ""));

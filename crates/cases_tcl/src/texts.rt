@@ -1,14 +1,14 @@
-//! `text VERB TEXT...` answers a call of tcltext: `list TEXT`, `write TEXT...`, `script TEXT`, `expr TEXT`,
-//! `glob PATTERN TEXT`, `number TEXT`.
+//! `text VERB TEXT...` answers a call of tcltext: `list TEXT`, `write TEXT...`, `script TEXT`, `expr TEXT`, `glob
+//! PATTERN TEXT`, `number TEXT`.
 //!
 //! `tree KIND TEXT` and `owned KIND TEXT` show a script or an expr as Rust prints it, with slices or with ranges of the
-//! text; `owned sources TEXT` the sources of its commands; `fault KIND TEXT` the fault, of a list too, and what it
-//! says; `range START END TEXT` the range of the text; `count TEXT` how many elements a list has; `memory` what want of
-//! it says.
+//! text; `owned sources TEXT` the sources of its commands; `fault KIND TEXT` the fault, of a list too, and its text;
+//! `range START END TEXT` the range of the text; `count TEXT` how many elements a list has; `memory` the text of want
+//! of memory.
 //!
-//! The answer is `ok` and what was read or written, `fault NUMBER` with the place where there is one, 1 or 0,
-//! or the class of a number. Of a script the words of each command are shown behind its place, parted by `;`, and a
-//! word with a substitution as `$`. An expression is written with parentheses around each operator and its operands,
+//! The answer is `ok` and what was read or written, `fault NUMBER` with the byte offset where there is one, 1 or 0, or
+//! the class of a number. Of a script the words of each command follow its byte offset, commands are parted by `;`, and
+//! a word with a substitution is `$`. An expression is written with parentheses around each operator and its operands,
 //! and `?` for a substitution.
 use crate::digits::{push_shown, shown, text_of, texts_of};
 use crate::trees::{fault, owned, tree};
@@ -18,7 +18,8 @@ use tcltext::{
     parse_expr, parse_list, parse_script, push_braced_text, read_number, write_list,
 };
 
-fn place_of(fault: &TextFault) -> Option<usize> {
+/// The byte offset of a fault, where it has one.
+fn offset_of(fault: &TextFault) -> Option<usize> {
     match fault {
         TextFault::OpenBrace(at)
         | TextFault::OpenQuote(at)
@@ -30,14 +31,16 @@ fn place_of(fault: &TextFault) -> Option<usize> {
     }
 }
 
+/// The number of a fault, and its byte offset.
 fn shown_fault(alloc: Global, fault: TextFault) -> Option<String> {
     let number = fault.number();
-    match place_of(&fault) {
+    match offset_of(&fault) {
         Some(at) => format!(in alloc; "fault {number} {at}").ok(),
         None => format!(in alloc; "fault {number}").ok(),
     }
 }
 
+/// The elements of a list.
 fn shown_list(alloc: Global, elements: &[String]) -> Option<String> {
     let mut line = String::from_str(alloc, "ok ").ok()?;
     for (i, element) in elements.iter().enumerate() {
@@ -63,9 +66,10 @@ fn word_text(alloc: Global, word: &Word<&str>) -> Result<Option<String>, AllocEr
     Ok(Some(text))
 }
 
+/// Adds a command: its byte offset and its words.
 fn push_command(alloc: Global, line: &mut String, command: &Command<&str>) -> Option<()> {
-    let place = command.place;
-    line.push_str(&format!(in alloc; "{place}:").ok()?).ok()?;
+    let offset = command.place;
+    line.push_str(&format!(in alloc; "{offset}:").ok()?).ok()?;
     for (i, word) in command.words.iter().enumerate() {
         if i > 0 {
             line.push(',').ok()?;
@@ -78,6 +82,7 @@ fn push_command(alloc: Global, line: &mut String, command: &Command<&str>) -> Op
     Some(())
 }
 
+/// The commands of a script.
 fn shown_script(alloc: Global, script: &Script<&str>) -> Option<String> {
     let mut line = String::from_str(alloc, "ok ").ok()?;
     for (i, command) in script.commands.iter().enumerate() {
@@ -103,6 +108,7 @@ fn push_operand(text: &mut String, operand: &Operand<&str>) -> Result<(), AllocE
     }
 }
 
+/// Adds the sign of an operator, between blanks.
 fn push_sign(text: &mut String, sign: &str) -> Result<(), AllocError> {
     text.push(' ')?;
     text.push_str(sign)?;
@@ -145,6 +151,7 @@ fn push_expression(text: &mut String, expression: &Expr<&str>) -> Result<(), All
     text.push(')')
 }
 
+/// An expression with all its parentheses.
 fn shown_expression(alloc: Global, expression: &Expr<&str>) -> Option<String> {
     let mut text = String::new(alloc);
     push_expression(&mut text, expression).ok()?;
@@ -161,6 +168,7 @@ fn written(alloc: Global, words: &str) -> Option<String> {
     shown(alloc, "ok", &write_list(alloc, elements.as_slice()).ok()?)
 }
 
+/// The class of a number, and a whole number itself.
 fn shown_number(alloc: Global, number: Numeral) -> Option<String> {
     match number {
         Numeral::Whole(value) => format!(in alloc; "whole {value}").ok(),
@@ -194,6 +202,7 @@ fn tree_answer(alloc: Global, verb: &str, rest: &str) -> Option<String> {
     }
 }
 
+/// The answer to a call `list TEXT`.
 fn list_answer(alloc: Global, text: &str) -> Option<String> {
     match parse_list(alloc, text) {
         Ok(elements) => shown_list(alloc, &elements),
@@ -201,6 +210,7 @@ fn list_answer(alloc: Global, text: &str) -> Option<String> {
     }
 }
 
+/// The answer to a call `script TEXT`.
 fn script_answer(alloc: Global, text: &str) -> Option<String> {
     match parse_script(alloc, text) {
         Ok(script) => shown_script(alloc, &script),
@@ -208,6 +218,7 @@ fn script_answer(alloc: Global, text: &str) -> Option<String> {
     }
 }
 
+/// The answer to a call `expr TEXT`.
 fn expression_answer(alloc: Global, text: &str) -> Option<String> {
     match parse_expr(alloc, text) {
         Ok(expression) => shown_expression(alloc, &expression),
@@ -240,7 +251,7 @@ fn text_answer(alloc: Global, verb: &str, text: &str) -> Option<String> {
     }
 }
 
-/// The answer to a call; None where the line is none, or memory ran out.
+/// The answer to a call; None where the line asks nothing, or memory ran out.
 pub(crate) fn answer(alloc: Global, line: &str) -> Option<String> {
     let (verb, rest) = line.split_once(' ').unwrap_or((line, ""));
     match verb {

@@ -1,4 +1,4 @@
-//! Trees as Rust prints them, and where their pieces stand.
+//! Trees of scripts and expressions as Rust prints them, and the sources of commands.
 use std::alloc::Global;
 use std::fmt::Debug;
 use tcltext::{
@@ -6,6 +6,7 @@ use tcltext::{
     parse_script,
 };
 
+/// Adds the parts of a word, after `*` where its list is expanded.
 fn push_word<P: Debug>(alloc: Global, line: &mut String, word: &Word<P>) -> Option<()> {
     let mark = if word.expands { "*" } else { "" };
     let parts = &word.parts;
@@ -13,16 +14,17 @@ fn push_word<P: Debug>(alloc: Global, line: &mut String, word: &Word<P>) -> Opti
         .ok()
 }
 
+/// Adds the words of a command, after its byte offset.
 fn push_words<P: Debug>(alloc: Global, line: &mut String, command: &Command<P>) -> Option<()> {
-    let place = command.place;
-    line.push_str(&format!(in alloc; " {place}:").ok()?).ok()?;
+    let offset = command.place;
+    line.push_str(&format!(in alloc; " {offset}:").ok()?).ok()?;
     for word in &command.words {
         push_word(alloc, line, word)?;
     }
     Some(())
 }
 
-/// The words of each command, with `*` before one whose list is expanded, behind the command's place.
+/// The words of each command, after the command's byte offset, with `*` before one whose list is expanded.
 fn shown_words<P: Debug>(alloc: Global, script: &Script<P>) -> Option<String> {
     let mut line = String::from_str(alloc, "ok").ok()?;
     for command in &script.commands {
@@ -31,15 +33,17 @@ fn shown_words<P: Debug>(alloc: Global, script: &Script<P>) -> Option<String> {
     Some(line)
 }
 
-/// The fault as Rust prints it, and what it says.
+/// The fault as Rust prints it, and its text.
 fn shown_fault(alloc: Global, fault: TextFault) -> Option<String> {
     format!(in alloc; "{fault:?}: {fault}").ok()
 }
 
+/// The tree of an expression, as Rust prints it.
 fn shown_expression<P: Debug>(alloc: Global, expression: &Expr<P>) -> Option<String> {
     format!(in alloc; "ok {expression:?}").ok()
 }
 
+/// The tree of a script, or its fault.
 fn script_tree(alloc: Global, text: &str) -> Option<String> {
     match parse_script(alloc, text) {
         Ok(script) => shown_words(alloc, &script),
@@ -47,6 +51,7 @@ fn script_tree(alloc: Global, text: &str) -> Option<String> {
     }
 }
 
+/// The tree of an expression, or its fault.
 fn expression_tree(alloc: Global, text: &str) -> Option<String> {
     match parse_expr(alloc, text) {
         Ok(expression) => shown_expression(alloc, &expression),
@@ -63,7 +68,7 @@ pub(crate) fn tree(alloc: Global, kind: &str, text: &str) -> Option<String> {
     }
 }
 
-/// The source of each command in the text that is kept with a script.
+/// The source of each command, as a range of the script's own text.
 fn sources(alloc: Global, text: String) -> Option<String> {
     let owned = own_script(alloc, text).ok()?;
     let mut line = String::from_str(alloc, "ok").ok()?;
@@ -74,6 +79,7 @@ fn sources(alloc: Global, text: String) -> Option<String> {
     Some(line)
 }
 
+/// The tree of a script that owns its text, or its fault.
 fn owned_script(alloc: Global, text: String) -> Option<String> {
     match own_script(alloc, text) {
         Ok(owned) => shown_words(alloc, &owned.script),
@@ -81,6 +87,7 @@ fn owned_script(alloc: Global, text: String) -> Option<String> {
     }
 }
 
+/// The tree of an expression that owns its text, or its fault.
 fn owned_expression(alloc: Global, text: String) -> Option<String> {
     match own_expr(alloc, text) {
         Ok(owned) => shown_expression(alloc, &owned.expression),
@@ -88,8 +95,7 @@ fn owned_expression(alloc: Global, text: String) -> Option<String> {
     }
 }
 
-/// The tree of a script or an expression that keeps its text, whose pieces are ranges of it; or the sources of the
-/// commands.
+/// The tree of a script or an expression that owns its text, with ranges of this; or the sources of the commands.
 pub(crate) fn owned(alloc: Global, kind: &str, text: String) -> Option<String> {
     match kind {
         "script" => owned_script(alloc, text),

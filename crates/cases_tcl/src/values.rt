@@ -1,5 +1,5 @@
 //! `value` answers a call of tclvalue: `u OP OPERAND`, `b OP LEFT RIGHT`, `t WORD` for a truth value, `c LIMIT WORD...`
-//! for a command. Operators are in hexadecimal digits too.
+//! for a command, where LIMIT is how many bytes its value may have. Operators are in hexadecimal digits too.
 //!
 //! The answer is `ok WORD`, `none`, or `err NUMBER WORD` with the text of the fault.
 use crate::digits::{shown, text_of, texts_of};
@@ -7,6 +7,7 @@ use std::alloc::Global;
 use tcltext::{BinaryOperator, UnaryOperator};
 use tclvalue::{ValueFault, binary, truth, unary, value_command};
 
+/// All operators of one operand.
 const UNARY: [UnaryOperator; 4] = [
     UnaryOperator::Minus,
     UnaryOperator::Plus,
@@ -14,6 +15,7 @@ const UNARY: [UnaryOperator; 4] = [
     UnaryOperator::Not,
 ];
 
+/// All operators of two operands, apart from those that may leave the second unevaluated.
 const BINARY: [BinaryOperator; 20] = [
     BinaryOperator::Multiply,
     BinaryOperator::Divide,
@@ -37,14 +39,17 @@ const BINARY: [BinaryOperator; 20] = [
     BinaryOperator::BitOr,
 ];
 
+/// The operator of one operand with this symbol.
 fn unary_named(symbol: &str) -> Option<UnaryOperator> {
     UNARY.into_iter().find(|op| op.symbol() == symbol)
 }
 
+/// The operator of two operands with this symbol.
 fn binary_named(symbol: &str) -> Option<BinaryOperator> {
     BINARY.into_iter().find(|op| op.symbol() == symbol)
 }
 
+/// A fault, as the answer of its line.
 fn fault_text(alloc: Global, fault: ValueFault) -> Option<String> {
     let number = fault.number();
     let word = format!(in alloc; "err {number}").ok()?;
@@ -52,6 +57,7 @@ fn fault_text(alloc: Global, fault: ValueFault) -> Option<String> {
     shown(alloc, &word, &text)
 }
 
+/// A value, none or a fault, as the answer of its line.
 fn shown_answer(alloc: Global, answer: Result<Option<String>, ValueFault>) -> Option<String> {
     match answer {
         Ok(Some(value)) => shown(alloc, "ok", &value),
@@ -60,11 +66,13 @@ fn shown_answer(alloc: Global, answer: Result<Option<String>, ValueFault>) -> Op
     }
 }
 
+/// The truth value of a word, as 1 or 0.
 fn truth_text(alloc: Global, word: &str) -> Result<Option<String>, ValueFault> {
     let text = if truth(alloc, word)? { "1" } else { "0" };
     Ok(Some(String::from_str(alloc, text)?))
 }
 
+/// The answer to `c LIMIT WORD...`.
 fn command_answer(alloc: Global, rest: &str) -> Option<String> {
     let (limit, words) = rest.split_once(' ')?;
     let limit = limit.parse::<usize>().ok()?;
@@ -72,16 +80,19 @@ fn command_answer(alloc: Global, rest: &str) -> Option<String> {
     shown_answer(alloc, value_command(alloc, &words, limit))
 }
 
+/// The answer to `u OP OPERAND`.
 fn unary_answer(alloc: Global, symbol: &str, operand: &str) -> Option<String> {
     let operator = unary_named(symbol)?;
     shown_answer(alloc, unary(alloc, operator, operand).map(Some))
 }
 
+/// The answer to `b OP LEFT RIGHT`.
 fn binary_answer(alloc: Global, symbol: &str, left: &str, right: &str) -> Option<String> {
     let operator = binary_named(symbol)?;
     shown_answer(alloc, binary(alloc, operator, left, right).map(Some))
 }
 
+/// The answer to `u` or `b`, by the count of the words.
 fn operator_answer(alloc: Global, rest: &str) -> Option<String> {
     let words = texts_of(alloc, rest)?;
     match words.as_slice() {
@@ -91,7 +102,7 @@ fn operator_answer(alloc: Global, rest: &str) -> Option<String> {
     }
 }
 
-/// The answer to a call; None where the line is none, or memory ran out.
+/// The answer to a call; None where the line asks nothing, or memory ran out.
 pub(crate) fn answer(alloc: Global, question: &str) -> Option<String> {
     let (kind, rest) = question.split_once(' ')?;
     match kind {

@@ -1,4 +1,6 @@
-//! `modcheck SHELL`: says what the requests of standard input would do, and which modules that they load are plain.
+//! The program `modcheck SHELL`: reports what the requests of standard input would do, and which modules are plain.
+//! Touches its arguments, its environment and the standard streams, and reads files and folders of the disk.
+//! Nothing stands above it; it has no clause, so it has little code.
 #![tactic(auto)]
 
 use modulecmd::{
@@ -7,7 +9,7 @@ use modulecmd::{
 };
 use std::process::ExitCode;
 
-/// The arguments behind the program's name, and the environment.
+/// The arguments after the program's name, and the environment of the process.
 fn given(rt: &HostRuntime) -> Result<(Vec<String>, Env), CommandFault> {
     let arguments = arguments(rt)?;
     let block = environment_block(rt)?;
@@ -15,6 +17,7 @@ fn given(rt: &HostRuntime) -> Result<(Vec<String>, Env), CommandFault> {
     Ok((arguments, env))
 }
 
+/// Checks standard input, and ends with the status of the check.
 fn main(rt: HostRuntime) -> ExitCode {
     let mut input = rt.stdin();
     let mut out = rt.stdout();

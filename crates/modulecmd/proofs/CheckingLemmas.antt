@@ -1,4 +1,4 @@
--- How a check ends, and what is behind its faults.
+-- How a check ended, and the causes of its faults.
 use Rattle.std.proofs.Common.{◌≡◌, ℕ, List, [], Bool, true, false, Option, String, string_bytes, refl, sym, subst}
 use Rattle.std.proofs.Common.{inl, inr}
 use Rattle.std.proofs.lemmas.Str.{IsUtf8-string_bytes, is_utf8-from_IsUtf8}
@@ -33,7 +33,7 @@ tells_so Success false = refl
 tells_so Told accepted = tt
 tells_so CutShort accepted = tt
 
--- an answer that was written, or as much of it as a failed write left
+-- an answer that was written, or the first part of it before a failed write
 pub checked : (exit : Exit) (agrees : Files → Listings → Type 0) (before now : ℕ) (e : Environment) (arguments : List Text) (input input' out out' err err' : Option Text) (a : CheckAnswer)
     → IsCheckAnswer agrees before now e arguments input input' a → FinishesWriting exit (string_bytes a.report) (string_bytes a.text) out out' err err'
     → EndsCheck (exit_of exit a.is_accepted) agrees before now e arguments input input' out out' err err'
@@ -49,11 +49,11 @@ checked exit agrees before now e arguments input input' out out' err err' a is h
         string_bytes a.text,
         is.says,
         subst Whether is.accepted (tells_so exit a.is_accepted),
-        subst (λ x. Writes x (report_of is.found)) (sym (writes_so exit a.is_accepted)) (subst (λ report. Writes exit report) is.told h),
+        subst (λ x. Writes x (report_of is.found)) (sym (writes_so exit a.is_accepted)) (subst (λ report. Writes exit report) is.report h),
       ),
     )
 
--- a fault that was told
+-- a fault that was reported
 pub refused : (exit : Exit) (agrees : Files → Listings → Type 0) (before now : ℕ) (e : Environment) (arguments : List Text) (input input' out err err' : Option Text) (fault : CommandFault)
     → IsCheckFault agrees before now e arguments input input' fault → WritesFault exit err err' [] fault
     → EndsCheck (exit_of exit false) agrees before now e arguments input input' out out err err'

@@ -1,4 +1,4 @@
--- What a command comes to, from its request and the step of that.
+-- The effect of a command, from its request and the step of that.
 use Rattle.std.proofs.Common.{◌≡◌, ◌∙◌, ℕ, List, Result, Ok, Err, string_bytes, ap, subst, sym, refl}
 use Rattle.environment.specs.Texts.{Text}
 use Rattle.environment.specs.Environment.{Environment}
@@ -14,12 +14,12 @@ use Rattle.reversal.specs.Runs.{live_after, AreFit}
 use Rattle.relations.specs.Relations.{After}
 use Rattle.requests.specs.Laws.{CommandsReturn, OneOutcome}
 use Rattle.requests.specs.Reasons.{RequestReason}
-use Rattle.requests.specs.Requests.{Asked, Request}
+use Rattle.requests.specs.Requests.{RequestedAction, Request}
 use Rattle.requests.specs.Steps.{Site, Done, RequestStep}
 use Rattle.filetree.specs.Causes.{Cause, memory, device, because, Applies}
 use Rattle.modulesteps.specs.Answers.{cause_of}
 use Rattle.modulesteps.specs.Messages.{memory_number, number_by}
-use Rattle.modules.specs.Replies.{site_in, left_by, changed_view}
+use Rattle.modules.specs.Replies.{site_in, changed_env, changed_view}
 use Rattle.modulecmd.specs.declared.refuse.CommandFault.{CommandFault}
 use Rattle.modulecmd.specs.declared.refuse.CommandFault.TheVariants.{Refused, Unprinted, UnknownShell, WriteFailed}
 use Rattle.modulecmd.specs.Command as command
@@ -41,7 +41,7 @@ stands_so memory Is Is' failed failed' more fails h = tt
 stands_so device Is Is' failed failed' more fails h = fails h
 stands_so (because r) Is Is' failed failed' more fails h = more r h
 
--- what is behind a fault, where each reason gives another
+-- the cause of a fault, where each reason gives another
 pub has_reason : (fault : CommandFault) (Is Is' : CommandReason → Type 0) (Lacks Lacks' : Text → Type 0) (failed failed' : Type 0)
     → ((r : CommandReason) → Is r → Is' r) → ((name : Text) → Lacks name → Lacks' name) → (failed → failed')
     → HasReason fault Is Lacks failed → HasReason fault Is' Lacks' failed'
@@ -57,7 +57,7 @@ cause_numbered wanting memory = tt
 cause_numbered wanting device = refl
 cause_numbered wanting (because r) = refl
 
--- a fault with something behind it has the number of that
+-- a fault with a cause has the number of that
 pub numbered : (fault : CommandFault) (Is : CommandReason → Type 0) (Lacks : Text → Type 0) (failed : Type 0) → HasReason fault Is Lacks failed → IsNumbered fault
 numbered (Refused refusal) Is Lacks failed h = cause_numbered (memory_number refusal) (cause_of refusal)
 numbered (UnknownShell word) Is Lacks failed h = refl
@@ -79,8 +79,8 @@ does_once one arguments e files listings o p (x, made, a) (y, made', b) =
     let After-of : Result Request CommandReason → Result Effect CommandReason → Type 0 = λ z q. After (λ r. command.Takes r e files listings) z q in
     made_once e files listings (command_of arguments) o p one (subst (λ z. After-of z o) made a) (subst (λ z. After-of z p) made' b)
 
--- the text of a step leads back as the step does
-pub leads_back : CommandsReturn → OneEffect → DifferenceMakes → (s : Site) (e : Environment) (asked : Asked) (f : Effect) (text : Text)
+-- the text of a step returns to the start as the step does
+pub leads_back : CommandsReturn → OneEffect → DifferenceMakes → (s : Site) (e : Environment) (asked : RequestedAction) (f : Effect) (text : Text)
     → RequestStep s e asked (Ok f.1) → SaysDifference f.0 text e f.1.env → LeadsBack e f text
 leads_back returns one makes s e asked f text step says =
     λ ways start new live is_start in_order stands fit is_new fitting made.
@@ -88,7 +88,7 @@ leads_back returns one makes s e asked f text step says =
     subst P (one f.0 text e f.1.env new (makes f.0 text e f.1.env says) made)
     (returns ways s start e live asked f.1 is_start in_order stands fit step is_new fitting)
 
--- what is behind a text that isn't there
+-- the cause of a text that isn't there
 pub unprinted : (shell : Shell) (ss : List NewValue) (fault : PrintFault) (Is : CommandReason → Type 0) (Lacks : Text → Type 0) (failed : Type 0)
     → ((name : Text) → IsUnsayable shell ss name → Lacks name) → IsPrintFault shell ss fault → HasReason (Unprinted fault) Is Lacks failed
 unprinted shell ss prints.OutOfMemory Is Lacks failed lacks h = tt
@@ -98,11 +98,11 @@ unprinted shell ss (prints.NotSayable name) Is Lacks failed lacks h = lacks (str
 pub answers : CommandsReturn → OneEffect → DifferenceMakes → (agrees : Files → Listings → Type 0) (arguments : List Text) (e : Environment) (r : Request) (a : Answer)
     → command_of arguments ≡ Ok r → a.shell ≡ r.0
     → InEachPair agrees (λ files listings. RequestStep (site_in standard r.0 files listings) e r.1 (Ok (changed_view e a.changed)))
-    → AreChanges e (left_by e a.changed) (new_values_in a.changed.changes) → IsText r.0 (string_bytes a.text) (new_values_in a.changed.changes)
+    → AreChanges e (changed_env e a.changed) (new_values_in a.changed.changes) → IsText r.0 (string_bytes a.text) (new_values_in a.changed.changes)
     → IsAnswer agrees e (CommandDoes arguments e) (effect_in e a) (string_bytes a.text)
 answers returns one makes agrees arguments e r a made shell step exact says =
     let Read : Shell → Type 0 = λ s. IsText s (string_bytes a.text) (new_values_in a.changed.changes) in
-    let difference : SaysDifference a.shell (string_bytes a.text) e (left_by e a.changed) = record { changes = new_values_in a.changed.changes; exact = exact; says = subst Read (sym shell) says } in
+    let difference : SaysDifference a.shell (string_bytes a.text) e (changed_env e a.changed) = record { changes = new_values_in a.changed.changes; exact = exact; says = subst Read (sym shell) says } in
     let Came : Shell → Files → Listings → Type 0 = λ s files listings. CommandDoes arguments e files listings (Ok (s, changed_view e a.changed)) in (
       λ files listings agreed. subst (λ s. Came s files listings) (sym shell) (does arguments e files listings r (Ok (changed_view e a.changed)) made (step files listings agreed)),
       difference,

@@ -1,4 +1,4 @@
--- What is left where an answer is written.
+-- What is written of an answer.
 use Rattle.std.proofs.Common.{◌≡◌, ◌⊎◌, ◌++◌, List, [], ◌∷◌, map, string_bytes, Option, subst, ap, refl, inl, inr}
 use Rattle.std.specs.List.{flat_map}
 use Rattle.std.specs.Io.KnownBytes.{Keeps}
@@ -13,7 +13,7 @@ use Rattle.modulecmd.specs.Output.{BreaksOff, EndsCommand, FinishesWriting, IsAn
 use Rattle.modulecmd.specs.Words.{effect_in, words_of}
 use Rattle.modulecmd.specs.Writing.{AppendsPart}
 
--- what is left where an answer's write failed
+-- what is written where an answer's write failed
 abbrev pub Half : Exit → Text → Text → Option Text → Option Text → Option Text → Option Text → Type 0
 Half exit words text out out' err err' =
     (Keeps out out' × BreaksOff exit err err' words)
@@ -32,7 +32,7 @@ pub flat_map_map : {X Y Z : Type 0} (f : Y → List Z) (g : X → Y) (xs : List 
 flat_map_map f g [] = refl
 flat_map_map f g (x ∷ xs) = ap (λ zs. f (g x) ++ zs) (flat_map_map f g xs)
 
--- what the program writes is what is to be said
+-- what the program writes is the text for standard error
 pub words_said : (e : Environment) (a : Answer) → words_of a ≡ said (effect_in e a).1
 words_said e a = ap (λ zs. zs ++ string_bytes a.changed.report) (flat_map_map (λ message. message) string_bytes a.changed.messages.items)
 

@@ -1,4 +1,4 @@
--- What a check's answer stands for, for this crate's own contracts.
+-- What a check is to write, for the contracts of this crate's private functions.
 use Rattle.std.specs.Prelude.{◌≡◌, ℕ, Bool, true, false, List, Option, string_bytes}
 use Rattle.environment.specs.Texts.{Text}
 use Rattle.environment.specs.Environment.{Environment}
@@ -15,21 +15,22 @@ use Rattle.modulecmd.specs.declared.checking.CheckExit.{CheckExit}
 use Rattle.modulecmd.specs.declared.checking.CheckExit.TheVariants as exits
 use Rattle.modulecmd.specs.declared.checking.CheckAnswer.{CheckAnswer}
 
--- the answer is what is to be written of a check of all that the input gives
+-- the answer has what is to be written of a check of all that the input gives
 pub record IsCheckAnswer (agrees : Files → Listings → Type 0) (before now : ℕ) (e : Environment) (arguments : List Text)
     (input input' : Option Text) (answer : CheckAnswer) : Type 0 where
   pub shell : Shell
   pub found : Findings
   pub checks : ChecksInput agrees before now e arguments input input' shell found
   pub says : SaysDifference shell (string_bytes answer.text) e found.env
-  pub told : string_bytes answer.report ≡ report_of found
+  pub report : string_bytes answer.report ≡ report_of found
   pub accepted : answer.is_accepted ≡ all_accepted found
 
--- how a check ends whose writing ended so
+-- how a check ended whose texts are written
 abbrev pub written : Bool → CheckExit
 written true = exits.AllAccepted
 written false = exits.SomeRefused
 
+-- how a check ended, by how its writing ended
 abbrev pub exit_of : Exit → Bool → CheckExit
 exit_of Success accepted = written accepted
 exit_of Told accepted = exits.Told

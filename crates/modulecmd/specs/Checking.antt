@@ -1,4 +1,4 @@
--- What the check of an input's lines leaves in its two writers (own).
+-- What the check of an input's lines writes to its two writers (own).
 use Rattle.std.specs.Prelude.{◌≡◌, ◌⊎◌, ◌≤◌, ℕ, Bool, true, false, List, [], ◌∷◌, length, Option, Some, None, Result}
 use Rattle.std.specs.Prelude.{Ok, Err}
 use Rattle.std.specs.Io.KnownBytes.{Keeps}
@@ -23,18 +23,19 @@ use Rattle.modulecmd.specs.declared.refuse.CommandFault.{CommandFault}
 use Rattle.modulecmd.specs.Command.{CommandReason, HasReason, LacksText, because, of_input, standard, unknown_shell}
 use Rattle.modulecmd.specs.Output.{FinishesWriting, Refuses}
 
--- the shell that the arguments name: it stands alone
+-- the shell that a word names
 abbrev pub shell_or : Text → Option Shell → Result Shell CommandReason
 shell_or word None = Err (unknown_shell word)
 shell_or word (Some shell) = Ok shell
 
+-- the shell that the one argument names
 abbrev pub shell_of : List Text → Result Shell CommandReason
 shell_of [] = Err (because bad_arguments)
 shell_of (word ∷ []) = shell_or word (shell_named word)
 shell_of (word ∷ other ∷ more) = Err (because bad_arguments)
 
--- The whole input, which is UTF-8 and no longer than one may be, is checked for the shell of the arguments. The numbers
--- say how often the device had failed before, and has now.
+-- The whole input, which is UTF-8 and no longer than an input may be, is checked for the shell of the arguments. The
+-- numbers say how often the device had failed before, and has now.
 pub record ChecksInput (agrees : Files → Listings → Type 0) (before now : ℕ) (e : Environment) (arguments : List Text)
     (input input' : Option Text) (shell : Shell) (found : Findings) : Type 0 where
   pub named : shell_of arguments ≡ Ok shell
@@ -51,15 +52,15 @@ writing_of exits.SomeRefused = Success
 writing_of exits.Told = Told
 writing_of exits.CutShort = CutShort
 
--- where all was written, the end tells whether each line was accepted
+-- where all was written, the exit says whether each line was accepted
 abbrev pub TellsWhether : CheckExit → Bool → Type 0
 TellsWhether exits.AllAccepted accepted = accepted ≡ true
 TellsWhether exits.SomeRefused accepted = accepted ≡ false
 TellsWhether exits.Told accepted = Unit {0}
 TellsWhether exits.CutShort accepted = Unit {0}
 
--- What a check leaves: its report on standard error, and on standard output a text that says for the shell exactly what
--- its lines change from first to last; or as much as a failed write left of them.
+-- What a check writes: its report on standard error, and on standard output a text that says for the shell exactly what
+-- its lines change from first to last; or the first part of these before a failed write.
 abbrev pub LeavesCheck : CheckExit → Environment → Shell → Findings → Option Text → Option Text → Option Text
     → Option Text → Type 0
 LeavesCheck exit e shell found out out' err err' =
@@ -76,22 +77,22 @@ IsUnread arguments input input' fault =
     (shell : Shell) × (spoilt : InputFault) × (shell_of arguments ≡ Ok shell) × Spoils spoilt input input'
     × (fault ≡ of_input spoilt)
 
--- The check comes to changes that have no text in the shell.
+-- The check has changes for which the shell has no text.
 abbrev pub IsUnsaidCheck : (Files → Listings → Type 0) → ℕ → ℕ → Environment → List Text → Option Text → Option Text
     → Text → Type 0
 IsUnsaidCheck agrees before now e arguments input input' name =
     (shell : Shell) × (found : Findings) × ChecksInput agrees before now e arguments input input' shell found
     × LacksText shell e found.env name
 
--- What is behind a fault: memory is wanting, the arguments name no shell, the input is spoilt, or a variable can't be
--- said.
+-- The cause of a fault: memory is wanting, the arguments name no shell, the input is spoilt, or the changes have no
+-- text.
 abbrev pub IsCheckFault : (Files → Listings → Type 0) → ℕ → ℕ → Environment → List Text → Option Text → Option Text
     → CommandFault → Type 0
 IsCheckFault agrees before now e arguments input input' fault =
     HasReason fault (IsUnnamed arguments input input') (IsUnsaidCheck agrees before now e arguments input input') ⊥
     ⊎ IsUnread arguments input input' fault
 
--- What a check leaves by how it ends: what it found, or a fault and nothing else.
+-- What a check writes, by how it ended: what it found, or a fault and nothing else.
 abbrev pub EndsCheck : CheckExit → (Files → Listings → Type 0) → ℕ → ℕ → Environment → List Text → Option Text
     → Option Text → Option Text → Option Text → Option Text → Option Text → Type 0
 EndsCheck exit agrees before now e arguments input input' out out' err err' =

@@ -1,4 +1,4 @@
--- What a command line asks for and what that makes of an environment, over the files and folders of a tree.
+-- What a command line asks for and what that makes of an environment, over the files and folders of a tree (module(1)).
 use Rattle.std.specs.Prelude.{◌≡◌, ℕ, List, [], ◌∷◌, Option, Some, None, Result, Ok, Err, string_bytes}
 use Rattle.environment.specs.Texts.{Text}
 use Rattle.environment.specs.Environment.{Environment}
@@ -12,7 +12,7 @@ use Rattle.shelltext.specs.Printing.{IsUnsayable, print_fault_number}
 use Rattle.tclrules.specs.declared.limits.Limits.{Limits}
 use Rattle.requests.specs.Reasons as requests
 use Rattle.requests.specs.Reasons.{RequestReason, bad_arguments}
-use Rattle.requests.specs.Requests.{Asked, Request, request_of}
+use Rattle.requests.specs.Requests.{RequestedAction, Request, request_of}
 use Rattle.requests.specs.Steps.{Done, RequestStep}
 use Rattle.filetree.specs.Causes.{Applies}
 use Rattle.modulesteps.specs.Answers.{cause_of}
@@ -32,10 +32,12 @@ pub data CommandReason : Type 0 where
   unknown_shell : (word : Text) → CommandReason
   because : (reason : RequestReason) → CommandReason
 
-abbrev pub for_shell : Shell → Result Asked RequestReason → Result Request CommandReason
+-- the request for this shell, or the reason why the words make none
+abbrev pub for_shell : Shell → Result RequestedAction RequestReason → Result Request CommandReason
 for_shell shell (Ok asked) = Ok (shell, asked)
 for_shell shell (Err reason) = Err (because reason)
 
+-- the request of these words, for the shell that the word names
 abbrev pub by_shell : Text → List Text → Option Shell → Result Request CommandReason
 by_shell word words None = Err (unknown_shell word)
 by_shell word words (Some shell) = for_shell shell (request_of words)
@@ -54,27 +56,28 @@ standard = record { commands = 100000; depth = 200; value_bytes = 1048576 }
 abbrev pub Effect : Type 0
 Effect = Shell × Done
 
+-- what the step has done, with the shell that reads the text
 abbrev pub with_shell : Shell → Result Done RequestReason → Result Effect CommandReason
 with_shell shell (Ok done) = Ok (shell, done)
 with_shell shell (Err reason) = Err (because reason)
 
--- the step of a request
+-- the effect of a request, or its reason: by its step under the standard limits
 abbrev pub Takes : Request → Environment → Files → Listings → Result Effect CommandReason → Type 0
 Takes r e files listings o =
     (step : Result Done RequestReason) × RequestStep (site_in standard r.0 files listings) e r.1 step
     × (o ≡ with_shell r.0 step)
 
--- What a command with these arguments comes to, in this environment and over these files and folders.
+-- The effect of a command with these arguments, or its reason, in this environment and over these files and folders.
 abbrev pub CommandDoes : List Text → Environment → Files → Listings → Result Effect CommandReason → Type 0
 CommandDoes arguments e files listings = Is (command_of arguments) >> (λ r. Takes r e files listings)
 
--- The changes from one environment to the other have no text in the shell, and the first that no line says is of this
--- variable.
+-- The changes from one environment to the other have no text in the shell: the first variable that no line can set or
+-- unset is this one.
 abbrev pub LacksText : Shell → Environment → Environment → Text → Type 0
 LacksText shell old new name = (cs : List NewValue) × AreChanges old new cs × IsUnsayable shell cs name
 
--- A refusal has a reason: memory can always be wanting, a device has failed, a variable can't be said, or the
--- command has a reason.
+-- The cause of a refusal: memory is wanting, a device has failed, the changes have no text, or the command has a
+-- reason.
 abbrev pub HasReason : CommandFault → (CommandReason → Type 0) → (Text → Type 0) → Type 0 → Type 0
 HasReason (Refused refusal) Has Lacks failed = Applies (cause_of refusal) failed (λ reason. Has (because reason))
 HasReason (UnknownShell word) Has Lacks failed = Has (unknown_shell (string_bytes word))
@@ -94,8 +97,7 @@ abbrev pub reason_number : CommandReason → ℕ
 reason_number (unknown_shell word) = 63
 reason_number (because reason) = requests.reason_number reason
 
--- what is behind a refusal says its number: the reason's own, 62 for a variable that can't be said, 43 for a failed
--- device
+-- the number of a refusal is that of its cause: the reason's own, 62 for changes without a text, 43 for a failed device
 abbrev pub IsNumbered : CommandFault → Type 0
 IsNumbered fault =
     HasReason fault (λ reason. number_of fault ≡ reason_number reason) (λ name. number_of fault ≡ 62)
@@ -106,13 +108,13 @@ abbrev pub of_arguments : ArgumentsFault → CommandFault
 of_arguments given.OutOfMemory = Refused refusals.OutOfMemory
 of_arguments given.NotUtf8 = Refused refusals.BadArguments
 
--- an input that has no text, as a refusal
+-- an input that isn't read whole or isn't text, as a refusal
 abbrev pub of_input : InputFault → CommandFault
 of_input inputs.OutOfMemory = Refused refusals.OutOfMemory
 of_input inputs.ReadFailed = Refused (refusals.Find finds.Device)
 of_input inputs.BadInput = Refused refusals.BadArguments
 
--- A command comes to one effect at most, or to one reason.
+-- A command has one effect at most, or one reason.
 abbrev pub OneCommand : Type 0
 OneCommand =
     (arguments : List Text) (e : Environment) (files : Files) (listings : Listings) (o p : Result Effect CommandReason)

@@ -1,4 +1,4 @@
--- What faults say, and the line on standard error that tells why a command is refused.
+-- The texts of faults, and the line on standard error that says why a command is refused (own).
 use Rattle.std.specs.Prelude.{[], ◌∷◌, ◌++◌, codes, string_bytes}
 use Rattle.message.specs.Messages.{Text, quoting}
 use Rattle.modulesteps.specs.Messages as texts
@@ -13,7 +13,7 @@ message_of (Unprinted fault) = print_message fault
 message_of (UnknownShell word) = quoting (codes "Unknown shell '") (string_bytes word)
 message_of WriteFailed = codes "Writing failed"
 
--- a line that says this
+-- the error line with this text
 abbrev pub error_line : Text → Text
 error_line message = codes "ERROR: " ++ (message ++ 10 ∷ [])
 

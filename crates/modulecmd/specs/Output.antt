@@ -1,4 +1,4 @@
--- What a command leaves in its two writers.
+-- What a command writes to its two writers (own).
 use Rattle.std.specs.Prelude.{◌⊎◌, ◌<◌, ℕ, List, [], ◌++◌, take, length, Option, Result, Ok, Err}
 use Rattle.std.specs.List.{flat_map}
 use Rattle.std.specs.Io.KnownBytes.{Keeps, Appends}
@@ -21,11 +21,11 @@ use Rattle.modulecmd.specs.declared.ends.Exit.{Exit}
 use Rattle.modulecmd.specs.declared.ends.Exit.TheVariants.{Success, Told, CutShort}
 use Rattle.modulecmd.specs.Lines.{line_of}
 
--- what a command may come to, over the files and folders of a tree
+-- the effects and reasons of a command, over the files and folders of a tree
 abbrev pub Outcomes : Type 1
 Outcomes = Files → Listings → Result Effect CommandReason → Type 0
 
--- it comes to this in each pair of maps that agrees with the tree
+-- this is its effect or reason in each pair of maps that agrees with the tree
 abbrev pub ComesToInEachPair : (Files → Listings → Type 0) → Outcomes → Result Effect CommandReason → Type 0
 ComesToInEachPair agrees Does o = InEachPair agrees (λ files listings. Does files listings o)
 
@@ -33,9 +33,9 @@ ComesToInEachPair agrees Does o = InEachPair agrees (λ files listings. Does fil
 abbrev pub said : Done → Text
 said done = flat_map (λ message. message) done.messages ++ done.report
 
--- Where the environment is in order and stands over a start in order with live modules that fit, and the command
--- unloads no module of that start and moves what fits: what a shell makes of the environment that runs the text is in
--- order and stands over the start with the modules that are live then, which fit. With none it is the start.
+-- Where the environment is in order and is a start in order with live modules that fit layered on it, and the command
+-- unloads no module of that start and moves what fits: what a shell makes of the environment by running the text is in
+-- order and is the start with the modules that are live then layered on it, which fit. With none it is the start.
 abbrev pub LeadsBack : Environment → Effect → Text → Type 0
 LeadsBack e f text =
     (ways : Text → Way) (start new : Environment) (live : List Module)
@@ -43,60 +43,60 @@ LeadsBack e f text =
     → AreNew start f.1.moves → AreFitting ways live f.1.moves → MakesOf f.0 text e new
     → Holds ways start (live_after live f.1.moves) new × AreFit ways (live_after live f.1.moves)
 
--- What an accepted command answers: it comes to the effect, the text says exactly the difference that the effect makes
--- of the environment, and it leads back.
+-- What an accepted command answers: this is its effect, the text says exactly the difference that the effect makes of
+-- the environment, and it returns to the start.
 abbrev pub IsAnswer : (Files → Listings → Type 0) → Environment → Outcomes → Effect → Text → Type 0
 IsAnswer agrees e Does f text =
     ComesToInEachPair agrees Does (Ok f) × SaysDifference f.0 text e f.1.env
     × InEachPair agrees (λ files listings. LeadsBack e f text)
 
--- What is left where a fault is told behind a text: the whole line, or else a beginning that is not the whole of it.
+-- What is written of a fault after a text: the whole line, or else a first part that is not the whole of it.
 abbrev pub WritesFault : Exit → Option Text → Option Text → Text → CommandFault → Type 0
 WritesFault Success err err' text fault = ⊥
 WritesFault Told err err' text fault = Appends err err' (text ++ line_of fault)
 WritesFault CutShort err err' text fault =
     (k : ℕ) × (k < length (line_of fault)) × Appends err err' (text ++ take k (line_of fault))
 
--- a beginning of the words that is not the whole of them, and then the line that tells of a failed write
+-- a first part of the words that is not the whole of them, and then the line of a failed write
 abbrev pub BreaksOff : Exit → Option Text → Option Text → Text → Type 0
 BreaksOff exit err err' words = (k : ℕ) × (k < length words) × WritesFault exit err err' (take k words) WriteFailed
 
--- What the writing of an answer leaves: the words on standard error, and the text on standard output; or where a write
--- failed, on standard error before all the words were there, and then nothing is on standard output; or there, and then
--- a beginning of the text is.
+-- What is written of an answer: the words on standard error, and the text on standard output; or where a write to
+-- standard error failed, a first part of the words and nothing on standard output; or where one to standard output
+-- failed, a first part of the text.
 abbrev pub FinishesWriting : Exit → Text → Text → Option Text → Option Text → Option Text → Option Text → Type 0
 FinishesWriting Success words text out out' err err' = Appends out out' text × Appends err err' words
 FinishesWriting exit words text out out' err err' =
     (Keeps out out' × BreaksOff exit err err' words)
     ⊎ (AppendsPart out out' text × WritesFault exit err err' words WriteFailed)
 
--- What an accepted command leaves: its messages and its report, and its text; or as much as a failed write left of
--- them.
+-- What an accepted command writes: its messages and its report, and its text; or the first part of these before a
+-- failed write.
 abbrev pub Accepts : Exit → (Files → Listings → Type 0) → Environment → Outcomes → Option Text → Option Text
     → Option Text → Option Text → Type 0
 Accepts exit agrees e Does out out' err err' =
     (f : Effect) × (text : Text) × IsAnswer agrees e Does f text
     × FinishesWriting exit (said f.1) text out out' err err'
 
--- What a refused command leaves: nothing on standard output, and the line that tells why on standard error.
+-- What a refused command writes: nothing on standard output, and the line that says why on standard error.
 abbrev pub Refuses : Exit → CommandFault → Option Text → Option Text → Option Text → Option Text → Type 0
 Refuses exit fault out out' err err' = Keeps out out' × WritesFault exit err err' [] fault
 
--- It comes to an effect whose changes have no text in the shell.
+-- It has an effect whose changes have no text in the shell.
 abbrev pub IsUnsaid : (Files → Listings → Type 0) → Environment → Outcomes → Text → Type 0
 IsUnsaid agrees e Does name = (f : Effect) × ComesToInEachPair agrees Does (Ok f) × LacksText f.0 e f.1.env name
 
--- What is behind a fault: memory is wanting, the device has failed, and any other reason is the command's own in each
--- pair of maps that agrees with the tree.
+-- The cause of a fault: memory is wanting, the device has failed, the changes have no text, or the reason is the
+-- command's own in each pair of maps that agrees with the tree.
 abbrev pub IsCaused : (Files → Listings → Type 0) → Type 0 → Environment → Outcomes → CommandFault → Type 0
 IsCaused agrees failed e Does fault =
     HasReason fault (λ reason. ComesToInEachPair agrees Does (Err reason)) (IsUnsaid agrees e Does) failed
 
--- A fault refuses a command over a tree, by the number of what is behind it.
+-- A fault refuses a command over a tree, by the number of its cause.
 abbrev pub IsRefused : (Files → Listings → Type 0) → Type 0 → Environment → Outcomes → CommandFault → Type 0
 IsRefused agrees failed e Does fault = IsCaused agrees failed e Does fault × IsNumbered fault
 
--- What a command leaves by how it ends: it is accepted, or refused by a fault.
+-- What a command writes, by how it ended: it is accepted, or refused by a fault.
 abbrev pub EndsCommand : Exit → (Files → Listings → Type 0) → Type 0 → Environment → Outcomes → Option Text
     → Option Text → Option Text → Option Text → Type 0
 EndsCommand exit agrees failed e Does out out' err err' =

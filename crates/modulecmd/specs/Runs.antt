@@ -1,4 +1,4 @@
--- Commands one after another, each in a shell that ran the texts of those before it.
+-- Commands one after another, each in a shell that ran the texts of those before it (own).
 use Rattle.std.specs.Prelude.{◌≡◌, List, [], ◌∷◌, Ok}
 use Rattle.std.specs.List.{flat_map}
 use Rattle.environment.specs.Texts.{Text}
@@ -19,20 +19,21 @@ pub record PrintedCommand : Type 0 where
   pub effect : Effect
   pub text : Text
 
--- Over these files and folders each command comes to its effect in the environment that the shell holds, and its text
--- says what that changes; the shell that ran it holds the next environment, and after all of them the last.
+-- Over these files and folders each command has its effect in the environment that the shell holds, and its text says
+-- what that changes; the shell that ran it holds the next environment, and after all of them the last.
 abbrev pub ShellsHold : Files → Listings → Environment → List PrintedCommand → Environment → Type 0
 ShellsHold files listings e [] last = last ≡ e
 ShellsHold files listings e (c ∷ cs) last =
     CommandDoes c.arguments e files listings (Ok c.effect) × SaysDifference c.effect.0 c.text e c.effect.1.env
     × (next : Environment) × MakesOf c.effect.0 c.text e next × ShellsHold files listings next cs last
 
+-- the moves of the commands, in order
 abbrev pub moves_in : List PrintedCommand → List Move
 moves_in cs = flat_map (λ c. c.effect.1.moves) cs
 
 -- From a start in order, after any commands that unload no module of the start, load modules that are reversible and
--- apart, and unload each with the records of its load: what the shell holds is in order and stands over the start with
--- the modules that are live then. With none it is the start.
+-- apart, and unload each with the records of its load: what the shell holds is in order and is the start with the
+-- modules that are live then layered on it. With none it is the start.
 abbrev pub ShellsReturn : Type 0
 ShellsReturn =
     (ways : Text → Way) (files : Files) (listings : Listings) (start last : Environment) (cs : List PrintedCommand)

@@ -1,4 +1,4 @@
--- What an answer stands for.
+-- The effect and the standard error of an answer, for the contracts of this crate's private functions.
 use Rattle.std.specs.Prelude.{◌++◌, string_bytes}
 use Rattle.std.specs.List.{flat_map}
 use Rattle.environment.specs.Environment.{Environment}
@@ -7,11 +7,11 @@ use Rattle.modules.specs.Replies.{changed_view}
 use Rattle.modulecmd.specs.declared.command.Answer.{Answer}
 use Rattle.modulecmd.specs.Command.{Effect}
 
--- what was done in the environment
+-- the effect that the answer has in the environment
 abbrev pub effect_in : Environment → Answer → Effect
 effect_in e answer = (answer.shell, changed_view e answer.changed)
 
--- what it says on standard error: the messages of modulefiles, and then the report
+-- what is to go to standard error: the messages of modulefiles, and then the report
 abbrev pub words_of : Answer → Text
 words_of answer =
     flat_map (λ message. string_bytes message) answer.changed.messages.items

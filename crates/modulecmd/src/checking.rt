@@ -1,4 +1,4 @@
-//! The check of an input's lines: what their requests would change, and which modules that they load are plain.
+//! Runs a check (modcheck(1)): the lines of an input, what their requests would change, and the verdicts on modules.
 ghost use Rattle.std.specs.Prelude.{◌≡◌, ◌≤◌, map, Ok, Err, IfOk, IfErr, string_bytes};
 ghost use Rattle.filetree.specs.Agreement.{Narrows};
 ghost use Rattle.modulecmd.specs.Checking as spec;
@@ -21,16 +21,16 @@ use shelltext::print_changes;
 use std::alloc::Global;
 use std::io::{Read, Write};
 
-/// How a check ends.
+/// How a check ended.
 #[derive(Clone, Copy, Debug, PartialEq, Eq)]
 pub enum CheckExit {
     /// Each line was accepted, and all is written.
     AllAccepted,
     /// A line was refused, and all is written.
     SomeRefused,
-    /// Nothing was checked, or a write failed, and the line that tells why is written.
+    /// Nothing was checked, or a write failed, and the line that says why is written.
     Told,
-    /// The same, but a beginning of that line is written, not all: writing it failed.
+    /// The same, but the first part of that line is written, not all: writing it failed.
     CutShort,
 }
 
@@ -49,12 +49,15 @@ impl CheckExit {
 /// What a check is to write, and whether each line was accepted.
 #[derive(Drop)]
 struct CheckAnswer {
+    /// Whether each line was accepted.
     is_accepted: bool,
+    /// For standard error: an outcome for each line, and a verdict for each module.
     report: String,
+    /// For standard output: the changes, for the shell.
     text: String,
 }
 
-/// The shell that the arguments name, which stands alone.
+/// The shell that the one argument names: 56 where there is not one argument, 63 where no shell has the name.
 fn shell_of(args: &[String]) -> Result<Shell, CommandFault>
     ensures named { IfOk result (λ shell. spec.shell_of (map string_bytes args.now) ≡ Ok shell) }
     ensures refused { IfErr result (λ fault.
@@ -69,7 +72,7 @@ fn shell_of(args: &[String]) -> Result<Shell, CommandFault>
     }
 }
 
-/// What a check is to write, before anything is written.
+/// Checks the input, and answers what is to be written; nothing is written yet.
 fn answer_of<T: Tree, R: Read>(
     alloc: Global,
     args: &[String],
@@ -97,7 +100,7 @@ fn answer_of<T: Tree, R: Read>(
     })
 }
 
-/// How a check ends whose writing ended so.
+/// How a check ended, by how its writing ended.
 fn exit_of(exit: Exit, is_accepted: bool) -> CheckExit
     ensures { result ≡ exit_of exit is_accepted }
 {
@@ -112,12 +115,12 @@ fn exit_of(exit: Exit, is_accepted: bool) -> CheckExit
 /// Checks the lines of an input over an environment and a tree of modulefiles, and answers how it ended.
 ///
 /// The one argument is the name of a shell (56, 63). The whole input is read (43, 56), and the requests that its lines
-/// make are run one after another, as a session; a refused line leaves the environment. For each it writes `N accepted`
-/// or `N refused: ` and why to standard error, and then for each module that they loaded its full name and its verdict
-/// in the first environment. Then the text goes to standard output that says, as the shell reads it, what changed from
-/// the first environment to the last (62).
+/// make are run one after another, as a session; a refused line changes nothing. For each it writes `N accepted` or `N
+/// refused: ` and why to standard error, and then for each module that they loaded its full name and its verdict in the
+/// first environment. Then the text goes to standard output that says, as the shell reads it, what changed from the
+/// first environment to the last (62).
 ///
-/// Where there is a fault before all that is made, nothing is written but the line that tells of it, to standard error.
+/// Where there is a fault before all that is made, nothing is written but the line that says why, to standard error.
 pub fn run_check<T: Tree, R: Read, W: Write, E: Write>(
     alloc: Global,
     args: &[String],

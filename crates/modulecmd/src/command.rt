@@ -1,4 +1,4 @@
-//! One command: the words in, the text and the messages out.
+//! Runs one command: the words of a command line in, the text for the shell and the messages out.
 ghost use Rattle.std.specs.Prelude.{◌≡◌, ◌<◌, ◌≤◌, map, Ok, Err, IfOk, IfErr, string_bytes};
 ghost use Rattle.filetree.specs.Agreement.{Narrows};
 ghost use Rattle.requests.specs.RequestViews.{request_view};
@@ -19,22 +19,25 @@ use shelltext::print_changes;
 use std::alloc::Global;
 use std::io::Write;
 
-/// What every command may use.
+/// How much every command may use: commands in a modulefile, evaluations within one another, bytes in a value.
 pub(crate) const STANDARD: Limits = Limits {
     commands: 100_000,
     depth: 200,
     value_bytes: 1_048_576,
 };
 
-/// What an accepted command has done, and the text that says its changes.
+/// What an accepted command has done, and the text that says its changes; nothing is written yet.
 #[derive(Drop)]
 struct Answer {
+    /// The shell that is to run the text.
     shell: Shell,
+    /// The changes, the messages and the report.
     changed: Changed,
+    /// The text for the shell.
     text: String,
 }
 
-/// The request that the arguments make: the name of a shell, and then the words of the request.
+/// The request that the arguments make: the first names a shell (else 63), the others are its words (else 56, 57).
 fn command_of(alloc: Global, args: &[String]) -> Result<Request, CommandFault>
     ensures made { IfOk result (λ r. spec.command_of (map string_bytes args.now) ≡ Ok (request_view r)) }
     ensures refused { IfErr result (λ fault.
@@ -49,7 +52,7 @@ fn command_of(alloc: Global, args: &[String]) -> Result<Request, CommandFault>
     }
 }
 
-/// What the command with these arguments has done and is to write, before anything is written.
+/// Does the command with these arguments, and answers what is to be written; nothing is written yet.
 fn answer_of<T: Tree>(
     alloc: Global,
     args: &[String],
@@ -82,16 +85,17 @@ fn answer_of<T: Tree>(
 /// The arguments are the name of a shell and the words of a request. An accepted command writes the messages of
 /// modulefiles and its report to standard error, and then the text for the shell to standard output. That text says, as
 /// the shell reads it, each variable that the request's step changes, once, in the order of bytes, and nothing else: it
-/// makes of the environment what the step makes of it. Where the environment is in order and stands over a start in
-/// order, and the modules that are loaded beyond that start are reversible and apart, so it is afterwards, if the
-/// command unloads no module of the start and unloads each other with the records of its load: with none of them loaded
-/// it is the start.
+/// makes of the environment what the step makes of it.
 ///
-/// A refused command writes nothing but the line that tells why, to standard error. It is refused as the arguments or
+/// The environment may be in order, and be a start in order with live modules layered on it that are reversible and
+/// apart. Then so it is after the command, if this unloads no module of the start and unloads each other with the
+/// records of its load; and with no module live it is the start.
+///
+/// A refused command writes nothing but the line that says why, to standard error. It is refused as the arguments or
 /// the step are, or for want of memory, by 43 where the device failed in this call, or by 62 where the changes have no
-/// text in the shell. Where a write fails, 64, on standard error a beginning of the messages and the report is there,
-/// not all, and nothing has gone to standard output; or on standard output a beginning of the text is there, not all.
-/// Then the line that tells of it follows on standard error.
+/// text in the shell. Where a write to standard error fails (64), the first part of the messages and the report is
+/// there, not all, and nothing has gone to standard output; where one to standard output fails, the first part of the
+/// text is there, not all. Then the line that says so follows on standard error.
 pub fn run_command<T: Tree, W: Write, E: Write>(
     alloc: Global,
     args: &[String],

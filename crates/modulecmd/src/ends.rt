@@ -1,15 +1,15 @@
-//! How a command ends.
+//! How a command ended, and the status of its process.
 ghost use Rattle.std.specs.Prelude.{◌≡◌};
 ghost use Rattle.modulecmd.specs.Output.{status_of};
 
-/// How a command ends.
+/// How a command ended.
 #[derive(Clone, Copy, Debug, PartialEq, Eq)]
 pub enum Exit {
     /// It was accepted, and all is written.
     Success,
-    /// It was refused, or a write failed, and the line that tells why is written.
+    /// It was refused, or a write failed, and the line that says why is written.
     Told,
-    /// The same, but a beginning of that line is written, not all: writing it failed.
+    /// The same, but the first part of that line is written, not all: writing it failed.
     CutShort,
 }
 

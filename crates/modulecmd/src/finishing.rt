@@ -1,4 +1,4 @@
-//! What is written in the end: an answer, or the line that tells of a fault.
+//! Writes an answer, or the line that says why there is none.
 ghost use Rattle.std.specs.Prelude.{◌⊎◌, ◌++◌, [], OnOk, OnErr, string_bytes};
 ghost use Rattle.std.specs.List.{flat_map};
 ghost use Rattle.std.specs.Io.KnownBytes.{Keeps, Appends};
@@ -10,7 +10,7 @@ use crate::refuse::{CommandFault, write_refusal};
 use crate::writers::{WriteFault, write_bytes, write_texts};
 use std::io::Write;
 
-/// Writes the line that tells of a fault.
+/// Writes the line that says why a command is refused.
 pub(crate) fn tell<E: Write>(fault: &CommandFault, err: &mut E) -> Exit
     ensures { WritesFault result (E.contents err.old) (E.contents err.new) [] fault.now }
 {
@@ -20,7 +20,7 @@ pub(crate) fn tell<E: Write>(fault: &CommandFault, err: &mut E) -> Exit
     }
 }
 
-/// Writes the messages and the report, and then the text, until a write fails. Then not all is written.
+/// Writes the messages and the report, and then the text, until a write fails; then not all is written.
 fn write_answer<W: Write, E: Write>(
     messages: &[String],
     report: &str,
@@ -43,7 +43,7 @@ fn write_answer<W: Write, E: Write>(
 }
 
 /// Writes an answer: messages and a report to standard error, and then a text to standard output. After a failed write
-/// the line that tells of it is tried once.
+/// the line that says so is tried once.
 pub(crate) fn finish<W: Write, E: Write>(
     messages: &[String],
     report: &str,

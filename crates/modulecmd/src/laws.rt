@@ -2,8 +2,8 @@
 ghost use Rattle.modulecmd.specs.Command.{OneCommand};
 ghost use Rattle.modulecmd.specs.Runs.{ShellsReturn};
 
-/// A command comes to one effect at most, or to one reason. So where the definitions refuse it by a number, no call
-/// accepts it, and a refusal that isn't want of memory or a failed device has that number.
+/// A command has one effect at most, or one reason. So where the definitions refuse it by a number, no call accepts it,
+/// and a refusal that isn't want of memory or a failed device has that number.
 pub fn one_command()
     ensures { OneCommand }
 {
@@ -11,8 +11,9 @@ pub fn one_command()
 }
 
 /// From a start in order, a shell that ran the text of each accepted command, whatever commands they were and whatever
-/// stood between that was refused, holds an environment that is in order and stands over the start; with none of the
-/// modules loaded it is the start. The commands are of new modules that are reversible and apart, over one tree.
+/// stood between that was refused, holds an environment that is in order and is the start with the live modules layered
+/// on it; with no module live it is the start. The commands are of new modules that are reversible and apart, over one
+/// tree.
 pub fn commands_return()
     ensures { ShellsReturn }
 {

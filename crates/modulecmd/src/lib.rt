@@ -1,4 +1,6 @@
-//! The command of environment modules: the words of a command line in, a text for a shell out.
+//! A whole command: the words of a command line in, the text for a shell and the messages out (module(1)).
+//! Takes memory; reads the files and folders (`Tree`) and the input, and writes to the writers, that it is given.
+//! Used by the programs modulecmd_main and modcheck, and by every caller of the library.
 #![tactic(auto)]
 
 mod checking;

@@ -1,4 +1,4 @@
-//! Why a command is refused, and the line that tells of it.
+//! Why a command is refused, with the numbers and texts of these faults, and the line on standard error.
 ghost use Rattle.std.specs.Prelude.{◌≡◌, Some, OnOk, OnErr};
 ghost use Rattle.std.specs.Io.KnownBytes.{Appends};
 ghost use Rattle.modulecmd.specs.Writing.{AppendsPart};
@@ -47,7 +47,7 @@ impl CommandFault {
         }
     }
 
-    /// What the fault says.
+    /// The text of the fault.
     pub fn message(&self) -> Message<'_>
         ensures { text_of result ≡ message_of self.now }
     {
@@ -125,7 +125,7 @@ impl From<InputFault> for CommandFault {
     }
 }
 
-/// Writes a line of an error, of these parts.
+/// Writes an error line of these parts: `ERROR: `, the five texts one after another, and a newline.
 fn write_line<'a, E: Write>(
     before: &'a str,
     left: &'a str,
@@ -142,8 +142,8 @@ fn write_line<'a, E: Write>(
     write_parts(err, &["ERROR: ", before, left, word, right, after, "\n"])
 }
 
-/// Writes the line that tells of a refusal, without taking memory. It is tried once: a write that fails ends it. Then a
-/// beginning of the line is written, not all.
+/// Writes the line that says why a command is refused, without taking memory. It is tried once: a write that fails ends
+/// it. Then the first part of the line is written, not all.
 pub fn write_refusal<E: Write>(fault: &CommandFault, err: &mut E) -> Result<(), WriteFault>
     ensures whole { OnOk result (Appends (E.contents err.old) (E.contents err.new) (line_of fault.now)) }
     ensures cut { OnErr result (AppendsPart (E.contents err.old) (E.contents err.new) (line_of fault.now)) }

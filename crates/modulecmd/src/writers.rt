@@ -1,4 +1,4 @@
-//! Writing until a write fails.
+//! Writes bytes until a write fails, and without memory.
 ghost use Rattle.std.specs.Prelude.{OnOk, OnErr, string_bytes};
 ghost use Rattle.std.specs.List.{flat_map};
 ghost use Rattle.std.specs.Io.KnownBytes.{Appends};
@@ -10,8 +10,8 @@ use std::io::Write;
 #[derive(Clone, Copy, Debug, PartialEq, Eq)]
 pub struct WriteFault;
 
-/// Writes the bytes until a write fails: one that answers 0, or any error, an interrupted one too. Then a beginning of
-/// the bytes is written, not all of them.
+/// Writes the bytes until a write fails: one that answers 0, or any error, an interrupted one too. Then the first part
+/// of the bytes is written, not all of them.
 pub fn write_bytes<W: Write>(to: &mut W, bytes: &[u8]) -> Result<(), WriteFault>
     ensures whole { OnOk result (Appends (W.contents to.old) (W.contents to.new) bytes.now) }
     ensures cut { OnErr result (AppendsPart (W.contents to.old) (W.contents to.new) bytes.now) }
@@ -27,7 +27,7 @@ pub fn write_bytes<W: Write>(to: &mut W, bytes: &[u8]) -> Result<(), WriteFault>
     Ok(())
 }
 
-/// Writes the parts one after another, without memory, until a write fails. Then a beginning of them is written, not
+/// Writes the parts one after another, without memory, until a write fails. Then the first part of them is written, not
 /// all.
 pub fn write_parts<W: Write>(to: &mut W, parts: &[&str]) -> Result<(), WriteFault>
     ensures whole { OnOk result (Appends (W.contents to.old) (W.contents to.new)

@@ -1,4 +1,6 @@
-//! `modulecmd SHELL SUBCOMMAND [ARG...]`: prints the text by which the shell loads or unloads modules.
+//! The program `modulecmd SHELL SUBCOMMAND [ARG...]`: prints the text by which the shell loads or unloads modules.
+//! Touches its arguments, its environment and the standard streams, and reads files and folders of the disk.
+//! Nothing stands above it; it has no clause, so it has little code.
 #![tactic(auto)]
 
 use modulecmd::{
@@ -7,7 +9,7 @@ use modulecmd::{
 };
 use std::process::ExitCode;
 
-/// The arguments behind the program's name, and the environment.
+/// The arguments after the program's name, and the environment of the process.
 fn given(rt: &HostRuntime) -> Result<(Vec<String>, Env), CommandFault> {
     let arguments = arguments(rt)?;
     let block = environment_block(rt)?;
@@ -15,6 +17,7 @@ fn given(rt: &HostRuntime) -> Result<(Vec<String>, Env), CommandFault> {
     Ok((arguments, env))
 }
 
+/// Runs the command of the process's arguments, and ends with its status.
 fn main(rt: HostRuntime) -> ExitCode {
     let mut out = rt.stdout();
     let mut err = rt.stderr();

@@ -5,8 +5,8 @@ use Rattle.environment.specs.Environment.{Environment}
 use Rattle.requests.specs.Laws.{SessionsReturn, StepsAreMade}
 use Rattle.requests.specs.Reasons.{RequestReason}
 use Rattle.requests.specs.RequestViews.{request_view}
-use Rattle.requests.specs.Requests.{Asked, Request}
-use Rattle.requests.specs.declared.asked.Request as code
+use Rattle.requests.specs.Requests.{RequestedAction, Request}
+use Rattle.requests.specs.declared.action.Request as code
 use Rattle.requests.specs.Returning.{AreNew, AreFitting}
 use Rattle.requests.specs.Sessions as sessions
 use Rattle.requests.specs.Sessions.{Response, Session, IsResponse, env_after, in_shell, is_cause, session_moves}
@@ -23,7 +23,7 @@ use Rattle.modules.specs.declared.sessions.Outcome.{Outcome}
 use Rattle.modules.specs.declared.sessions.Outcome.TheVariants.{Accepted, Refused}
 use Rattle.modules.specs.Responses.{accepted_in, by_cause, count_cause, count_failed, count_one, led_to, response_of, responses, Returns}
 
--- what is left behind one response more
+-- the environment after one response more
 pub left_push : (e : Environment) (os : List Response) (o : Response) → sessions.left_by e (os ++ o ∷ []) ≡ env_after (sessions.left_by e os) o
 left_push e [] o = refl
 left_push e (p ∷ os) o = left_push (env_after e p) os o
@@ -33,8 +33,8 @@ pub responses_push : (e : Environment) (os : List Outcome) (o : Outcome)
 responses_push e [] o = refl
 responses_push e (p ∷ os) o = ap (λ rs. response_of e p ∷ rs) (responses_push (env_after e (response_of e p)) os o)
 
--- the moves of an accepted step lead to the environment that it leaves
-pub made_led : StepsAreMade → (s : Site) (e new : Environment) (asked : Asked) (done : Done) → RequestStep s e asked (Ok (done_view done new)) → new ≡ led_to e done
+-- the moves of an accepted step make the environment that results
+pub made_led : StepsAreMade → (s : Site) (e new : Environment) (asked : RequestedAction) (done : Done) → RequestStep s e asked (Ok (done_view done new)) → new ≡ led_to e done
 made_led law s e new asked done step = sym (ap (accepted_in e) (law s e asked (done_view done new) step))
 
 plus_assoc : (a b c : ℕ) → a + (b + c) ≡ (a + b) + c
@@ -76,7 +76,7 @@ pub refused_counts : (before after : ℕ) (refusal : Refusal) (Is : RequestReaso
     → before + count_failed (Refused refusal ∷ []) ≤ after
 refused_counts before after refusal Is later h = cause_counts (cause_of refusal) before after Is later h
 
-pub responds : StepsAreMade → (s : Site) (e new : Environment) (asked : Asked) (done : Done) → RequestStep s e asked (Ok (done_view done new)) → IsResponse s e asked (response_of e (Accepted done))
+pub responds : StepsAreMade → (s : Site) (e new : Environment) (asked : RequestedAction) (done : Done) → RequestStep s e asked (Ok (done_view done new)) → IsResponse s e asked (response_of e (Accepted done))
 responds law s e new asked done step =
     let P : Environment → Type 0 = λ x. RequestStep s e asked (Ok (done_view done x)) in
     subst P (made_led law s e new asked done step) step
@@ -85,14 +85,14 @@ responds law s e new asked done step =
 pub memory_is_cause : (refusal : Refusal) → is_cause (memory_number refusal) ≡ true
 memory_is_cause refusal = of_three refusal (λ n. is_cause n ≡ true) refl refl refl
 
-cause_responds : (wanting : ℕ) → is_cause wanting ≡ true → (c : Cause RequestReason) (agrees : Files → Listings → Type 0) (failed : Type 0) (site : Files → Listings → Site) (e : Environment) (asked : Asked)
+cause_responds : (wanting : ℕ) → is_cause wanting ≡ true → (c : Cause RequestReason) (agrees : Files → Listings → Type 0) (failed : Type 0) (site : Files → Listings → Site) (e : Environment) (asked : RequestedAction)
     → Applies c failed (λ r. InEachPair agrees (λ files listings. RequestStep (site files listings) e asked (Err r)))
     → InEachPair agrees (λ files listings. IsResponse (site files listings) e asked (by_cause (number_by wanting c) c))
 cause_responds wanting is memory agrees failed site e asked h = λ files listings agreed. is
 cause_responds wanting is device agrees failed site e asked h = λ files listings agreed. refl
 cause_responds wanting is (because r) agrees failed site e asked h = h
 
-pub refused_responds : (refusal : Refusal) (agrees : Files → Listings → Type 0) (failed : Type 0) (site : Files → Listings → Site) (e : Environment) (asked : Asked)
+pub refused_responds : (refusal : Refusal) (agrees : Files → Listings → Type 0) (failed : Type 0) (site : Files → Listings → Site) (e : Environment) (asked : RequestedAction)
     → Applies (cause_of refusal) failed (λ r. InEachPair agrees (λ files listings. RequestStep (site files listings) e asked (Err r)))
     → InEachPair agrees (λ files listings. IsResponse (site files listings) e asked (response_of e (Refused refusal)))
 refused_responds refusal agrees failed site e asked h = cause_responds (memory_number refusal) (memory_is_cause refusal) (cause_of refusal) agrees failed site e asked h
@@ -115,7 +115,7 @@ session_returning law s start rs os session ways is_start are_new fitting before
     let Fits : List Response → Type 0 = λ x. AreFitting ways [] (session_moves x) in
     law ways s start rs before after is_start (subst Runs cut session) (subst New cut are_new) (subst Fits cut fitting)
 
--- a request more, behind what was answered so far
+-- a request more, after those with an answer
 pub session_grows : (start e new : Environment) (outcomes : List Outcome) (o : Outcome)
     → e ≡ sessions.left_by start (responses start outcomes) → new ≡ env_after e (response_of e o)
     → (new ≡ sessions.left_by start (responses start (outcomes ++ o ∷ []))) × (responses start (outcomes ++ o ∷ []) ≡ responses start outcomes ++ response_of e o ∷ [])
@@ -126,7 +126,7 @@ session_grows start e new outcomes o left after =
       grown,
     )
 
--- what the rest of a session has as responses, the whole has behind those so far
+-- what the rest of a session has as responses, the whole has after those so far
 pub session_taken : (s : Site) (start e new : Environment) (asked : Request) (rs all : List Request) (sofar : List Response) (grown : List Response) (o : Response)
     → (os : List Response) → (Session s e (asked ∷ rs) (o ∷ os) → Session s start all (sofar ++ o ∷ os))
     → IsResponse (in_shell s asked.0) e asked.1 o → new ≡ env_after e o → grown ≡ sofar ++ o ∷ []
@@ -136,7 +136,7 @@ session_taken s start e new asked rs all sofar grown o os run is_response left m
     let Q : List Response → Type 0 = λ x. Session s start all x in
     subst Q (sym (append_assoc sofar (o ∷ []) os) ∙ ap (λ x. x ++ os) (sym more)) (run (is_response, subst P left rest))
 
--- the first of the requests that are left
+-- the first of the remaining requests
 pub split_first : {X Y : Type 0} (view : X → Y) (x : X) (rest : List X) → 1 ≤ length rest → x ≡ get_or rest 0 x → map view rest ≡ view x ∷ map view (take (length rest - 1) (drop 1 rest))
 split_first view x [] some is = absurd (omega arith)
 split_first view x (y ∷ ys) some is =
@@ -146,7 +146,7 @@ no_more : (s : Site) (e : Environment) (rest : List code.Request) → length res
 no_more s e [] none = tt
 no_more s e (r ∷ rs) none = absurd (omega arith)
 
--- no request is left
+-- no request remains
 pub session_done : (s : Site) (start e : Environment) (rest : List code.Request) (all : List Request) (sofar : List Response) → length rest < 1
     → ((os : List Response) → Session s e (map request_view rest) os → Session s start all (sofar ++ os)) → Session s start all sofar
 session_done s start e rest all sofar none run =

@@ -1,2 +1,3 @@
+-- The answers of requests and sessions, as the definitions see them.
 pub mod Replies
 pub mod Responses

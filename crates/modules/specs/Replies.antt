@@ -1,4 +1,4 @@
--- What accepted requests answer, as the definitions see it.
+-- What an accepted request answers, as the definitions see it.
 use Rattle.std.specs.Prelude.{string_bytes}
 use Rattle.environment.specs.Environment.{Environment}
 use Rattle.environment.specs.Texts.{texts_in}
@@ -15,20 +15,21 @@ use Rattle.requests.specs.Steps.{Site, Done}
 abbrev pub site_in : Limits → Shell → Files → Listings → Site
 site_in limits shell files listings = record { files = files; listings = listings; limits = limits; shell = shell }
 
--- the changes, made in an environment
-abbrev pub left_by : Environment → Changed → Environment
-left_by e changed = applied (new_values_in changed.changes) e
+-- the environment with these changes made in it
+abbrev pub changed_env : Environment → Changed → Environment
+changed_env e changed = applied (new_values_in changed.changes) e
 
--- what was done, with what its changes make of the environment
+-- what was done, with the environment that its changes make
 abbrev pub changed_view : Environment → Changed → Done
 changed_view e changed =
     record {
-      env = left_by e changed;
+      env = changed_env e changed;
       moves = moves_of changed.moves;
       messages = texts_in changed.messages;
       report = string_bytes changed.report;
     }
 
+-- what was done, with the environment that results
 abbrev pub reply_view : Reply → Done
 reply_view reply =
     record {

@@ -1,4 +1,4 @@
--- What the outcomes of a session say, as the definitions see them.
+-- The outcomes of a session, as the responses of the definitions.
 use Rattle.std.specs.Prelude.{◌≡◌, ℕ, Bool, false, ◌+◌, List, [], ◌∷◌, ◌++◌, Result, Ok, Err}
 use Rattle.environment.specs.Texts.{Text}
 use Rattle.environment.specs.Environment.{Environment}
@@ -20,11 +20,12 @@ use Rattle.modulesteps.specs.declared.done.Done.{Done}
 use Rattle.modules.specs.declared.sessions.Outcome.{Outcome}
 use Rattle.modules.specs.declared.sessions.Outcome.TheVariants.{Accepted, Refused}
 
--- the environment that the moves of a request lead to
+-- the new environment, or the old one where there is none
 abbrev pub accepted_in : {R : Type 0} → Environment → Result Environment R → Environment
 accepted_in e (Ok new) = new
 accepted_in e (Err reason) = e
 
+-- the environment that the moves of a request make
 abbrev pub led_to : Environment → Done → Environment
 led_to e done = accepted_in e (made (moves_of done.moves) e)
 
@@ -34,38 +35,40 @@ by_cause number memory = given_up number
 by_cause number device = given_up number
 by_cause number (because reason) = refused reason
 
--- what an outcome says, in the environment in which it came
+-- an outcome as a response, in the environment in which its request was run
 abbrev pub response_of : Environment → Outcome → Response
 response_of e (Accepted done) = accepted (done_view done (led_to e done))
 response_of e (Refused refusal) = by_cause (number_of refusal) (cause_of refusal)
 
--- what outcomes say, one after another
+-- outcomes as responses, one after another
 abbrev pub responses : Environment → List Outcome → List Response
 responses e [] = []
 responses e (o ∷ os) = response_of e o ∷ responses (env_after e (response_of e o)) os
 
--- it was refused since the device failed
+-- it was refused because the device failed
 abbrev pub has_failed : Outcome → Bool
 has_failed (Accepted done) = false
 has_failed (Refused refusal) = is_failure refusal
 
--- how many were refused since the device failed
+-- one for a cause that is a failed device
 abbrev pub count_cause : Cause RequestReason → ℕ
 count_cause memory = 0
 count_cause device = 1
 count_cause (because reason) = 0
 
+-- one for a request that was refused because the device failed
 abbrev pub count_one : Outcome → ℕ
 count_one (Accepted done) = 0
 count_one (Refused refusal) = count_cause (cause_of refusal)
 
+-- how many requests were refused because the device failed
 abbrev pub count_failed : List Outcome → ℕ
 count_failed [] = 0
 count_failed (o ∷ os) = count_one o + count_failed os
 
--- Where the start is in order, and the moves are of new modules that are reversible and apart: after each beginning of
--- the session the environment is in order and stands over the start with the modules that are live there. With none it
--- is the start.
+-- Where the start is in order, and the moves are of new modules that are reversible and apart: after each first part of
+-- the session the environment is in order and is the start with the live modules layered on it. With none it is the
+-- start.
 abbrev pub Returns : Environment → List Response → Type 0
 Returns start os =
     (ways : Text → Way) → IsStart ways start → AreNew start (session_moves os)

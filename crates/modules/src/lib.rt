@@ -1,4 +1,6 @@
-//! What requests make of an environment, over a tree of modulefiles (module(1)).
+//! Requests run over an environment, one alone or one after another: `run`, `run_changes`, `session` (module(1)).
+//! Takes memory; changes the `Env` and reads the files and folders (`Tree`) that it is given.
+//! Used by sessioncheck, rehearsal and modulecmd.
 #![tactic(auto)]
 
 mod asking;

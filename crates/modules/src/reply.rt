@@ -1,4 +1,4 @@
-//! What an accepted request answers.
+//! What an accepted request answers: its changes or its environment, and what it did besides.
 ghost use Rattle.std.specs.Prelude.{◌≡◌};
 ghost use Rattle.environment.specs.Texts.{texts_in};
 ghost use Rattle.modulerecords.specs.Moves.{loaded_names};
@@ -11,7 +11,7 @@ use std::snapshot::Snapshot;
 /// What an accepted request changes, and what it did besides.
 #[derive(Drop)]
 pub struct Changed {
-    /// Each variable whose value is another now, once, in the order of bytes.
+    /// Each variable that has another value now, or is now set or unset: once, in the order of bytes.
     pub changes: Vec<Change>,
     /// The full names of the modules that the request loaded, in order.
     pub loaded: Vec<String>,
@@ -19,15 +19,15 @@ pub struct Changed {
     pub messages: Vec<String>,
     /// Its report.
     pub report: String,
-    /// Its moves, which contracts alone can see: each holds no byte.
+    /// Its moves, which contracts alone can see: a snapshot takes no memory.
     pub moves: Vec<Snapshot<Move>>,
     pub ghost named: { texts_in loaded ≡ loaded_names (moves_of moves) },
 }
 
-/// What an accepted request leaves, and what it did besides.
+/// The environment that results of an accepted request, and what the request did besides.
 #[derive(Drop)]
 pub struct Reply {
-    /// The environment.
+    /// The environment that results.
     pub env: Env,
     /// The full names of the modules that the request loaded, in order.
     pub loaded: Vec<String>,
@@ -35,7 +35,7 @@ pub struct Reply {
     pub messages: Vec<String>,
     /// Its report.
     pub report: String,
-    /// Its moves, which contracts alone can see: each holds no byte.
+    /// Its moves, which contracts alone can see: a snapshot takes no memory.
     pub moves: Vec<Snapshot<Move>>,
     pub ghost named: { texts_in loaded ≡ loaded_names (moves_of moves) },
 }

@@ -1,4 +1,4 @@
-//! One request over an environment that stays as it is.
+//! Runs one request over an environment that doesn't change.
 ghost use Rattle.std.specs.Prelude.{◌<◌, ◌≤◌, IfOk, IfErr};
 ghost use Rattle.environment.specs.Changes.{AreChanges, new_values_in};
 ghost use Rattle.filetree.specs.Agreement.{FailsAt, InEachPair, Narrows};
@@ -7,7 +7,7 @@ ghost use Rattle.requests.specs.Steps.{RequestStep};
 ghost use Rattle.requests.specs.Looked.{RequestLooksAt};
 ghost use Rattle.modulesteps.specs.Answers.{Tells, is_failure};
 ghost use Rattle.modulesteps.specs.Messages.{WantsAmong, memory_numbers};
-ghost use Rattle.modules.specs.Replies.{left_by, changed_view, reply_view, site_in};
+ghost use Rattle.modules.specs.Replies.{changed_env, changed_view, reply_view, site_in};
 
 use crate::reply::{Changed, Reply};
 use environment::{Env, Vars, Working};
@@ -17,8 +17,8 @@ use requests::Request;
 use std::alloc::Global;
 use tclrules::Limits;
 
-/// Runs a request over an environment, which stays as it is, and a tree of modulefiles, and answers what the request
-/// changes. It costs what the request touches, whatever else is set.
+/// Runs a request over an environment, which doesn't change, and a tree of modulefiles, and answers what the request
+/// changes. Its cost grows with what the request touches, whatever else is set.
 ///
 /// It is refused as the request's step over the tree is; or by 43 where the device failed in this call, at a path that
 /// the request looks at; or for want of memory: 31, 41 where files are searched for or read, 11 where they are
@@ -37,7 +37,7 @@ pub fn run_changes<T: Tree>(
         (asked_view request.now.action)) }
     ensures wanting { IfErr result (WantsAmong (memory_numbers (asked_view request.now.action))) }
     ensures exact { IfOk result (λ changed.
-        AreChanges env.now (left_by env.now changed) (new_values_in changed.changes)) }
+        AreChanges env.now (changed_env env.now changed) (new_values_in changed.changes)) }
     ensures failed { FailsAt is_failure (T.failed tree.old) (T.failed tree.new) result (λ at.
         InEachPair (T.agrees tree.new) (λ files listings.
         RequestLooksAt (site_in limits request.now.shell files listings) env.now
@@ -56,8 +56,8 @@ pub fn run_changes<T: Tree>(
     })
 }
 
-/// Runs a request as `run_changes` does, and answers the environment that the request leaves. It costs a copy of the
-/// environment besides.
+/// Runs a request as `run_changes` does, and answers the environment that results. It costs a copy of the environment
+/// besides.
 pub fn run<T: Tree>(
     alloc: Global,
     request: &Request,

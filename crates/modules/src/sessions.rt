@@ -1,4 +1,4 @@
-//! Requests one after another.
+//! Runs requests one after another, each with its outcome; a refused one changes nothing.
 ghost use Rattle.std.specs.Prelude.{◌≡◌, ◌<◌, ◌≤◌, ◌+◌, [], ◌∷◌, map, IfOk, IfErr, OnErr};
 ghost use Rattle.filetree.specs.Agreement.{FailsAt, FailsIf, InEachPair, Narrows};
 ghost use Rattle.shells.specs.declared.shell.Shell.{Shell};
@@ -20,7 +20,7 @@ use requests::Request;
 use std::alloc::Global;
 use tclrules::Limits;
 
-/// What came of a request.
+/// The outcome of a request.
 #[derive(Drop)]
 pub enum Outcome {
     /// It was accepted, and its changes were made: the names that it loaded, its messages and its report.
@@ -59,10 +59,11 @@ fn change<T: Tree>(
     })
 }
 
-/// What comes of a request, whose changes are made where it is accepted. Where it is refused the environment stays.
+/// Runs a request and answers its outcome. Where it is accepted its changes are made; where it is refused the
+/// environment doesn't change.
 ///
-/// In each pair of maps that agrees with the tree it is a response to the request in the environment as it was. It is
-/// refused by 43 only where the device failed in this call, at a path that the request looks at.
+/// In each pair of maps that agrees with the tree the outcome is a response to the request in the environment as it
+/// was. It is refused by 43 only where the device failed in this call, at a path that the request looks at.
 pub fn respond<T: Tree>(
     alloc: Global,
     request: &Request,
@@ -89,15 +90,15 @@ pub fn respond<T: Tree>(
     }
 }
 
-/// Runs requests one after another over an environment and a tree of modulefiles, and answers what they leave, with one
-/// outcome for each. A refused request leaves the environment, and the next is run.
+/// Runs requests one after another over an environment and a tree of modulefiles, and answers the environment that
+/// results, with one outcome for each request. A refused request changes nothing, and the next is run.
 ///
 /// For every pair of maps that agrees with the tree, the outcomes are those of a session. No more of them are refused
 /// by 43 than the device failed.
 ///
-/// The session leads back where the environment is in order, no module is unloaded that was loaded in it, the modules
-/// that are loaded are reversible and apart, and each unload leaves the records of the load that it undoes. Then each
-/// environment on the way is in order and stands over the first one with the modules that are live there, and with none
+/// The session returns to its start where the environment is in order, no module is unloaded that was loaded in it, the
+/// modules that are loaded are reversible and apart, and each unload has the records of the load that it undoes. Then
+/// each environment of the session is in order and is the first one with the live modules layered on it, and with none
 /// live it is the first one again.
 ///
 /// Errors: want of memory for the list of outcomes (31).

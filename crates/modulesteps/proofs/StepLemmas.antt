@@ -53,7 +53,7 @@ gives_tells agrees before view (Err e) Gave Comes then h =
     stands_each (cause_of e) agrees before (λ files listings r. Gave files listings (Err r)) (λ files listings r. Comes files listings (Err r))
     (λ files listings r a k. then files listings (Err r) a k) h
 
--- what a call over a tree tells
+-- the answer of a call over a tree, for a step of the same outcomes
 pub tells_same : {X Y : Type 0} (agrees : Files → Listings → Type 0) (failed before : Type 0) (view : X → Y) (r : Result X Refusal)
     (Told Comes : Files → Listings → Result Y RequestReason → Type 0)
     → (failed → before) → ((files : Files) (listings : Listings) (o : Result Y RequestReason) → agrees files listings → Told files listings o → Comes files listings o)
@@ -62,7 +62,7 @@ tells_same agrees failed before view (Ok x) Told Comes later then h = λ files l
 tells_same agrees failed before view (Err e) Told Comes later then h =
     stands_as (cause_of e) failed before _ _ later (λ r k files listings a. then files listings (Err r) a (k files listings a)) h
 
--- what is told of a value is told of what equals it
+-- the answer for a value is that for what equals it
 pub tells_of : {A X Y : Type 0} (agrees : Files → Listings → Type 0) (before : Type 0) (view : X → Y) (r : Result X Refusal)
     (Comes : A → Files → Listings → Result Y RequestReason → Type 0) (x y : A) → x ≡ y → Tells agrees before view r (Comes y) → Tells agrees before view r (Comes x)
 tells_of agrees before view r Comes x y e h = subst (λ z. Tells agrees before view r (Comes z)) (sym e) h
@@ -176,7 +176,7 @@ module _ (d : Done) (xs : List Entry) (m : Module) (messages : List Text) (mid :
   pub joins_refused : (r : RequestReason) → Err r ≡ added xs m mid → Err r ≡ joins d xs m messages
   joins_refused r h = joined (Err r) h
 
--- what dropping an entry comes to
+-- the environment without an entry
 abbrev dropped_so : Done → Module → List Text → Result Environment EnvReason → Result Done RequestReason
 dropped_so d m messages (Ok e) = Ok (moved_on d (Unloads m) messages e)
 dropped_so d m messages (Err r) = Err (refused_edit (bad_edit r))

@@ -1,4 +1,4 @@
--- A verdict, by what the file left.
+-- A verdict, by the result of its file.
 use Rattle.std.proofs.Common.{◌≡◌, Bool, true, false, if◌then◌else◌, Result, Ok, Err, IfOk, refl}
 use Rattle.std.specs.List.{list_all}
 use Rattle.environment.specs.Texts.{Text}
@@ -16,7 +16,7 @@ use Rattle.modulesteps.specs.Answers.{Tells}
 use Rattle.modulesteps.specs.Verdicts.{verdict_view, in_sh, PlainMeans}
 
 by_tests : (ran : Ran) (asked ends : Bool) → ran.asked ≡ asked → list_all is_reversible ran.records ≡ ends
-    → (if asked then verdicts.asking else if ends then verdicts.plain else verdicts.one_way) ≡ verdict_of ran
+    → (if asked then verdicts.asks else if ends then verdicts.plain else verdicts.one_way) ≡ verdict_of ran
 by_tests ran asked ends a b = rw (a, b) refl
 
 pub plain_by : (ran : Ran) → ran.asked ≡ false → list_all is_reversible ran.records ≡ true → verdicts.plain ≡ verdict_of ran

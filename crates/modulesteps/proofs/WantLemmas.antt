@@ -3,7 +3,7 @@ use Rattle.std.proofs.Common.{◌≡◌, ℕ, true, [], ◌∷◌, Result, Ok, E
 use Rattle.std.specs.Prelude.{◌==◌}
 use Rattle.std.specs.List.{list_any}
 use Rattle.modulerun.specs.declared.run_fault.RunFault.TheVariants.{OutOfMemory, Eval, BadArguments, BadRecord}
-use Rattle.requests.specs.Requests.{Asked, load, unload, switch, purge, list, avail, show, whatis}
+use Rattle.requests.specs.Requests.{RequestedAction, load, unload, switch, purge, list, avail, show, whatis}
 use Rattle.modulesteps.specs.Messages.{WantsAmong, memory_number, memory_numbers}
 use Rattle.modulesteps.specs.declared.refusal.Refusal.{Refusal}
 use Rattle.modulesteps.specs.declared.refusal.Refusal.TheVariants as refusals
@@ -31,7 +31,7 @@ wants_any (Ok x) = tt
 wants_any (Err refusal) = of_three refusal (λ n. list_any (λ m. m == n) (11 ∷ 31 ∷ 41 ∷ []) ≡ true) refl refl refl
 
 -- each request can want memory of its own
-pub own_number : (asked : Asked) → list_any (λ n. n == 31) (memory_numbers asked) ≡ true
+pub own_number : (asked : RequestedAction) → list_any (λ n. n == 31) (memory_numbers asked) ≡ true
 own_number (load names) = refl
 own_number (unload names) = refl
 own_number (switch old new) = refl

@@ -1,4 +1,4 @@
--- How the answers of a request show what the definitions say.
+-- What a request's answer promises: the outcome that the definitions have, or a refusal with its cause (own).
 use Rattle.std.specs.Prelude.{Bool, true, false, Option, Some, None, Result, Ok, Err, string_bytes}
 use Rattle.environment.specs.Texts.{texts_in}
 use Rattle.environment.specs.Reasons.{reason_of}
@@ -18,16 +18,18 @@ use Rattle.requests.specs.declared.request_fault.RequestFault.TheVariants as req
 use Rattle.modulesteps.specs.declared.refusal.Refusal.{Refusal}
 use Rattle.modulesteps.specs.declared.refusal.Refusal.TheVariants as refusals
 
--- the reason, where there is one
+-- the cause: the reason where there is one, else want of memory
 abbrev pub by_reason : {R : Type 0} → (R → RequestReason) → Option R → Cause RequestReason
 by_reason view None = memory
 by_reason view (Some r) = because (view r)
 
+-- the cause of a search, as that of a request
 abbrev pub by_search : Cause search.Reason → Cause RequestReason
 by_search memory = memory
 by_search device = device
 by_search (because r) = because (missed r)
 
+-- the cause of each refusal
 abbrev pub cause_of : Refusal → Cause RequestReason
 cause_of refusals.OutOfMemory = memory
 cause_of (refusals.Run fault) = by_reason stopped (stop_of fault)
@@ -47,17 +49,18 @@ is_of_device memory = false
 is_of_device device = true
 is_of_device (because r) = false
 
--- the refusal by 43
+-- the refusal is by 43
 abbrev pub is_failure : Refusal → Bool
 is_failure refusal = is_of_device (cause_of refusal)
 
--- A call without a tree: what it gives, seen by view, is what it comes to; or its refusal has a cause.
+-- The answer of a call without a tree: the value, seen by view, is an outcome; or the refusal is one, or has another
+-- cause.
 abbrev pub GivesOrRefuses : {X Y : Type 0} → (X → Y) → Result X Refusal → (Result Y RequestReason → Type 0)
     → Type 0
 GivesOrRefuses view (Ok x) Comes = Comes (Ok (view x))
 GivesOrRefuses view (Err e) Comes = Applies (cause_of e) ⊥ (λ r. Comes (Err r))
 
--- what a call over a tree tells, whose faults are refusals
+-- the answer of a call over a tree, whose faults are refusals
 abbrev pub Tells : {X Y : Type 0} → (Files → Listings → Type 0) → Type 0 → (X → Y) → Result X Refusal
     → (Files → Listings → Result Y RequestReason → Type 0) → Type 0
 Tells = causes.Tells cause_of

@@ -1,3 +1,4 @@
+-- How the values and answers of the program show what the definitions in requests say.
 pub mod MoveViews
 pub mod Views
 pub mod Answers

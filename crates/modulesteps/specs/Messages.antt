@@ -1,4 +1,4 @@
--- The numbers of refusals, and what each says: the text of its layer's fault, or its own.
+-- The number and the text of each refusal (own): those of its layer's fault, or its own.
 use Rattle.std.specs.Prelude.{ℕ, ◌≡◌, ◌==◌, true, List, [], ◌∷◌, codes, string_bytes}
 use Rattle.std.specs.List.{list_any}
 use Rattle.environment.specs.Reasons as edits
@@ -10,7 +10,7 @@ use Rattle.modulerun.specs.Messages as runs
 use Rattle.modulerun.specs.declared.run_fault.RunFault.{RunFault}
 use Rattle.modulerun.specs.declared.run_fault.RunFault.TheVariants as faults
 use Rattle.requests.specs.Reasons.{RequestReason, reason_number}
-use Rattle.requests.specs.Requests.{Asked, load, unload, switch, purge, list, avail, show, whatis}
+use Rattle.requests.specs.Requests.{RequestedAction, load, unload, switch, purge, list, avail, show, whatis}
 use Rattle.modulesteps.specs.Answers.{cause_of}
 use Rattle.modulesteps.specs.Spaced.{spaced}
 use Rattle.modulesteps.specs.declared.refusal.Refusal.{Refusal}
@@ -45,7 +45,7 @@ memory_number (refusals.NotAModulefile path) = 31
 
 -- The numbers that want of memory can have in a request: 31 in each; 41 where files are searched for or read; 11 where
 -- they are evaluated.
-abbrev pub memory_numbers : Asked → List ℕ
+abbrev pub memory_numbers : RequestedAction → List ℕ
 memory_numbers (load names) = 11 ∷ 31 ∷ 41 ∷ []
 memory_numbers (unload names) = 11 ∷ 31 ∷ 41 ∷ []
 memory_numbers (switch old new) = 11 ∷ 31 ∷ 41 ∷ []
@@ -55,7 +55,7 @@ memory_numbers (avail texts) = 31 ∷ 41 ∷ []
 memory_numbers (show names) = 11 ∷ 31 ∷ 41 ∷ []
 memory_numbers (whatis names) = 11 ∷ 31 ∷ 41 ∷ []
 
--- want of memory, where the refusal is that, has one of these numbers
+-- where the refusal is want of memory, its number is one of these
 abbrev pub WantsAmong : List ℕ → Refusal → Type 0
 WantsAmong numbers refusal = list_any (λ n. n == memory_number refusal) numbers ≡ true
 
@@ -63,6 +63,7 @@ WantsAmong numbers refusal = list_any (λ n. n == memory_number refusal) numbers
 abbrev pub number_of : Refusal → ℕ
 number_of refusal = number_by (memory_number refusal) (cause_of refusal)
 
+-- the text of each refusal
 abbrev pub message_of : Refusal → Text
 message_of refusals.OutOfMemory = codes "Out of memory"
 message_of (refusals.Run fault) = runs.message_of fault

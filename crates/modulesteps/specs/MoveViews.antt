@@ -9,14 +9,16 @@ use Rattle.modulesteps.specs.declared.done.Module.{Module}
 use Rattle.modulesteps.specs.declared.done.Move.{Move}
 use Rattle.modulesteps.specs.declared.done.Move.TheVariants as code
 
+-- the module: its name, path and records
 abbrev pub module_view : Module → moves.Module
 module_view m =
     record { name = string_bytes m.name; path = string_bytes m.path; records = map record_view m.records.items }
 
+-- the move: the module that it loads or unloads
 abbrev pub move_view : Move → moves.Move
 move_view (code.Loads m) = moves.Loads (module_view m)
 move_view (code.Unloads m) = moves.Unloads (module_view m)
 
--- what was moved, one after the other: a snapshot shows a move to contracts alone
+-- the moves in order; a snapshot shows a move to contracts alone
 abbrev pub moves_of : Vec (Snapshot Move) Global → List moves.Move
 moves_of v = map (λ s. move_view s.value) v.items

@@ -1,4 +1,4 @@
--- Names in a text.
+-- Names in one text, as a refusal shows them.
 use Rattle.std.specs.Prelude.{List}
 use Rattle.std.specs.List.{join_with_byte}
 use Rattle.environment.specs.Texts.{Text}

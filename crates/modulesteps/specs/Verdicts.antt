@@ -1,4 +1,4 @@
--- What the verdict on a modulefile says, as the definitions see it.
+-- Verdicts of the program, as the definitions see them (own).
 use Rattle.std.specs.Prelude.{◌≡◌, true, Ok}
 use Rattle.std.specs.List.{list_all}
 use Rattle.environment.specs.Texts.{Text}
@@ -15,17 +15,18 @@ use Rattle.requests.specs.Verdicts.{LeavesAlways}
 use Rattle.modulesteps.specs.declared.judged.Verdict.{Verdict}
 use Rattle.modulesteps.specs.declared.judged.Verdict.TheVariants.{Plain, Asked, OneWay}
 
--- what a verdict is given over
+-- what a verdict is given over: files evaluated for sh
 abbrev pub in_sh : Limits → Files → Listings → Site
 in_sh limits files listings = record { files = files; listings = listings; limits = limits; shell = Sh }
 
+-- the verdict
 abbrev pub verdict_view : Verdict → verdicts.Verdict
 verdict_view Plain = verdicts.plain
-verdict_view Asked = verdicts.asking
+verdict_view Asked = verdicts.asks
 verdict_view OneWay = verdicts.one_way
 
--- The name means a module whose file leaves the same records in every context, or is refused there, and unloading
--- undoes each of them.
+-- The name means a module whose file makes the same records in every context, or is refused there, and unloading undoes
+-- each of them.
 abbrev pub MeansPlainFile : Site → Environment → Text → Type 0
 MeansPlainFile s e name =
     (m : search.FoundModule) × (ran : Ran) × Finds s e name (Ok m)

@@ -1,4 +1,4 @@
--- What values of the program are, as the definitions see them.
+-- What a request is run over and what it has done, as the definitions see these values of the program.
 use Rattle.std.specs.Prelude.{string_bytes}
 use Rattle.environment.specs.Texts.{texts_in}
 use Rattle.environment.specs.Environment.{Environment}

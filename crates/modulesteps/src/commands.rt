@@ -1,4 +1,4 @@
-//! Whole requests.
+//! The subcommands, each over all its names: `load`, `unload`, `switch`, `purge`, `list`, `avail`, `show`, `whatis`.
 ghost use Rattle.std.specs.Prelude.{◌≡◌, ◌<◌, ◌≤◌, [], ◌∷◌, Some, IfOk, IfErr, map, reverse, string_bytes};
 ghost use Rattle.std.specs.Option.{option_map};
 ghost use Rattle.environment.specs.Environment.{Environment};
@@ -10,7 +10,7 @@ ghost use Rattle.filetree.specs.Agreement.{FailsAt, InEachPair, Narrows};
 ghost use Rattle.defaultfiles.specs.Leaves.{Leaves};
 ghost use Rattle.modulesearch.specs.Looked.{ListingLooksAt};
 ghost use Rattle.modulename.specs.ModuleName.{parts};
-ghost use Rattle.requests.specs.Requests as asked;
+ghost use Rattle.requests.specs.Requests as actions;
 ghost use Rattle.requests.specs.RequestViews.{asked_view};
 ghost use Rattle.requests.specs.Steps as steps;
 ghost use Rattle.requests.specs.Steps.{begun, Each, EndsRequest, Named, Changes, ShowsNames, ListsLoaded, ListsAll, RequestStep};
@@ -18,7 +18,7 @@ ghost use Rattle.requests.specs.Looked.{PurgeLooksAt, SwitchLooksAt, RequestLook
 ghost use Rattle.modulesteps.specs.Views.{site_of, done_view};
 ghost use Rattle.modulesteps.specs.Answers.{GivesOrRefuses, Tells, is_failure};
 ghost use Rattle.modulesteps.specs.Messages.{WantsAmong, memory_numbers};
-ghost use Rattle.modulesteps.specs.declared.commands.Doing.TheVariants.{Report};
+ghost use Rattle.modulesteps.specs.declared.commands.Doing.TheVariants.{ReportOn};
 ghost use Rattle.modulesteps.specs.Parts.{DoesForName, LooksForName, LooksForEach, topic_mode, topic_text};
 
 use crate::conditions::first_lost;
@@ -37,15 +37,18 @@ use requests::{Action, Request};
 use std::alloc::{AllocError, Global};
 use tclrules::Limits;
 
-/// What is done for each name.
+/// What a subcommand does for each of its names.
 #[derive(Clone, Copy)]
 pub(crate) enum Doing {
+    /// The module that the name means is loaded.
     Load,
+    /// The last loaded module that the name means is unloaded.
     Unload,
-    Report(Topic),
+    /// A report on the module that the name means is made.
+    ReportOn(Topic),
 }
 
-/// Does it for a name.
+/// Loads, unloads or reports on the module that one name means.
 fn do_name<T: Tree, V: Vars>(
     alloc: Global,
     terms: Terms,
@@ -74,11 +77,11 @@ fn do_name<T: Tree, V: Vars>(
     match doing {
         Doing::Load => load_name(alloc, asking, env, tree, done),
         Doing::Unload => unload_name(alloc, asking, env, tree, done),
-        Doing::Report(topic) => report_name(alloc, terms, topic, typed, env, tree, done),
+        Doing::ReportOn(topic) => report_name(alloc, terms, topic, typed, env, tree, done),
     }
 }
 
-/// Does it for each name in turn.
+/// Loads, unloads or reports on the module of each name in turn, until one is refused.
 fn do_each<T: Tree, V: Vars>(
     alloc: Global,
     terms: Terms,
@@ -108,7 +111,7 @@ fn do_each<T: Tree, V: Vars>(
     Ok(())
 }
 
-/// Refuses where a module that was loaded before has lost what it needs.
+/// Refuses (53) where a module that was loaded before has lost what it needs.
 fn end<V: Vars>(alloc: Global, before: &[Loaded], env: &V, done: &Done) -> Result<(), Refusal>
     ensures { GivesOrRefuses (λ u. done_view done.now (V.vars env.now)) result
         (EndsRequest (map entry_of before.now) (done_view done.now (V.vars env.now))) }
@@ -120,7 +123,7 @@ fn end<V: Vars>(alloc: Global, before: &[Loaded], env: &V, done: &Done) -> Resul
     }
 }
 
-/// Does it for each name, and ends the command.
+/// Loads or unloads the module of each name in turn, and then judges what loaded modules need (53).
 fn change_each<T: Tree, V: Vars>(
     alloc: Global,
     terms: Terms,
@@ -147,7 +150,7 @@ fn change_each<T: Tree, V: Vars>(
     Ok(done)
 }
 
-/// Loads or unloads each of at least one name.
+/// Loads or unloads the module of each of at least one name (else 56), as one command.
 fn change_names<T: Tree, V: Vars>(
     alloc: Global,
     terms: Terms,
@@ -195,7 +198,7 @@ fn purge<T: Tree, V: Vars>(
     ensures under { V.under env.new ≡ V.under env.old }
     ensures told { Tells (T.agrees tree.new) (T.failures tree.old < T.failures tree.new)
         (λ done. done_view done (V.vars env.new)) result
-        (λ files listings. RequestStep (site_of terms files listings) (V.vars env.old) asked.purge) }
+        (λ files listings. RequestStep (site_of terms files listings) (V.vars env.old) actions.purge) }
     ensures failed { FailsAt is_failure (T.failed tree.old) (T.failed tree.new) result (λ at.
         InEachPair (T.agrees tree.new) (λ files listings.
         PurgeLooksAt (site_of terms files listings) (V.vars env.old) at)) }
@@ -213,7 +216,7 @@ fn purge<T: Tree, V: Vars>(
     )
 }
 
-/// The first part of a name.
+/// The first part of a name, as `gcc` of `gcc/9`.
 fn first_part(name: &str) -> &str
     ensures { result.now ≡ steps.first_part (parts name.entry.now) }
 {
@@ -223,7 +226,7 @@ fn first_part(name: &str) -> &str
     }
 }
 
-/// Without an old name it is the first part of the new one.
+/// The name of the module that a switch unloads: without an old name it is the first part of the new one.
 fn old_name<'a>(old: Option<&'a str>, new: &'a str) -> &'a str
     ensures { result.now ≡ steps.old_name (option_map (λ x. x.now) old.entry) new.entry.now }
 {
@@ -283,7 +286,7 @@ fn switch<T: Tree, V: Vars>(
     ensures told { Tells (T.agrees tree.new) (T.failures tree.old < T.failures tree.new)
         (λ done. done_view done (V.vars env.new)) result
         (λ files listings. RequestStep (site_of terms files listings) (V.vars env.old)
-        (asked.switch (option_map (λ x. x.now) old.entry) new.now)) }
+        (actions.switch (option_map (λ x. x.now) old.entry) new.now)) }
     ensures failed { FailsAt is_failure (T.failed tree.old) (T.failed tree.new) result (λ at.
         InEachPair (T.agrees tree.new) (λ files listings.
         SwitchLooksAt (site_of terms files listings) (steps.old_name (option_map (λ x. x.now) old.entry) new.now)
@@ -296,7 +299,7 @@ fn switch<T: Tree, V: Vars>(
     Ok(done)
 }
 
-/// Reports on each of at least one name.
+/// Reports on the module of each of at least one name (else 56).
 fn report_names<T: Tree, V: Vars>(
     alloc: Global,
     terms: Terms,
@@ -315,7 +318,7 @@ fn report_names<T: Tree, V: Vars>(
         (topic_text topic) (V.vars env.old) (map string_bytes names.now))) }
     ensures failed { FailsAt is_failure (T.failed tree.old) (T.failed tree.new) result (λ at.
         InEachPair (T.agrees tree.new) (λ files listings.
-        LooksForEach (Report topic) (site_of terms files listings) (map string_bytes names.now)
+        LooksForEach (ReportOn topic) (site_of terms files listings) (map string_bytes names.now)
         (begun (V.vars env.old)) at)) }
 {
     if names.is_empty() {
@@ -325,7 +328,7 @@ fn report_names<T: Tree, V: Vars>(
     do_each(
         alloc,
         terms,
-        Doing::Report(topic),
+        Doing::ReportOn(topic),
         names,
         env,
         tree,
@@ -334,7 +337,7 @@ fn report_names<T: Tree, V: Vars>(
     Ok(done)
 }
 
-/// What a request has done that only reports.
+/// What a request has done that makes no move and reports this text.
 fn reporting(alloc: Global, text: &str) -> Result<Done, AllocError>
     ensures { IfOk result (λ done. (e : Environment) → done_view done e ≡ steps.reported (begun e) [] text.now) }
 {
@@ -354,7 +357,7 @@ fn list<V: Vars>(alloc: Global, env: &V) -> Result<Done, Refusal>
     Ok(reporting(alloc, text.as_str())?)
 }
 
-/// Reports the modules along MODULEPATH.
+/// Reports the modules along MODULEPATH whose names begin with one of the texts; without texts, all.
 fn avail<T: Tree, V: Vars>(
     alloc: Global,
     terms: Terms,
@@ -380,10 +383,13 @@ fn avail<T: Tree, V: Vars>(
     Ok(reporting(alloc, text.as_str())?)
 }
 
-/// Makes of the variables what the request makes of them, over a tree of modulefiles, and answers what it did besides.
+/// Does a request: makes of the variables what its step over a tree of modulefiles makes of them, and answers what it
+/// did besides. Where it loads or unloads, the loaded modules are read first (35); then the names are gone through in
+/// turn, and after them what loaded modules need is judged once more (53).
 ///
 /// It is refused as the request's step over the tree is, for want of memory, or by 43 where the device failed in this
-/// call, at a path that the request looks at. Then the variables may be anything: hand in a copy to keep them.
+/// call, at a path that the request looks at. The variables may then hold anything, so a caller who needs the old ones
+/// hands in a copy.
 pub fn step<T: Tree, V: Vars>(
     alloc: Global,
     request: &Request,

@@ -1,4 +1,4 @@
-//! When modules may be loaded or unloaded beside one another.
+//! Where conflicts and prereqs are judged: which loaded modules forbid a load, and which have lost what they need.
 ghost use Rattle.std.specs.Prelude.{◌≡◌, ◌&&◌, not, map, find, string_bytes};
 ghost use Rattle.std.specs.List.{list_any};
 ghost use Rattle.std.specs.Option.{option_map};
@@ -61,7 +61,7 @@ fn means_module(names: &[String], full_name: &str) -> bool
     names.iter().any(|name| means(name.as_str(), full_name))
 }
 
-/// The first loaded module that is recorded to be in conflict with this one.
+/// The first loaded module, in load order, whose own conflicts name this one.
 pub(crate) fn recorded_conflict<'a>(name: &str, entries: &'a [Loaded]) -> Option<&'a Loaded>
     ensures { option_map (λ x. entry_of x.now) result
         ≡ recorded_conflict name.now (map entry_of entries.entry.now) }
@@ -99,7 +99,7 @@ pub(crate) fn missing_group<'a>(
         .find(|group| !is_met(entries, group.as_slice()))
 }
 
-/// Whether one of the groups held before and doesn't now.
+/// Whether one of the groups was met before and isn't now.
 fn has_lost_group(groups: &[Vec<String>], before: &[Loaded], after: &[Loaded]) -> bool
     ensures { result ≡ list_any (λ group. is_met (map entry_of before.now) group
         && not (is_met (map entry_of after.now) group)) (map texts_in groups.now) }
@@ -107,7 +107,7 @@ fn has_lost_group(groups: &[Vec<String>], before: &[Loaded], after: &[Loaded]) -
     groups.iter().any(|group| is_met(before, group.as_slice()) && !is_met(after, group.as_slice()))
 }
 
-/// Whether the module was loaded before, and a group that it needs held then and doesn't now.
+/// Whether the module was loaded before, and a group that it needs was met then and isn't now.
 fn has_lost(before: &[Loaded], after: &[Loaded], entry: &Loaded) -> bool
     ensures { result ≡ has_lost (map entry_of before.now) (map entry_of after.now) (entry_of entry.now) }
 {

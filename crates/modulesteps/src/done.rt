@@ -1,4 +1,4 @@
-//! What a request has done.
+//! What a request has done, and what its files are evaluated under.
 ghost use Rattle.std.specs.Prelude.{◌≡◌};
 ghost use Rattle.environment.specs.Texts.{texts_in};
 ghost use Rattle.modulerecords.specs.Moves.{loaded_names};
@@ -12,24 +12,29 @@ use tclrules::Limits;
 /// The limits on the evaluation of each file, and the shell that reads what is printed.
 #[derive(Clone, Copy, Debug)]
 pub struct Terms {
+    /// How many commands, how deep and how many bytes in a value.
     pub limits: Limits,
+    /// The shell, which modulefiles can ask for.
     pub shell: Shell,
 }
 
-/// A module with what its file left on record.
+/// A module with the records that its file made.
 #[derive(Debug, Drop)]
 pub struct Module {
     /// Its full name, as `gcc/9`.
     pub name: String,
     /// The path of its file.
     pub path: String,
+    /// What its file asked for, in order.
     pub records: Vec<Record>,
 }
 
 /// A change of what is loaded.
 #[derive(Debug, Drop)]
 pub enum Move {
+    /// The module was loaded.
     Loads(Module),
+    /// The module was unloaded.
     Unloads(Module),
 }
 
@@ -42,7 +47,7 @@ pub struct Done {
     pub messages: Vec<String>,
     /// Its report.
     pub report: String,
-    /// Its moves, which contracts alone can see: each holds no byte.
+    /// Its moves, which contracts alone can see: a snapshot takes no memory.
     pub moves: Vec<Snapshot<Move>>,
     pub ghost named: { texts_in loaded ≡ loaded_names (moves_of moves) },
 }

@@ -1,4 +1,4 @@
-//! The loaded modules, and the entry that a module joins them with.
+//! The loaded modules of an environment, and the entry with which a module joins them.
 ghost use Rattle.std.specs.Prelude.{◌≡◌, ◌++◌, [], ◌∷◌, map, IfOk, IfErr, OnOk, Ok, string_bytes};
 ghost use Rattle.environment.specs.Texts.{shown, texts_in};
 ghost use Rattle.environment.specs.Fields.{firsts};
@@ -25,7 +25,7 @@ use loadedlist::{Loaded, add_loaded, loaded};
 use modulefile::Record;
 use std::alloc::{AllocError, Global};
 
-/// The loaded modules.
+/// The loaded modules, in load order; 35 where the loaded lists don't fit together.
 pub(crate) fn entries_of<V: Vars>(alloc: Global, env: &V) -> Result<Vec<Loaded>, Refusal>
     ensures given { GivesOrRefuses entries_view result (Is (entries_of (V.vars env.now))) }
     ensures wanting { IfErr result (WantsAmong (31 ∷ [])) }
@@ -33,7 +33,7 @@ pub(crate) fn entries_of<V: Vars>(alloc: Global, env: &V) -> Result<Vec<Loaded>,
     Ok(loaded(alloc, env)?)
 }
 
-/// The search path: empty where MODULEPATH is unset.
+/// MODULEPATH, or the empty text where it is unset.
 pub(crate) fn modulepath<V: Vars>(env: &V) -> &str
     ensures { result.now ≡ modulepath (V.vars env.now) }
 {
@@ -43,7 +43,7 @@ pub(crate) fn modulepath<V: Vars>(env: &V) -> &str
     }
 }
 
-/// The names of the loaded modules.
+/// The full names of the loaded modules, in load order.
 pub(crate) fn names_of(alloc: Global, entries: &[Loaded]) -> Result<Vec<String>, AllocError>
     ensures { IfOk result (λ v. texts_in v ≡ names_of (map entry_of entries.now)) }
 {
@@ -54,23 +54,23 @@ pub(crate) fn names_of(alloc: Global, entries: &[Loaded]) -> Result<Vec<String>,
     Ok(names)
 }
 
-/// Puts the names that the record is in conflict with at the end.
+/// Adds the names of a `conflict`; other records have none.
 fn push_conflicts<'a>(
     alloc: Global,
     all: &mut Vec<&'a str>,
-    kept: &'a Record,
+    recorded: &'a Record,
 ) -> Result<(), AllocError>
     ensures { OnOk result (shown all.new.items
-        ≡ shown all.old.items ++ conflict_names (record_view kept.entry.now ∷ [])) }
+        ≡ shown all.old.items ++ conflict_names (record_view recorded.entry.now ∷ [])) }
 {
-    if let Record::Conflict(names) = kept {
+    if let Record::Conflict(names) = recorded {
         let mut names = slices(alloc, names.as_slice())?;
         all.append(&mut names)?;
     }
     Ok(())
 }
 
-/// The names that the records are in conflict with.
+/// The names of all conflicts of the records, in order.
 fn conflict_names(alloc: Global, records: &[Record]) -> Result<Vec<&str>, AllocError>
     ensures { IfOk result (λ v. shown v.items ≡ conflict_names (map record_view records.entry.now)) }
 {
@@ -89,18 +89,22 @@ fn copy_names(alloc: Global, names: &[String]) -> Result<Vec<String>, AllocError
     copies(alloc, names.as_slice())
 }
 
-/// Puts the group of a prereq at the end.
-fn push_group(alloc: Global, groups: &mut Vec<Vec<String>>, kept: &Record) -> Result<(), AllocError>
+/// Adds the alternatives of a `prereq`; other records have none.
+fn push_group(
+    alloc: Global,
+    groups: &mut Vec<Vec<String>>,
+    recorded: &Record,
+) -> Result<(), AllocError>
     ensures { OnOk result (map texts_in groups.new.items
-        ≡ map texts_in groups.old.items ++ prereq_groups (record_view kept.now ∷ [])) }
+        ≡ map texts_in groups.old.items ++ prereq_groups (record_view recorded.now ∷ [])) }
 {
-    if let Record::Prereq(names) = kept {
+    if let Record::Prereq(names) = recorded {
         groups.push(copy_names(alloc, names.as_slice())?)?;
     }
     Ok(())
 }
 
-/// The alternatives of each prereq.
+/// The alternatives of each `prereq` of the records, in order.
 fn prereq_groups(alloc: Global, records: &[Record]) -> Result<Vec<Vec<String>>, AllocError>
     ensures { IfOk result (λ v. map texts_in v.items ≡ prereq_groups (map record_view records.now)) }
 {
@@ -111,7 +115,7 @@ fn prereq_groups(alloc: Global, records: &[Record]) -> Result<Vec<Vec<String>>, 
     Ok(groups)
 }
 
-/// Refuses a module of this name that is in conflict with loaded ones, or lacks what it needs.
+/// Refuses a module that is in conflict with a loaded one (51), or of whose prereqs one isn't met (52).
 fn judge(
     alloc: Global,
     entries: &[Loaded],
@@ -134,7 +138,7 @@ fn judge(
     }
 }
 
-/// The entry of a module: each conflict once.
+/// The entry of a module in the loaded list: each name in conflict once.
 fn entry_for(
     alloc: Global,
     loading: &Module,
@@ -157,7 +161,7 @@ fn entry_for(
     })
 }
 
-/// Adds the entry of a module behind the loaded ones, unless something forbids it beside them.
+/// Adds the entry of a module at the end of the loaded list, unless a conflict (51) or a prereq (52) forbids it.
 pub(crate) fn join_loaded<V: Vars>(
     alloc: Global,
     entries: &[Loaded],

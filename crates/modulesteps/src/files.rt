@@ -1,4 +1,5 @@
-//! The files of modules, evaluated for the names of a request.
+//! One name of a request: its module is found, the module's file is evaluated, and the module is loaded, unloaded or
+//! reported on.
 ghost use Rattle.std.specs.Prelude.{◌≡◌, ◌<◌, ◌≤◌, IfOk, map, string_bytes};
 ghost use Rattle.loadedlist.specs.LoadedEntries.{entry_of};
 ghost use Rattle.filetree.specs.Agreement.{Files, Listings, FailsAt, InEachPair, Narrows};
@@ -30,15 +31,18 @@ use modulename::is_module_name;
 use modulerun::{Context, Ran, run_file, show_report, whatis_report};
 use std::alloc::{AllocError, Global};
 
-/// How a module is asked for: whether by half of a switch, and by which name.
+/// One name of a request, with what its module's file is evaluated under.
 #[derive(Clone, Copy)]
 pub(crate) struct Asking<'a> {
+    /// The limits of the evaluation, and the shell.
     pub(crate) terms: Terms,
+    /// Whether it is the old or the new name of a `switch`.
     pub(crate) in_switch: bool,
+    /// The name as it was typed.
     pub(crate) typed: &'a str,
 }
 
-/// The file of a module.
+/// The file of a module: the module's full name, the file's path and the script in it.
 #[derive(Clone, Copy)]
 pub(crate) struct File<'a> {
     pub(crate) name: &'a str,
@@ -46,16 +50,16 @@ pub(crate) struct File<'a> {
     pub(crate) text: &'a str,
 }
 
-/// What is reported of a module.
+/// Which report is made of a module's records.
 #[derive(Clone, Copy)]
 pub(crate) enum Topic {
-    /// What it would do.
+    /// `show`: what the module would do.
     Commands,
-    /// Its descriptions.
+    /// `whatis`: its descriptions.
     Whatis,
 }
 
-/// The module that a name means now.
+/// The module that a name means, by the search along MODULEPATH as it is now.
 pub(crate) fn find_module<T: Tree, V: Vars>(
     alloc: Global,
     asking: Asking<'_>,
@@ -76,7 +80,7 @@ pub(crate) fn find_module<T: Tree, V: Vars>(
     Ok(locate(alloc, tree, &default_files, modulepath(env), asking.typed)?)
 }
 
-/// Evaluates a file, which has its effects on the variables.
+/// Evaluates a modulefile in a mode; its records have their effects on the variables.
 pub(crate) fn evaluate<V: Vars>(
     alloc: Global,
     asking: Asking<'_>,
@@ -103,7 +107,7 @@ pub(crate) fn evaluate<V: Vars>(
     Ok(run_file(alloc, &context, file.text, env, asking.terms.limits)?)
 }
 
-/// Loads the module that was found, unless it is loaded.
+/// Loads the module that was found, unless it is loaded already: evaluates its file, and joins it to the loaded list.
 fn load_found<V: Vars>(
     alloc: Global,
     asking: Asking<'_>,
@@ -183,7 +187,7 @@ fn script_at<T: Tree>(alloc: Global, tree: &mut T, path: &str) -> Result<String,
     }
 }
 
-/// Unloads a module by the script in its file.
+/// Unloads a module by the script in its file, and takes it out of the loaded list.
 fn unload_by<V: Vars>(
     alloc: Global,
     asking: Asking<'_>,
@@ -266,7 +270,7 @@ pub(crate) fn unload_name<T: Tree, V: Vars>(
     }
 }
 
-/// What is evaluated for a topic.
+/// The mode in which a file is evaluated for a report.
 fn mode_for(topic: Topic) -> Mode
     ensures { mode_view result ≡ topic_mode topic }
 {
@@ -276,7 +280,7 @@ fn mode_for(topic: Topic) -> Mode
     }
 }
 
-/// The report on a module.
+/// The text of a report on a module, by the records that its file made.
 fn report_on(alloc: Global, topic: Topic, found: &Found, ran: &Ran) -> Result<String, AllocError>
     ensures { IfOk result (λ t. string_bytes t ≡ topic_text topic (found_view found.now)
         (map record_view ran.now.records.items)) }
@@ -287,7 +291,7 @@ fn report_on(alloc: Global, topic: Topic, found: &Found, ran: &Ran) -> Result<St
     }
 }
 
-/// Reports on the module that was found.
+/// Evaluates the file of the module that was found, and adds its messages and the report.
 fn report_found<V: Vars>(
     alloc: Global,
     asking: Asking<'_>,
@@ -313,7 +317,7 @@ fn report_found<V: Vars>(
     Ok(())
 }
 
-/// Reports on the module that a name means. The variables stay.
+/// Reports on the module that a name means. No variable changes.
 pub(crate) fn report_name<T: Tree, V: Vars>(
     alloc: Global,
     terms: Terms,

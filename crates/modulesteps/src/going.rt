@@ -1,4 +1,4 @@
-//! What a request has done, one file after the other.
+//! What a request has done grows, by one file after another.
 ghost use Rattle.std.specs.Prelude.{◌≡◌, ◌++◌, [], ◌∷◌, OnOk, OnErr};
 ghost use Rattle.environment.specs.Environment.{Environment};
 ghost use Rattle.environment.specs.Texts.{texts_in};
@@ -23,7 +23,7 @@ fn keep_loaded(names: &mut Vec<String>, step: Move) -> Result<(), AllocError>
 }
 
 impl Done {
-    /// Nothing.
+    /// Nothing done yet.
     pub fn new(alloc: Global) -> Done
         ensures { (env : Environment) → done_view result env ≡ begun env }
     {
@@ -35,7 +35,7 @@ impl Done {
         }
     }
 
-    /// One move more, with the messages of its file.
+    /// Adds a move, with the messages of its file.
     pub(crate) fn go_on(&mut self, step: Move, mut messages: Vec<String>) -> Result<(), AllocError>
         ensures { OnOk result ((old new : Environment) → done_view self.new new
             ≡ moved_on (done_view self.old old) (move_view step) (texts_in messages) new) }
@@ -49,7 +49,7 @@ impl Done {
         Ok(())
     }
 
-    /// The report goes on, with the messages of a file.
+    /// Adds to the report, with the messages of a file.
     pub(crate) fn report_on(
         &mut self,
         mut messages: Vec<String>,

@@ -1,4 +1,4 @@
-//! Whether a modulefile means the same wherever it is evaluated, and can be undone.
+//! The verdict on a modulefile by one evaluation: whether it does the same everywhere, and can be undone.
 ghost use Rattle.std.specs.Prelude.{◌≡◌};
 ghost use Rattle.std.specs.List.{list_all};
 ghost use Rattle.environment.specs.Environment.{Environment};
@@ -11,7 +11,7 @@ ghost use Rattle.modulesteps.specs.Verdicts.{verdict_view};
 use modulefile::{PathEdit, Record};
 use modulerun::Ran;
 
-/// What a modulefile's evaluation says of every other one.
+/// What one evaluation of a modulefile shows about every other one.
 #[derive(Clone, Copy, Debug, PartialEq, Eq)]
 pub enum Verdict {
     /// It asked nothing, and unloading undoes what it does.
@@ -22,7 +22,7 @@ pub enum Verdict {
     OneWay,
 }
 
-/// Whether unloading undoes what the command did.
+/// Whether unloading undoes the effect of a record.
 fn is_reversible(command: &Record) -> bool
     ensures { result ≡ ways.is_reversible (record_view command.now) }
 {
@@ -36,14 +36,14 @@ fn is_reversible(command: &Record) -> bool
     )
 }
 
-/// Whether unloading undoes what each command did.
+/// Whether unloading undoes the effect of each record.
 fn are_reversible(records: &[Record]) -> bool
     ensures { result ≡ list_all (λ r. ways.is_reversible (record_view r)) records.now }
 {
     records.iter().all(|record| is_reversible(record))
 }
 
-/// The verdict on a file that left this.
+/// The verdict on a file whose evaluation had this result.
 pub(crate) fn verdict_on(ran: &Ran) -> Verdict
     ensures { (e : Environment) → verdict_view result ≡ verdict_of (ran_view ran.now e) }
 {

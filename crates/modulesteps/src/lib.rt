@@ -1,4 +1,6 @@
-//! The step of a request: what one request makes of the variables of an environment, over a tree of modulefiles.
+//! The step of a request: what it makes of the variables of an environment, or why it is refused (module(1)).
+//! Takes memory; changes the variables and reads the files and folders (`Tree`) that it is given.
+//! Used by modules, rehearsal, sessioncheck and modulecmd.
 #![tactic(auto)]
 
 mod commands;

@@ -1,4 +1,4 @@
-//! Names of which none is loaded.
+//! The alternatives of a prereq of which none is loaded, with the text that its refusal shows.
 ghost use Rattle.std.specs.Prelude.{◌≡◌, string_bytes};
 ghost use Rattle.environment.specs.Texts.{texts_in};
 ghost use Rattle.modulesteps.specs.Spaced.{spaced};
@@ -6,9 +6,10 @@ ghost use Rattle.modulesteps.specs.Spaced.{spaced};
 use environment::fields::{copies, join, slices};
 use std::alloc::{AllocError, Global};
 
-/// Names of which none is loaded, and their text.
+/// The alternatives of a prereq, of which none is loaded, and their text.
 #[derive(Debug, Drop)]
 pub struct MissingNames {
+    /// The alternatives, as the modulefile names them.
     pub names: Vec<String>,
     text: String,
     pub ghost joined: { string_bytes text ≡ spaced (texts_in names) },
@@ -17,7 +18,7 @@ pub struct MissingNames {
 impl MissingNames {
     ghost use Rattle.std.specs.Prelude.{map, IfOk};
 
-    /// These names.
+    /// These alternatives, copied.
     pub(crate) fn of(alloc: Global, group: &[String]) -> Result<MissingNames, AllocError>
         ensures { IfOk result (λ missing. texts_in missing.names ≡ map string_bytes group.now) }
     {

@@ -1,4 +1,4 @@
-//! Why a request is refused.
+//! Why a request is refused, with the number and the text of each refusal.
 ghost use Rattle.std.specs.Prelude.{◌≡◌, Some};
 ghost use Rattle.message.specs.Messages.{text_of};
 ghost use Rattle.modulesteps.specs.declared.refusal.Refusal.TheVariants as refusals;
@@ -21,7 +21,7 @@ use std::fmt::Display;
 /// Why a request is refused. Its `Display` is what follows `ERROR: `.
 #[derive(Debug, Drop)]
 pub enum Refusal {
-    /// 31: a growth of memory was refused.
+    /// 31: memory ran out.
     OutOfMemory,
     /// 2 to 37, 44 and 56, by its cause: a modulefile is refused.
     Run(RunFault),
@@ -45,7 +45,7 @@ pub enum Refusal {
     NotAModulefile(String),
 }
 
-/// The number of a modulefile's fault in a request.
+/// The number of a modulefile's fault, as the refusal of a request.
 fn run_number(fault: &RunFault) -> u16
     ensures { result ≡ number_by (run_memory_number fault.now) (by_reason stopped (stop_of fault.now)) }
 {
@@ -73,7 +73,7 @@ impl Refusal {
         }
     }
 
-    /// What the refusal says.
+    /// The text of the refusal.
     pub fn message(&self) -> Message<'_>
         ensures { text_of result ≡ message_of self.now }
     {

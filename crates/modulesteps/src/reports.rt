@@ -5,7 +5,7 @@ ghost use Rattle.requests.specs.Reports.{loaded_text};
 
 use std::alloc::{AllocError, Global};
 
-/// Puts a line at the end.
+/// Adds a line.
 fn push_line(report: &mut String, text: &str) -> Result<(), AllocError>
     ensures { OnOk result (string_bytes report.new ≡ string_bytes report.old ++ line_of text.now) }
 {
@@ -13,7 +13,7 @@ fn push_line(report: &mut String, text: &str) -> Result<(), AllocError>
     report.push('\n')
 }
 
-/// Puts a line for each text at the end.
+/// Adds a line for each text.
 fn push_lines(report: &mut String, texts: &[String]) -> Result<(), AllocError>
     ensures { OnOk result (string_bytes report.new
         ≡ string_bytes report.old ++ flat_map line_of (map string_bytes texts.now)) }

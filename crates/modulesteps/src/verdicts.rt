@@ -1,4 +1,4 @@
-//! The verdict on the module that a name means.
+//! Judges the module that a name means: whether its file is plain.
 ghost use Rattle.std.specs.Prelude.{◌<◌, ◌≤◌, IfOk};
 ghost use Rattle.filetree.specs.Agreement.{FailsAt, InEachPair, Narrows};
 ghost use Rattle.requests.specs.Looked.{SearchLooksAt};
@@ -18,7 +18,8 @@ use shells::Shell;
 use std::alloc::Global;
 use tclrules::Limits;
 
-/// The verdict on the module that a name means, whose file is evaluated over these variables.
+/// The verdict on the module that a name means; its file is evaluated over these variables, and has its effects on
+/// them.
 fn judge<T: Tree, V: Vars>(
     alloc: Global,
     typed: &str,
@@ -55,14 +56,14 @@ fn judge<T: Tree, V: Vars>(
 }
 
 /// Judges the module that a name means: its file is evaluated for loading in sh, with this name as the one that was
-/// typed. The environment stays as it is; conflicts and prereqs aren't judged.
+/// typed. The environment doesn't change; conflicts and prereqs aren't judged.
 ///
-/// A module that is `Plain` leaves the same records wherever it is loaded or unloaded, or is refused there, and
+/// A module that is `Plain` makes the same records wherever it is loaded or unloaded, or is refused there, and
 /// unloading undoes each of them.
 ///
 /// Errors: loaded lists that are inconsistent (35); what the search for the name answers (42, 44, 45, 46, and 43 where
-/// the device failed in this call, at a path that the search looks at); what the file's evaluation is refused by; want
-/// of memory.
+/// the device failed in this call, at a path that the search looks at); what the evaluation of the file is refused by;
+/// want of memory (11, 31, 41).
 pub fn verdict<T: Tree>(
     alloc: Global,
     name: &str,

@@ -55,7 +55,7 @@ module _ (agrees : Files → Listings → Type 0) (limits : Limits) (r : Request
   came_wanting : (n : ℕ) → is_cause n ≡ true → (n == 43) ≡ false → (n == 62) ≡ false → Came agrees limits r e e None before after
   came_wanting n is not_device not_text = record {
     response = given_up n;
-    told = λ files listings agreed. is;
+    answers = λ files listings agreed. is;
     printed = λ files listings agreed shell. (refl, not_unsayable n not_text _);
     left = refl;
     failures = wanting_counts before after n not_device later;
@@ -71,14 +71,14 @@ module _ (agrees : Files → Listings → Type 0) (limits : Limits) (r : Request
       came_wanting (memory_number refusal) (of_three refusal (λ n. is_cause n ≡ true) refl refl refl) (of_three refusal (λ n. (n == 43) ≡ false) refl refl refl) (of_three refusal (λ n. (n == 62) ≡ false) refl refl refl)
   cause_came refusal device h = record {
     response = given_up 43;
-    told = λ files listings agreed. refl;
+    answers = λ files listings agreed. refl;
     printed = λ files listings agreed shell. (refl, not_unsayable 43 refl _);
     left = refl;
     failures = one_more before after h;
   }
   cause_came refusal (because reason) h = record {
     response = refused reason;
-    told = h;
+    answers = h;
     printed = λ files listings agreed shell. refl;
     left = refl;
     failures = none_more before after later;
@@ -91,14 +91,14 @@ module _ (agrees : Files → Listings → Type 0) (limits : Limits) (r : Request
     pub unsaid_came : (fault : PrintFault) → IsPrintFault r.0 cs fault → Came agrees limits r e e None before after
     unsaid_came OutOfMemory h = record {
       response = given_up 61;
-      told = λ files listings agreed. refl;
+      answers = λ files listings agreed. refl;
       printed = λ files listings agreed shell. (refl, not_unsayable 61 refl _);
       left = refl;
       failures = none_more before after later;
     }
     unsaid_came (NotSayable name) h = record {
       response = given_up 62;
-      told = λ files listings agreed. refl;
+      answers = λ files listings agreed. refl;
       printed = λ files listings agreed shell. (refl, λ is. (d, cs, string_bytes name, step files listings agreed, changes, h));
       left = refl;
       failures = none_more before after later;
@@ -107,7 +107,7 @@ module _ (agrees : Files → Listings → Type 0) (limits : Limits) (r : Request
     pub accepted_came : (new : Environment) (text : Text) → IsText r.0 text cs → new ≡ d.env → Came agrees limits r e new (Some text) before after
     accepted_came new text says made = record {
       response = accepted d;
-      told = step;
+      answers = step;
       printed = λ files listings agreed shell. record { changes = cs; exact = changes; says = says };
       left = made;
       failures = none_more before after later;
@@ -122,7 +122,7 @@ rehearsed_none s e n = record {
   failures = none_more n n (omega arith);
 }
 
--- no request is left
+-- no request remains
 pub no_requests : (s : Site) (e : Environment) (rest : List code.Request) (n : ℕ) → length rest < 1 → Rehearsal s e (map request_view rest) [] e n n
 no_requests s e [] n none = rehearsed_none s e n
 no_requests s e (r ∷ rs) n none = absurd (omega arith)
@@ -139,7 +139,7 @@ rehearsed_on agrees limits files listings shell agreed r e new p rs ps left befo
     record {
       rehearsed = record {
         responses = o ∷ os;
-        session = (came.told files listings agreed, subst (λ x. Session s x rs os) came.left h.rehearsed.session);
+        session = (came.answers files listings agreed, subst (λ x. Session s x rs os) came.left h.rehearsed.session);
         prints = (came.printed files listings agreed shell, subst (λ x. ArePrints s x rs os ps) came.left h.rehearsed.prints);
         leaves = h.rehearsed.leaves ∙ ap (λ x. left_by x os) came.left;
       };

@@ -1,3 +1,4 @@
+-- The definitions of rehearsals (own), and of their laws.
 pub mod Rehearsals
 pub mod Laws
 -- for this crate's own contracts alone

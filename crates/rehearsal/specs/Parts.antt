@@ -1,4 +1,4 @@
--- What one request comes to, for this crate's own contracts.
+-- What one request prints, for the contracts of this crate's private functions.
 use Rattle.std.specs.Prelude.{ℕ, ◌≡◌, ◌≤◌, ◌+◌, List, map, Option, string_bytes}
 use Rattle.std.specs.Option.{option_map}
 use Rattle.std.specs.declared.alloc.Global.{Global}
@@ -13,11 +13,12 @@ use Rattle.requests.specs.Sessions.{Response, IsResponse, env_after}
 use Rattle.modules.specs.Replies.{site_in}
 use Rattle.rehearsal.specs.Rehearsals.{IsPrint, one_failed}
 
--- Over each pair of maps that agrees, a request has this response, and this is printed for it.
+-- Over each pair of maps that agrees, a request has this response, this is printed for it, and the environment after it
+-- is the new one.
 pub record Came (agrees : Files → Listings → Type 0) (limits : Limits) (r : Request) (old new : Environment)
     (print : Option Text) (before after : ℕ) : Type 0 where
   pub response : Response
-  pub told : InEachPair agrees (λ files listings. IsResponse (site_in limits r.0 files listings) old r.1 response)
+  pub answers : InEachPair agrees (λ files listings. IsResponse (site_in limits r.0 files listings) old r.1 response)
   pub printed : InEachPair agrees (λ files listings. (shell : Shell)
       → IsPrint (site_in limits shell files listings) old r response print)
   pub left : new ≡ env_after old response
@@ -27,5 +28,6 @@ pub record Came (agrees : Files → Listings → Type 0) (limits : Limits) (r : 
 abbrev pub print_view : Option (String Global) → Option Text
 print_view text = option_map string_bytes text
 
+-- the texts of all requests, as their bytes
 abbrev pub prints : List (Option (String Global)) → List (Option Text)
 prints texts = map print_view texts

@@ -1,4 +1,4 @@
--- Rehearsals: a session with the text that each accepted request prints.
+-- Rehearsals (own): a session with the text that each accepted request prints.
 use Rattle.std.specs.Prelude.{ℕ, ◌≡◌, ◌≤◌, ◌+◌, ◌==◌, List, [], ◌∷◌, Option, Some, None, take, if◌then◌else◌, Ok}
 use Rattle.environment.specs.Texts.{Text}
 use Rattle.environment.specs.Environment.{Environment}
@@ -14,21 +14,21 @@ use Rattle.reversal.specs.Ways.{Way}
 use Rattle.reversal.specs.Standing.{IsStart}
 use Rattle.reversal.specs.Runs.{live_after}
 
--- the step has changes that no text of the shell says
+-- the step has changes for which the shell has no text
 abbrev pub LacksText : Site → Environment → Request → Type 0
 LacksText s e r =
     (d : Done) × (changes : List NewValue) × (name : Text) × RequestStep (in_shell s r.0) e r.1 (Ok d)
     × AreChanges e d.env changes × IsUnsayable r.0 changes name
 
 -- what is printed for a request with this response: for an accepted one a text that says the difference between the
--- environment before it and what it leaves, for another none; one that is given up by 62 has changes without a text
+-- environment before it and the one after it, for another none; one that is given up by 62 has changes without a text
 abbrev pub IsPrint : Site → Environment → Request → Response → Option Text → Type 0
 IsPrint s e r (accepted d) (Some text) = SaysDifference r.0 text e d.env
 IsPrint s e r (accepted d) None = ⊥
 IsPrint s e r (refused reason) print = print ≡ None
 IsPrint s e r (given_up number) print = (print ≡ None) × (number ≡ 62 → LacksText s e r)
 
--- for each request what is printed, in the environment that those before it left
+-- for each request what is printed, in the environment after those before it
 abbrev pub ArePrints : Site → Environment → List Request → List Response → List (Option Text) → Type 0
 ArePrints s e [] [] [] = Unit {0}
 ArePrints s e [] [] (p ∷ ps) = ⊥
@@ -37,7 +37,8 @@ ArePrints s e (r ∷ rs) [] ps = ⊥
 ArePrints s e (r ∷ rs) (o ∷ os) [] = ⊥
 ArePrints s e (r ∷ rs) (o ∷ os) (p ∷ ps) = IsPrint s e r o p × ArePrints s (env_after e o) rs os ps
 
--- The requests were rehearsed: they are a session in which exactly those with a text are accepted, and this is left.
+-- The requests were rehearsed: they are a session in which exactly those with a text are accepted, and this environment
+-- results.
 pub record Rehearsed (s : Site) (e : Environment) (rs : List Request) (ps : List (Option Text)) (left : Environment)
     : Type 0 where
   pub responses : List Response
@@ -45,13 +46,13 @@ pub record Rehearsed (s : Site) (e : Environment) (rs : List Request) (ps : List
   pub prints : ArePrints s e rs responses ps
   pub leaves : left ≡ left_by e responses
 
--- one for a request that was given up since a device failed
+-- one for a request that was given up because a device failed
 abbrev pub one_failed : Response → ℕ
 one_failed (accepted d) = 0
 one_failed (refused reason) = 0
 one_failed (given_up number) = if number == 43 then 1 else 0
 
--- how many requests were given up since a device failed
+-- how many requests were given up because a device failed
 abbrev pub count_failed : List Response → ℕ
 count_failed [] = 0
 count_failed (o ∷ os) = one_failed o + count_failed os

@@ -1,4 +1,4 @@
-//! The texts that requests print, one after another.
+//! Rehearses requests: runs them one after another, and collects the text that each prints.
 ghost use Rattle.std.specs.Prelude.{◌≡◌, map, IfOk, IfErr};
 ghost use Rattle.filetree.specs.Agreement.{Narrows, InEachPair};
 ghost use Rattle.shells.specs.declared.shell.Shell.{Shell};
@@ -15,7 +15,8 @@ use shelltext::print_changes;
 use std::alloc::Global;
 use tclrules::Limits;
 
-/// Makes the changes of a request, and answers the text that says them; or none, and no change, where it is refused.
+/// Makes the changes of a request, and answers the text that it prints; none, and no change, where it is refused or the
+/// shell has no text for its changes.
 fn print_request<T: Tree>(
     alloc: Global,
     request: &Request,
@@ -40,15 +41,15 @@ fn print_request<T: Tree>(
 }
 
 /// Runs requests one after another over an environment and a tree of modulefiles, as a session, and answers what they
-/// leave, with the text that each accepted request prints for its shell. For a refused one there is none, and it leaves
-/// the environment; so for one whose changes can't be said in its shell (62).
+/// result in: the environment at the end, with the text that each accepted request prints for its shell. A refused one
+/// has no text and changes nothing; so has one whose changes have no text in its shell (62).
 ///
-/// For every pair of maps that agrees with the tree it is a rehearsal. No more requests have no text since the device
-/// failed than it failed. So shells that ran the texts so far hold the environment that the session has there.
+/// For every pair of maps that agrees with the tree it is a rehearsal. No more requests are without a text because the
+/// device failed than it failed. So shells that ran the texts so far hold the environment that the session has there.
 ///
 /// They hold the first environment again at the end where it is in order, no module is unloaded that was loaded in it,
-/// the modules that are loaded are reversible and apart, each unload leaves the records of the load that it undoes, and
-/// none of them is left loaded.
+/// the modules that are loaded are reversible and apart, each unload has the records of the load that it undoes, and
+/// none of them is loaded at the end.
 ///
 /// Errors: want of memory for the list of texts (31).
 pub fn rehearse<T: Tree>(

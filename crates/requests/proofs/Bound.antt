@@ -8,9 +8,9 @@ pub bound : {A B R : Type 0} (r : Result A R) (f : A → Result B R) (b : B) →
 bound (Ok a) f b e = (a, refl, e)
 bound (Err r) f b e = absurd (cc)
 
-pub kept_ok : {A R S : Type 0} (f : R → S) (r : Result A R) (a : A) → refused_as f r ≡ Ok a → r ≡ Ok a
-kept_ok f (Ok x) a e = cc
-kept_ok f (Err r) a e = absurd (cc)
+pub ok_of_refused_as : {A R S : Type 0} (f : R → S) (r : Result A R) (a : A) → refused_as f r ≡ Ok a → r ≡ Ok a
+ok_of_refused_as f (Ok x) a e = cc
+ok_of_refused_as f (Err r) a e = absurd (cc)
 
 pub allowed : {A R : Type 0} (o : Option R) (r : Result A R) (a : A) → unless o r ≡ Ok a → r ≡ Ok a
 allowed None r a e = e

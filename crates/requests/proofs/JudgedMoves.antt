@@ -18,7 +18,7 @@ use Rattle.requests.proofs.Judging.{judged_left}
 use Rattle.requests.proofs.Origins.{IsFrom, AllFrom}
 use Rattle.requests.proofs.PlainMoves.{same_records, moved_left, session_from}
 
--- what the evaluation of the verdict left, at the module's own name and path
+-- the result of the evaluation of the verdict, at the module's own name and path
 judged_of : (s : Site) (name path : Text) → IsJudgedPlain s name path → (ran : Ran) × HasLeft s name path ran × (ran.asked ≡ false) × (list_all is_reversible ran.records ≡ true)
 judged_of s name path j =
     let (m, found, ran, left, unasked, undone) = judged_left s j.env j.typed j.judged in

@@ -14,11 +14,11 @@ use Rattle.reversal.specs.Ways.{is_reversible}
 use Rattle.requests.specs.Refusals.{RefusedAs}
 use Rattle.requests.specs.Reasons.{stopped}
 use Rattle.requests.specs.Steps.{Site, entries_of, Finds}
-use Rattle.requests.specs.Verdicts.{plain, asking, one_way, verdict_of, judged_in, Judged, OneVerdict, PlainHolds}
+use Rattle.requests.specs.Verdicts.{plain, asks, one_way, verdict_of, judged_in, Judged, OneVerdict, PlainHolds}
 use Rattle.requests.specs.PlainRuns.{HasLeft, JudgedIsPlain}
 use Rattle.requests.specs.JudgedRuns.{SomeVerdict}
 use Rattle.requests.proofs.Origins.{found_script}
-use Rattle.requests.proofs.Bound.{went_on, kept_ok}
+use Rattle.requests.proofs.Bound.{went_on, ok_of_refused_as}
 use Rattle.requests.proofs.OneStep.{OneLeft, one_run, one_finds}
 use Rattle.requests.proofs.SomeFound.{some_is, some_then}
 use Rattle.requests.proofs.SomeStep.{SomeLeft, some_run, some_finds}
@@ -37,13 +37,13 @@ some_verdict file left s e name =
     some_then (some_run file s.limits (judged_in s name m xs e) m.text) (λ ran.
     some_is (Ok (verdict_of ran)))))
 
-plain_parts : (a r : Bool) → plain ≡ (if a then asking else if r then plain else one_way) → (a ≡ false) × (r ≡ true)
+plain_parts : (a r : Bool) → plain ≡ (if a then asks else if r then plain else one_way) → (a ≡ false) × (r ≡ true)
 plain_parts true r e = absurd (cc)
 plain_parts false true e = (refl, refl)
 plain_parts false false e = absurd (cc)
 
 as_ok : (c : Context) (s : Site) (text : Text) (ran : Ran) → RefusedAs stopped (RunsFile s.limits c text) (Ok ran) → RunsFile s.limits c text (Ok ran)
-as_ok c s text ran h = subst (RunsFile s.limits c text) (kept_ok stopped h.0 ran (sym h.2)) h.1
+as_ok c s text ran h = subst (RunsFile s.limits c text) (ok_of_refused_as stopped h.0 ran (sym h.2)) h.1
 
 pub plain_holds : files.PlainFilesAgree → PlainHolds
 plain_holds agree s e name h =
@@ -55,7 +55,7 @@ plain_holds agree s e name h =
     let p = plain_parts ran.asked (list_all is_reversible ran.records) same in
     (m, ran, found, p.1, (λ d o n q r. agree s.limits c d m.text ran o (as_ok c s m.text ran runs) p.0 n q r))
 
--- what the evaluation of a verdict left, where it is plain
+-- the result of the evaluation of a verdict, where it is plain
 pub judged_left : (s : Site) (e : Environment) (name : Text) → Judged s e name (Ok plain)
     → (m : search.FoundModule) × Finds s e name (Ok m) × (ran : Ran) × HasLeft s m.name m.path ran × (ran.asked ≡ false) × (list_all is_reversible ran.records ≡ true)
 judged_left s e name h =

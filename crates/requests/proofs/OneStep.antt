@@ -24,7 +24,7 @@ use Rattle.modulesearch.proofs.OneFound.{one_module}
 use Rattle.modulesearch.proofs.OneListing.{one_listed}
 use Rattle.requests.specs.Refusals.{unless, RefusedAs}
 use Rattle.requests.specs.Reasons.{RequestReason, bad_arguments, missed, stopped}
-use Rattle.requests.specs.Requests.{Asked, load, unload, switch, purge, list, avail, show, whatis}
+use Rattle.requests.specs.Requests.{RequestedAction, load, unload, switch, purge, list, avail, show, whatis}
 use Rattle.requests.specs.Conditions.{end_objection}
 use Rattle.requests.specs.Reports.{loaded_text, avail_text}
 use Rattle.requests.specs.Steps.{Site, Done, begun, went, module_of, joins, reported, entries_of, modulepath, context_of, script_at, Finds, LoadsFound, LoadsName, UnloadsEntry, UnloadsMeant, last_meant, UnloadsName, ShowsName, shown_text, described_text, Each, Named, EndsRequest, Changes, Switches, ShowsNames, ListsAll, RequestStep, old_name}
@@ -103,7 +103,7 @@ one_lists : (s : Site) (e : Environment) (texts : List Text) → IsOne (ListsAll
 one_lists s e texts o p (ls, h, g) (ks, k, f) =
     g ∙ (ap (λ x. Ok (reported (begun e) [] (avail_text texts x))) (one_listed (Leaves s.limits) s.files s.listings (modulepath e) ls ks h k) ∙ sym f)
 
-pub one_step : files.OneOutcome → OneLeft → (s : Site) (e : Environment) (asked : Asked) → IsOne (RequestStep s e asked)
+pub one_step : files.OneOutcome → OneLeft → (s : Site) (e : Environment) (asked : RequestedAction) → IsOne (RequestStep s e asked)
 one_step file left s e (load names) =
     one_named names (Changes e (λ before. Each (LoadsName s false) names)) (one_changes e (λ before. Each (LoadsName s false) names) (λ before. one_each (LoadsName s false) (one_load file left s false) names))
 one_step file left s e (unload names) =

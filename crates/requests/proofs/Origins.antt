@@ -1,4 +1,4 @@
--- The records of each move of a step are what the file at its module's path left.
+-- The records of each move of a step are those that the file at its module's path made.
 use Rattle.std.proofs.Common.{◌≡◌, Bool, true, false, List, [], ◌∷◌, ◌++◌, Option, Some, None, Result, Ok, Err, refl, sym, subst, reverse}
 use Rattle.modulename.specs.ModuleName.{is_module_name}
 use Rattle.environment.specs.Texts.{Text, has}
@@ -17,16 +17,16 @@ use Rattle.modulesearch.specs.Found as search
 use Rattle.modulesearch.specs.Found.{Found}
 use Rattle.requests.specs.Refusals.{refused_as, RefusedAs}
 use Rattle.requests.specs.Reasons.{RequestReason, bad_arguments, missed, stopped, refused_edit}
-use Rattle.requests.specs.Requests.{Asked, load, unload, switch, purge, list, avail, show, whatis}
+use Rattle.requests.specs.Requests.{RequestedAction, load, unload, switch, purge, list, avail, show, whatis}
 use Rattle.requests.specs.Conditions.{load_objection, end_objection}
 use Rattle.requests.specs.Steps.{Site, Done, begun, moved_on, went, module_of, modulepath, context_of, Finds, script_at, LoadsFound, LoadsName, UnloadsMeant, last_meant, UnloadsName, Each, Named, EndsRequest, Changes, Switches, RequestStep, old_name}
 use Rattle.requests.specs.PlainRuns.{HasLeft}
-use Rattle.requests.proofs.Bound.{bound, kept_ok, allowed, went_on}
+use Rattle.requests.proofs.Bound.{bound, ok_of_refused_as, allowed, went_on}
 use Rattle.requests.specs.Laws.{Reports}
 use Rattle.requests.proofs.Reporting.{reports_leave}
 use Rattle.requests.proofs.FoundText.{IsScript, found_text}
 
--- the records are what the file left
+-- the records are those that the file made
 abbrev pub IsFrom : Site → Module → Type 0
 IsFrom s m = (ran : Ran) × HasLeft s m.name m.path ran × (m.records ≡ ran.records)
 
@@ -61,12 +61,12 @@ trace_went s d m messages from one t h =
     subst (λ (x : Done). AllFrom s x.moves) same (all_both s d.moves (m ∷ []) from (one, tt))
 
 as_ok : (s : Site) (c : Context) (text : Text) (ran : Ran) → RefusedAs stopped (RunsFile s.limits c text) (Ok ran) → RunsFile s.limits c text (Ok ran)
-as_ok s c text ran h = subst (RunsFile s.limits c text) (kept_ok stopped h.0 ran (sym h.2)) h.1
+as_ok s c text ran h = subst (RunsFile s.limits c text) (ok_of_refused_as stopped h.0 ran (sym h.2)) h.1
 
 pub found_script : (s : Site) (e : Environment) (name : Text) (m : search.FoundModule) → Finds s e name (Ok m) → IsScript s.files m
 found_script s e name m h =
     found_text (Leaves s.limits) s.files s.listings (modulepath e) name m
-    (subst (Found (Leaves s.limits) s.files s.listings (modulepath e) name) (kept_ok missed h.0 m (sym h.2)) h.1)
+    (subst (Found (Leaves s.limits) s.files s.listings (modulepath e) name) (ok_of_refused_as missed h.0 m (sym h.2)) h.1)
 
 trace_found : (s : Site) (w : Bool) (typed : Text) (d : Done) (xs : List Entry) (m : search.FoundModule) → IsScript s.files m → AllFrom s d.moves → Traces s (LoadsFound s w typed d xs m)
 trace_found s w typed d xs m file from =
@@ -120,10 +120,10 @@ trace_switch : (s : Site) (old : Option Text) (new : Text) (d : Done) → AllFro
 trace_switch s old new d from =
     trace_then {First = UnloadsName s true (old_name old new) d} {Rest = LoadsName s true new} s (λ t h. trace_load s true new t (trace_unload s true (old_name old new) d from t h))
 
-trace_report : (s : Site) (e : Environment) (asked : Asked) → Reports asked → Traces s (RequestStep s e asked)
+trace_report : (s : Site) (e : Environment) (asked : RequestedAction) → Reports asked → Traces s (RequestStep s e asked)
 trace_report s e asked r d h = subst (AllFrom s) (sym (reports_leave s e asked d r h).1) tt
 
-pub traced : (s : Site) (e : Environment) (asked : Asked) → Traces s (RequestStep s e asked)
+pub traced : (s : Site) (e : Environment) (asked : RequestedAction) → Traces s (RequestStep s e asked)
 traced s e (load names) =
     trace_named s names (Changes e (λ before. Each (LoadsName s false) names)) (trace_changes s e (λ before. Each (LoadsName s false) names) (λ before d from. trace_each s (LoadsName s false) (trace_load s false) names d from))
 traced s e (unload names) =

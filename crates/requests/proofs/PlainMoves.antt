@@ -123,23 +123,23 @@ has_records : PlainFilesAgree → (s : Site) (ways : Text → Way) (start old : 
 has_records agree s ways start old bs live m list order stands froms from (xs, read, any) l found =
     let now : loaded_in old ≡ Some (entries_over bs live) = stands.entries bs list in
     let same : xs ≡ entries_over bs live = same_list xs (entries_over bs live) (sym read ∙ now) in
-    let kept : order.loaded.entries ≡ entries_over bs live = same_list order.loaded.entries (entries_over bs live) (sym (entries_read old order.loaded) ∙ now) in
-    let distinct : are_distinct (names_of (entries_over bs live)) ≡ true = subst (λ (ys : List Entry). are_distinct (names_of ys) ≡ true) kept order.loaded.list.names in
+    let same_entries : order.loaded.entries ≡ entries_over bs live = same_list order.loaded.entries (entries_over bs live) (sym (entries_read old order.loaded) ∙ now) in
+    let distinct : are_distinct (names_of (entries_over bs live)) ≡ true = subst (λ (ys : List Entry). are_distinct (names_of ys) ≡ true) same_entries order.loaded.list.names in
     let p = same_live m l bs live distinct (subst (λ (ys : List Entry). list_any (is_entry_of m) ys ≡ true) same any) found in
     let f = live_from s m.name live l froms found in
     unload_records agree s m l p.0 p.1 from f.0 f.1
 
 fitting : StepsKeep → PlainFilesAgree → (ways : Text → Way) (s : Site) (start : Environment) → IsStart ways start → (ms : List Move) (live : List Module) (old new : Environment) → IsInOrder ways old → Stands ways start live old → AreFit ways live → LiveFrom s live → AllFrom s ms → AreNew start ms → ArePlain s ways live ms → Lead ms old new → AreFitting ways live ms
-fitting keep agree ways s start begin [] live old new order stands fit froms from news plains lead = tt
-fitting keep agree ways s start begin (Loads m ∷ ms) live old new order stands fit froms from news plains (fits, (mid, move, lead)) =
-    let h = keep ways start old mid live (Loads m ∷ []) begin order stands fit (plains.0.0, tt) (fits, (mid, move, refl)) in
-    (plains.0.0, fitting keep agree ways s start begin ms (m ∷ live) mid new h.0.order h.0.stands h.1 ((from.0, plains.0.1), froms) from.1 news.1 plains.1 lead)
-fitting keep agree ways s start begin (Unloads m ∷ ms) live old new order stands fit froms from news plains (fits, (mid, move, lead)) =
+fitting step_law agree ways s start begin [] live old new order stands fit froms from news plains lead = tt
+fitting step_law agree ways s start begin (Loads m ∷ ms) live old new order stands fit froms from news plains (fits, (mid, move, lead)) =
+    let h = step_law ways start old mid live (Loads m ∷ []) begin order stands fit (plains.0.0, tt) (fits, (mid, move, refl)) in
+    (plains.0.0, fitting step_law agree ways s start begin ms (m ∷ live) mid new h.0.order h.0.stands h.1 ((from.0, plains.0.1), froms) from.1 news.1 plains.1 lead)
+fitting step_law agree ways s start begin (Unloads m ∷ ms) live old new order stands fit froms from news plains (fits, (mid, move, lead)) =
     let bs = entries_at start begin.order.loaded in
     let records : HasLoadRecords live m = has_records agree s ways start old bs.0 live m bs.1 order stands froms from.0 fits in
     let u = undoes ways start old bs.0 live m bs.1 stands news.0 records fits in
-    let h = keep ways start old mid live (Unloads m ∷ []) begin order stands fit (u, tt) (fits, (mid, move, refl)) in
-    (records, fitting keep agree ways s start begin ms (without_live m.name live) mid new h.0.order h.0.stands h.1 (without_from s m.name live froms) from.1 news.1 plains lead)
+    let h = step_law ways start old mid live (Unloads m ∷ []) begin order stands fit (u, tt) (fits, (mid, move, refl)) in
+    (records, fitting step_law agree ways s start begin ms (without_live m.name live) mid new h.0.order h.0.stands h.1 (without_from s m.name live froms) from.1 news.1 plains lead)
 
 same_site : (s : Site) (shell : Shell) (ms : List Move) → AllFrom (in_shell s shell) ms → AllFrom s ms
 same_site s shell [] h = tt
@@ -167,9 +167,9 @@ session_from s e (r ∷ rs) [] h = absurd h
 session_from s e (r ∷ rs) (o ∷ os) h = one_response o os s (response_from s e r o h.0) (session_from s (env_after e o) rs os h.1)
 
 pub plain_sessions_return : SessionsLead → RunsReturn → StepsKeep → PlainFilesAgree → SessionsReturn → PlainSessionsReturn
-plain_sessions_return leads runs keep agree returns ways s start rs before after begin session news plains =
+plain_sessions_return leads runs step_law agree returns ways s start rs before after begin session news plains =
     let os = before ++ after in
     let none = runs ways start start [] begin tt refl in
     let fits : AreFitting ways [] (session_moves os) =
-    fitting keep agree ways s start begin (session_moves os) [] start (left_by start os) none.order none.stands tt tt (session_from s start rs os session) news plains (leads s start rs os session) in
+    fitting step_law agree ways s start begin (session_moves os) [] start (left_by start os) none.order none.stands tt tt (session_from s start rs os session) news plains (leads s start rs os session) in
     returns ways s start rs before after begin session news fits

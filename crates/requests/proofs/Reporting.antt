@@ -8,7 +8,7 @@ use Rattle.modulerecords.specs.Effects as modes
 use Rattle.modulerecords.specs.Effects.{Mode}
 use Rattle.modulesearch.specs.Found as search
 use Rattle.requests.specs.Reasons.{RequestReason}
-use Rattle.requests.specs.Requests.{Asked, load, unload, switch, purge, list, avail, show, whatis}
+use Rattle.requests.specs.Requests.{RequestedAction, load, unload, switch, purge, list, avail, show, whatis}
 use Rattle.requests.specs.Steps.{Site, Done, begun, entries_of, ShowsName, shown_text, described_text, Each, Named, ShowsNames, RequestStep}
 use Rattle.requests.specs.Laws.{Reports}
 use Rattle.requests.proofs.Bound.{went_on}
@@ -42,7 +42,7 @@ stay_shown s mode text_of e [] = stay_refused e _
 stay_shown s mode text_of e (name ∷ names) =
     stay_then {First = Is (entries_of e)} {Rest = λ xs. Each (ShowsName s mode text_of) (name ∷ names) (begun e)} e (λ xs h. stay_each e (ShowsName s mode text_of) (stay_show s mode text_of e) (name ∷ names) (begun e) (refl, refl))
 
-pub reports_leave : (s : Site) (e : Environment) (asked : Asked) (d : Done) → Reports asked → RequestStep s e asked (Ok d) → Still e d
+pub reports_leave : (s : Site) (e : Environment) (asked : RequestedAction) (d : Done) → Reports asked → RequestStep s e asked (Ok d) → Still e d
 reports_leave s e (load names) d r h = absurd r
 reports_leave s e (unload names) d r h = absurd r
 reports_leave s e (switch old new) d r h = absurd r

@@ -40,13 +40,13 @@ front_fitting ways live (Loads m ∷ ms) ns h = (h.0, front_fitting ways (m ∷ 
 front_fitting ways live (Unloads m ∷ ms) ns h = (h.0, front_fitting ways (without_live m.name live) ms ns h.1)
 
 pub commands_return : StepsLead → StepsKeep → CommandsReturn
-commands_return leads keep ways s start e live asked d begin order stands fit step news fitting =
+commands_return leads step_law ways s start e live asked d begin order stands fit step news fitting =
     let lead = leads s e asked d step in
-    keep ways start e d.env live d.moves begin order stands fit
-    (reversible keep ways start begin d.moves live e d.env order stands fit news fitting lead) lead
+    step_law ways start e d.env live d.moves begin order stands fit
+    (reversible step_law ways start begin d.moves live e d.env order stands fit news fitting lead) lead
 
 pub sessions_return : SessionsLead → RunsReturn → StepsKeep → SessionsReturn
-sessions_return leads runs keep ways s start rs before after begin session news fitting =
+sessions_return leads runs step_law ways s start rs before after begin session news fitting =
     let f = front_session s start rs before after session in
     let ms = session_moves before in
     let lead : Lead ms start (left_by start before) = leads s start f.0 before f.1 in
@@ -54,4 +54,4 @@ sessions_return leads runs keep ways s start rs before after begin session news 
     let fits : AreFitting ways [] ms = front_fitting ways [] ms (session_moves after) (subst (λ (l : List Move). AreFitting ways [] l) (moves_parts before after) fitting) in
     let none = runs ways start start [] begin tt refl in
     runs ways start (left_by start before) ms begin
-    (reversible keep ways start begin ms [] start (left_by start before) none.order none.stands tt new fits lead) lead
+    (reversible step_law ways start begin ms [] start (left_by start before) none.order none.stands tt new fits lead) lead

@@ -6,12 +6,12 @@ use Rattle.environment.specs.Environment.{Environment}
 use Rattle.modulerecords.specs.Moves.{Lead}
 use Rattle.modulerecords.specs.Laws.{LeadsGoOn}
 use Rattle.reversal.specs.Requests as moves
-use Rattle.requests.specs.Requests.{Asked, Request}
+use Rattle.requests.specs.Requests.{RequestedAction, Request}
 use Rattle.requests.specs.Steps.{Site}
 use Rattle.requests.specs.Sessions.{Response, accepted, refused, given_up, IsResponse, env_after, left_by, in_shell, Session, outcome_of, is_told}
 use Rattle.requests.specs.Laws.{OneOutcome, StepsLead}
 
-response_comes : StepsLead → (s : Site) (e : Environment) (asked : Asked) (o : Response) → IsResponse s e asked o → moves.RequestLeads (outcome_of o) e (env_after e o)
+response_comes : StepsLead → (s : Site) (e : Environment) (asked : RequestedAction) (o : Response) → IsResponse s e asked o → moves.RequestLeads (outcome_of o) e (env_after e o)
 response_comes law s e asked (accepted d) h = law s e asked d h
 response_comes law s e asked (refused r) h = refl
 response_comes law s e asked (given_up n) h = refl
@@ -31,8 +31,8 @@ pub run_leads : LeadsGoOn → (os : List moves.RequestOutcome) (old new : Enviro
 run_leads law [] old new h = h
 run_leads law (o ∷ os) old new (mid, c, r) = law (moves.moves_of o) (moves.all_moves os) old mid new (comes_lead o old mid c) (run_leads law os mid new r)
 
--- responses that were told
-same_response : OneOutcome → (s : Site) (e : Environment) (asked : Asked) (o p : Response) → is_told o ≡ true → is_told p ≡ true → IsResponse s e asked o → IsResponse s e asked p → o ≡ p
+-- responses that aren't given up
+same_response : OneOutcome → (s : Site) (e : Environment) (asked : RequestedAction) (o p : Response) → is_told o ≡ true → is_told p ≡ true → IsResponse s e asked o → IsResponse s e asked p → o ≡ p
 same_response law s e asked (accepted d) (accepted t) a b h k = let q : Ok d ≡ Ok t = law s e asked (Ok d) (Ok t) h k in cc
 same_response law s e asked (accepted d) (refused r) a b h k = absurd (let q : Ok d ≡ Err r = law s e asked (Ok d) (Err r) h k in cc)
 same_response law s e asked (refused r) (accepted d) a b h k = absurd (let q : Err r ≡ Ok d = law s e asked (Err r) (Ok d) h k in cc)

@@ -17,7 +17,7 @@ use Rattle.modulesearch.specs.DefaultFiles.{Left, VersionIn, said, NamesIn, Name
 use Rattle.modulesearch.specs.Found.{IsCandidate, HasCandidates, IsOneOf, default_file, NamedDefault, Greatest, NamedOrGreatest, Default, read, FoundAlong, Found}
 use Rattle.requests.specs.Refusals.{refused_as, RefusedAs}
 
--- it comes to an outcome
+-- it has an outcome
 abbrev pub IsSome : {A R : Type 0} → (Result A R → Type 0) → Type 0
 IsSome {A} {R} Comes = (o : Result A R) × Comes o
 

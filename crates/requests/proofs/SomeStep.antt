@@ -21,7 +21,7 @@ use Rattle.modulesearch.specs.Found as search
 use Rattle.modulesearch.specs.Found.{Found}
 use Rattle.requests.specs.Refusals.{unless, RefusedAs}
 use Rattle.requests.specs.Reasons.{RequestReason, bad_arguments, missed, stopped}
-use Rattle.requests.specs.Requests.{Asked, load, unload, switch, purge, list, avail, show, whatis}
+use Rattle.requests.specs.Requests.{RequestedAction, load, unload, switch, purge, list, avail, show, whatis}
 use Rattle.requests.specs.Conditions.{end_objection}
 use Rattle.requests.specs.Reports.{loaded_text}
 use Rattle.requests.specs.Steps.{Site, Done, begun, went, module_of, joins, reported, entries_of, modulepath, context_of, script_at, Finds, LoadsFound, LoadsName, UnloadsMeant, last_meant, UnloadsName, ShowsName, shown_text, described_text, Each, Named, EndsRequest, Changes, Switches, ShowsNames, RequestStep, old_name}
@@ -94,7 +94,7 @@ some_shown file left s mode text_of e names =
     some_then {First = Is (entries_of e)} {Rest = λ xs. Each (ShowsName s mode text_of) names (begun e)} (some_is (entries_of e)) (λ xs.
     some_each (ShowsName s mode text_of) (some_show file left s mode text_of) names (begun e))
 
-pub some_step : files.SomeOutcome → SomeLeft → (s : Site) (e : Environment) (asked : Asked) → IsNotAvail asked → IsSome (RequestStep s e asked)
+pub some_step : files.SomeOutcome → SomeLeft → (s : Site) (e : Environment) (asked : RequestedAction) → IsNotAvail asked → IsSome (RequestStep s e asked)
 some_step file left s e (load names) n =
     some_named names (Changes e (λ before. Each (LoadsName s false) names)) (some_changes e (λ before. Each (LoadsName s false) names) (λ before. some_each (LoadsName s false) (some_load file left s false) names))
 some_step file left s e (unload names) n =

@@ -54,12 +54,12 @@ undoes ways start old bs live m list stands new records (xs, read, any) =
     record { loaded = l.0; found = l.1; records = records l.0 l.1 }
 
 pub reversible : StepsKeep → (ways : Text → Way) (start : Environment) → IsStart ways start → (ms : List Move) (live : List Module) (old new : Environment) → IsInOrder ways old → Stands ways start live old → AreFit ways live → AreNew start ms → AreFitting ways live ms → Lead ms old new → AreReversible ways live ms
-reversible keep ways start begin [] live old new order stands fit news fitting lead = tt
-reversible keep ways start begin (Loads m ∷ ms) live old new order stands fit news fitting (fits, (mid, move, lead)) =
-    let h = keep ways start old mid live (Loads m ∷ []) begin order stands fit (fitting.0, tt) (fits, (mid, move, refl)) in
-    (fitting.0, reversible keep ways start begin ms (m ∷ live) mid new h.0.order h.0.stands h.1 news.1 fitting.1 lead)
-reversible keep ways start begin (Unloads m ∷ ms) live old new order stands fit news fitting (fits, (mid, move, lead)) =
+reversible step_law ways start begin [] live old new order stands fit news fitting lead = tt
+reversible step_law ways start begin (Loads m ∷ ms) live old new order stands fit news fitting (fits, (mid, move, lead)) =
+    let h = step_law ways start old mid live (Loads m ∷ []) begin order stands fit (fitting.0, tt) (fits, (mid, move, refl)) in
+    (fitting.0, reversible step_law ways start begin ms (m ∷ live) mid new h.0.order h.0.stands h.1 news.1 fitting.1 lead)
+reversible step_law ways start begin (Unloads m ∷ ms) live old new order stands fit news fitting (fits, (mid, move, lead)) =
     let bs = entries_at start begin.order.loaded in
     let u = undoes ways start old bs.0 live m bs.1 stands news.0 fitting.0 fits in
-    let h = keep ways start old mid live (Unloads m ∷ []) begin order stands fit (u, tt) (fits, (mid, move, refl)) in
-    (u, reversible keep ways start begin ms (without_live m.name live) mid new h.0.order h.0.stands h.1 news.1 fitting.1 lead)
+    let h = step_law ways start old mid live (Unloads m ∷ []) begin order stands fit (u, tt) (fits, (mid, move, refl)) in
+    (u, reversible step_law ways start begin ms (without_live m.name live) mid new h.0.order h.0.stands h.1 news.1 fitting.1 lead)

@@ -1,4 +1,4 @@
--- Runs of modules that were judged plain: that they are reversible is then no premise.
+-- Runs of modules that were judged plain (own): that they are reversible is then no premise.
 use Rattle.std.specs.Prelude.{◌≡◌, true, List, [], ◌∷◌, ◌++◌, None, Result, Ok}
 use Rattle.std.specs.List.{list_all}
 use Rattle.std.specs.Option.{is_some}
@@ -28,13 +28,13 @@ pub record IsJudgedPlain (s : Site) (name path : Text) : Type 0 where
   pub judged : Judged s env typed (Ok plain)
   pub means : (m : search.FoundModule) → Finds s env typed (Ok m) → (m.name ≡ name) × (m.path ≡ path)
 
--- Each record uses its variable in the variable's way.
+-- Each record uses its variable as the variable is used by all modules.
 abbrev pub AllInWay : (Text → Way) → List Record → Type 0
 AllInWay ways [] = Unit {0}
 AllInWay ways (r ∷ rs) = IsInWay ways r × AllInWay ways rs
 
--- The module is apart from those that are live: it uses each variable in the variable's way, and sets or unsets none
--- that a live module sets or unsets.
+-- The module is apart from the live ones: it uses each variable as all modules do, and sets or unsets none that a live
+-- module sets or unsets.
 pub record IsApart (ways : Text → Way) (live : List Module) (m : Module) : Type 0 where
   pub in_ways : AllInWay ways m.records
   pub alone : (v : Text) → is_some (last_set v m.records) ≡ true → live_set v live ≡ None
@@ -51,14 +51,14 @@ abbrev pub SomeVerdict : Type 0
 SomeVerdict =
     (s : Site) (e : Environment) (name : Text) → (o : Result Verdict RequestReason) × Judged s e name o
 
--- Whatever an evaluation of the file of such a module left, unloading undoes it.
+-- Whatever records an evaluation of the file of such a module makes, unloading undoes them.
 abbrev pub JudgedIsReversible : Type 0
 JudgedIsReversible =
     (s : Site) (name path : Text) (ran : Ran) → IsJudgedPlain s name path → HasLeft s name path ran
     → list_all is_reversible ran.records ≡ true
 
--- A session of new modules that were judged plain and are apart, from a start in order: each environment on the way is
--- in order and stands over the start with the modules that are live there. With none it is the start.
+-- A session of new modules that were judged plain and are apart, from a start in order: each environment of the session
+-- is in order and is the start with the live modules layered on it. With none it is the start.
 abbrev pub JudgedSessionsReturn : Type 0
 JudgedSessionsReturn =
     (ways : Text → Way) (s : Site) (start : Environment) (rs : List Request) (before after : List Response)

@@ -1,4 +1,5 @@
--- The laws of requests and sessions.
+-- The laws of requests and sessions (own): one outcome, moves that make the result, and sessions that return to the
+-- start.
 use Rattle.std.specs.Prelude.{◌≡◌, true, List, [], ◌++◌, map, Result, Ok}
 use Rattle.std.specs.List.{list_all}
 use Rattle.environment.specs.Texts.{Text}
@@ -10,7 +11,7 @@ use Rattle.reversal.specs.Runs.{live_after, AreFit}
 use Rattle.reversal.specs.Requests as moves
 use Rattle.reversal.specs.Laws.{Holds}
 use Rattle.requests.specs.Reasons.{RequestReason}
-use Rattle.requests.specs.Requests.{Asked, Request, load, unload, switch, purge, list, avail, show, whatis}
+use Rattle.requests.specs.Requests.{RequestedAction, Request, load, unload, switch, purge, list, avail, show, whatis}
 use Rattle.requests.specs.Steps.{Site, Done, RequestStep}
 use Rattle.requests.specs.Sessions.{Response, Session, left_by, outcome_of, session_moves, is_told}
 use Rattle.requests.specs.Returning.{AreNew, AreFitting}
@@ -19,11 +20,11 @@ use Rattle.requests.specs.PlainRuns.{ArePlain}
 -- A request has one outcome at most.
 abbrev pub OneOutcome : Type 0
 OneOutcome =
-    (s : Site) (e : Environment) (asked : Asked) (o p : Result Done RequestReason)
-    → RequestStep s e asked o → RequestStep s e asked p → o ≡ p
+    (s : Site) (e : Environment) (action : RequestedAction) (o p : Result Done RequestReason)
+    → RequestStep s e action o → RequestStep s e action p → o ≡ p
 
 -- a request other than `avail`
-abbrev pub IsNotAvail : Asked → Type 0
+abbrev pub IsNotAvail : RequestedAction → Type 0
 IsNotAvail (load names) = Unit {0}
 IsNotAvail (unload names) = Unit {0}
 IsNotAvail (switch old new) = Unit {0}
@@ -36,21 +37,23 @@ IsNotAvail (whatis names) = Unit {0}
 -- Each of these has an outcome.
 abbrev pub SomeOutcome : Type 0
 SomeOutcome =
-    (s : Site) (e : Environment) (asked : Asked) → IsNotAvail asked
-    → (o : Result Done RequestReason) × RequestStep s e asked o
+    (s : Site) (e : Environment) (action : RequestedAction) → IsNotAvail action
+    → (o : Result Done RequestReason) × RequestStep s e action o
 
--- The moves of an accepted step lead from the environment to what it leaves, and each fits where it is made.
+-- The moves of an accepted step take the environment to the one that results, and each fits where it is made.
 abbrev pub StepsLead : Type 0
 StepsLead =
-    (s : Site) (e : Environment) (asked : Asked) (d : Done) → RequestStep s e asked (Ok d) → Lead d.moves e d.env
+    (s : Site) (e : Environment) (action : RequestedAction) (d : Done) → RequestStep s e action (Ok d)
+    → Lead d.moves e d.env
 
--- So what it leaves is what they make.
+-- So the environment that results is the one that they make.
 abbrev pub StepsAreMade : Type 0
 StepsAreMade =
-    (s : Site) (e : Environment) (asked : Asked) (d : Done) → RequestStep s e asked (Ok d) → made d.moves e ≡ Ok d.env
+    (s : Site) (e : Environment) (action : RequestedAction) (d : Done) → RequestStep s e action (Ok d)
+    → made d.moves e ≡ Ok d.env
 
 -- a request that only reports
-abbrev pub Reports : Asked → Type 0
+abbrev pub Reports : RequestedAction → Type 0
 Reports (load names) = ⊥
 Reports (unload names) = ⊥
 Reports (switch old new) = ⊥
@@ -60,10 +63,10 @@ Reports (avail texts) = Unit {0}
 Reports (show names) = Unit {0}
 Reports (whatis names) = Unit {0}
 
--- It leaves the environment, and moves nothing.
+-- It changes no variable, and moves nothing.
 abbrev pub ReportsLeave : Type 0
 ReportsLeave =
-    (s : Site) (e : Environment) (asked : Asked) (d : Done) → Reports asked → RequestStep s e asked (Ok d)
+    (s : Site) (e : Environment) (action : RequestedAction) (d : Done) → Reports action → RequestStep s e action (Ok d)
     → (d.env ≡ e) × (d.moves ≡ [])
 
 -- A session is a run of what its requests moved.
@@ -72,7 +75,7 @@ SessionsRun =
     (s : Site) (e : Environment) (rs : List Request) (os : List Response) → Session s e rs os
     → moves.RunLeads (map outcome_of os) e (left_by e os)
 
--- Its moves lead from the first environment to the last.
+-- Its moves take the first environment to the last.
 abbrev pub SessionsLead : Type 0
 SessionsLead =
     (s : Site) (e : Environment) (rs : List Request) (os : List Response) → Session s e rs os
@@ -84,8 +87,8 @@ OneSession =
     (s : Site) (e : Environment) (rs : List Request) (os ps : List Response)
     → list_all is_told os ≡ true → list_all is_told ps ≡ true → Session s e rs os → Session s e rs ps → os ≡ ps
 
--- A session of new modules that are reversible and apart, from a start in order: each environment on the way is in
--- order and stands over the start with the modules that are live there. With none it is the start.
+-- A session of new modules that are reversible and apart, from a start in order: each environment of the session is in
+-- order and is the start with the live modules layered on it. With none it is the start.
 abbrev pub SessionsReturn : Type 0
 SessionsReturn =
     (ways : Text → Way) (s : Site) (start : Environment) (rs : List Request) (before after : List Response)
@@ -93,7 +96,7 @@ SessionsReturn =
     → AreNew start (session_moves (before ++ after)) → AreFitting ways [] (session_moves (before ++ after))
     → Holds ways start (live_after [] (session_moves before)) (left_by start before)
 
--- The same where the files of the modules are plain: nothing is asked of the records of unloads.
+-- The same where the files of the modules are plain: then there is no premise about the records of unloads.
 abbrev pub PlainSessionsReturn : Type 0
 PlainSessionsReturn =
     (ways : Text → Way) (s : Site) (start : Environment) (rs : List Request) (before after : List Response)
@@ -101,11 +104,12 @@ PlainSessionsReturn =
     → AreNew start (session_moves (before ++ after)) → ArePlain s ways [] (session_moves (before ++ after))
     → Holds ways start (live_after [] (session_moves before)) (left_by start before)
 
--- One command, which knows no history: from an environment that is in order and stands over a start in order. What it
--- leaves is in order and stands over that start with the modules that are live then. With none it is the start.
+-- One command, which knows no history: it begins in an environment in order, with live modules layered on a start in
+-- order. The result is in order and is that start with the modules that are live then layered on it. With none it is
+-- the start.
 abbrev pub CommandsReturn : Type 0
 CommandsReturn =
-    (ways : Text → Way) (s : Site) (start e : Environment) (live : List Module) (asked : Asked) (d : Done)
+    (ways : Text → Way) (s : Site) (start e : Environment) (live : List Module) (action : RequestedAction) (d : Done)
     → IsStart ways start → IsInOrder ways e → Stands ways start live e → AreFit ways live
-    → RequestStep s e asked (Ok d) → AreNew start d.moves → AreFitting ways live d.moves
+    → RequestStep s e action (Ok d) → AreNew start d.moves → AreFitting ways live d.moves
     → Holds ways start (live_after live d.moves) d.env × AreFit ways (live_after live d.moves)

@@ -1,4 +1,4 @@
--- Where a request looks: the paths of the files and folders that it asks for on its way (module(1)). No failure of the
+-- Where a request looks (own): the paths of the files and folders that it reads or lists on its way. No failure of the
 -- device at another path can refuse it.
 use Rattle.std.specs.Prelude.{◌≡◌, ◌⊎◌, true, false, List, [], ◌∷◌, reverse, Some, Result, Ok}
 use Rattle.modulename.specs.ModuleName.{is_module_name}
@@ -9,7 +9,7 @@ use Rattle.defaultfiles.specs.Leaves.{Leaves}
 use Rattle.modulerecords.specs.Effects as modes
 use Rattle.modulesearch.specs.Looked as search
 use Rattle.requests.specs.Reasons.{RequestReason}
-use Rattle.requests.specs.Requests.{Asked, load, unload, switch, purge, list, avail, show, whatis}
+use Rattle.requests.specs.Requests.{RequestedAction, load, unload, switch, purge, list, avail, show, whatis}
 use Rattle.requests.specs.Steps.{Site, Done, begun, entries_of, modulepath, last_meant, old_name}
 use Rattle.requests.specs.Steps.{LoadsName, UnloadsName, ShowsName, shown_text, described_text}
 
@@ -39,7 +39,7 @@ pub record ShowLooksAt (s : Site) (typed : Text) (d : Done) (at : Text) : Type 0
   pub read : Ok entries ≡ entries_of d.env
   pub searched : SearchLooksAt s d.env typed at
 
--- first one step, and then another behind what the first one made
+-- one step, and then another in what the first one results in
 abbrev pub LooksInTurn : (Text → Type 0) → (Result Done RequestReason → Type 0) → (Done → Text → Type 0) → Text → Type 0
 LooksInTurn First Does Second at = First at ⊎ ((mid : Done) × Does (Ok mid) × Second mid at)
 
@@ -50,6 +50,7 @@ EachLooksAt Does Looks [] d at = ⊥
 EachLooksAt Does Looks (name ∷ names) d at =
     LooksInTurn (Looks name d) (Does name d) (EachLooksAt Does Looks names) at
 
+-- to switch: for the old name, and then for the new one
 abbrev pub SwitchLooksAt : Site → Text → Text → Done → Text → Type 0
 SwitchLooksAt s old new d =
     LooksInTurn (UnloadLooksAt old d) (UnloadsName s true old d) (LoadLooksAt s new)
@@ -61,7 +62,7 @@ pub record PurgeLooksAt (s : Site) (e : Environment) (at : Text) : Type 0 where
   pub unloading : EachLooksAt (UnloadsName s false) UnloadLooksAt (reverse (names_of entries)) (begun e) at
 
 -- The request looks at this path.
-abbrev pub RequestLooksAt : Site → Environment → Asked → Text → Type 0
+abbrev pub RequestLooksAt : Site → Environment → RequestedAction → Text → Type 0
 RequestLooksAt s e (load names) at = EachLooksAt (LoadsName s false) (LoadLooksAt s) names (begun e) at
 RequestLooksAt s e (unload names) at = EachLooksAt (UnloadsName s false) UnloadLooksAt names (begun e) at
 RequestLooksAt s e (switch old new) at = SwitchLooksAt s (old_name old new) new (begun e) at

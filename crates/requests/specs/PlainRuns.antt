@@ -1,4 +1,4 @@
--- Runs of modules whose files are plain: that the records of an unload are those of the load is then no premise.
+-- Runs of modules whose files are plain (own): that an unload has the records of its load is then no premise.
 use Rattle.std.specs.Prelude.{◌≡◌, false, List, [], ◌∷◌, Ok}
 use Rattle.environment.specs.Texts.{Text}
 use Rattle.environment.specs.Environment.{Environment}
@@ -12,7 +12,7 @@ use Rattle.modulesearch.specs.Found as search
 use Rattle.requests.specs.Steps.{Site, Finds}
 use Rattle.requests.specs.Verdicts.{plain, Judged}
 
--- an evaluation of the file at this path, as the module of this name, left this
+-- an evaluation of the file at this path, as the module of this name, had this result
 pub record HasLeft (s : Site) (name path : Text) (ran : Ran) : Type 0 where
   pub text : Text
   pub file : modulefile (s.files path) ≡ script text
@@ -21,7 +21,7 @@ pub record HasLeft (s : Site) (name path : Text) (ran : Ran) : Type 0 where
   pub placed : context.path ≡ path
   pub runs : RunsFile s.limits context text (Ok ran)
 
--- One of them asked nothing.
+-- The module is plain: one such evaluation asked nothing of its environment.
 abbrev pub IsPlain : Site → Text → Text → Type 0
 IsPlain s name path = (ran : Ran) × HasLeft s name path ran × (ran.asked ≡ false)
 
@@ -31,7 +31,7 @@ ArePlain s ways live [] = Unit {0}
 ArePlain s ways live (Loads m ∷ ms) = (IsFit ways live m × IsPlain s m.name m.path) × ArePlain s ways (m ∷ live) ms
 ArePlain s ways live (Unloads m ∷ ms) = ArePlain s ways (without_live m.name live) ms
 
--- A module that is judged plain is one.
+-- A module that is judged plain is plain.
 abbrev pub JudgedIsPlain : Type 0
 JudgedIsPlain =
     (s : Site) (e : Environment) (name : Text) → Judged s e name (Ok plain)

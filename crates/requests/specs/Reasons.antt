@@ -1,4 +1,5 @@
--- Why a request is refused, apart from want of memory and a failed device.
+-- Why a request is refused, and the number of each reason (own). Want of memory and a failed device are no reasons:
+-- they are causes beside these.
 use Rattle.std.specs.Prelude.{ℕ, List}
 use Rattle.environment.specs.Texts.{Text}
 use Rattle.modulerecords.specs.Judgments.{RecordReason}
@@ -10,11 +11,13 @@ use Rattle.modulesearch.specs.Reasons.{bad_name, not_found, bad_default, not_utf
 pub data RequestReason : Type 0 where
   -- the words don't fit the subcommand
   bad_arguments : RequestReason
+  -- no subcommand has this name
   unknown_subcommand : (word : Text) → RequestReason
   -- a name is ill-spelled, or the search finds no module, or none that can be read
   missed : search.Reason → RequestReason
-  -- no file is at a loaded module's path, or no modulefile
+  -- no file is at the path of a loaded module
   file_gone : (path : Text) → RequestReason
+  -- the file at the path of a loaded module is no modulefile
   not_a_modulefile : (path : Text) → RequestReason
   -- a modulefile's evaluation is refused
   stopped : Stop → RequestReason
@@ -27,13 +30,14 @@ pub data RequestReason : Type 0 where
   -- the loaded lists don't fit together, or an entry can't join them
   refused_edit : RecordReason → RequestReason
 
--- the numbers of the refusals
+-- the numbers of the reasons that a search has
 abbrev pub search_number : search.Reason → ℕ
 search_number (bad_name name) = 44
 search_number (not_found name) = 42
 search_number (bad_default path) = 45
 search_number (not_utf8_at path) = 46
 
+-- the number of each reason
 abbrev pub reason_number : RequestReason → ℕ
 reason_number bad_arguments = 56
 reason_number (unknown_subcommand word) = 57

@@ -1,5 +1,5 @@
--- The bytes of the reports of `list` and `avail`, whose layout is this tool's own. Those of `show` and `whatis` are
--- reports of a file.
+-- The bytes of the reports of `list` and `avail` (own). Those of `show` and `whatis` are defined with the records of a
+-- modulefile.
 use Rattle.std.specs.Prelude.{Bool, true, List, [], ◌∷◌, ◌++◌, codes, filter, flat_map, nat_eq, if◌then◌else◌}
 use Rattle.std.specs.List.{list_any, starts_with}
 use Rattle.environment.specs.Texts.{Text}
@@ -20,11 +20,12 @@ is_wanted (text ∷ texts) name = list_any (λ t. starts_with nat_eq name t) (te
 abbrev pub row_line : Row → Text
 row_line row = line_of (row.0 ++ (if row.1 then codes "(default)" else []))
 
--- a directory that has no name to report isn't said
+-- a directory without a name to report has no line
 abbrev pub rows_text : Text → List Row → Text
 rows_text dir [] = []
 rows_text dir (row ∷ rows) = line_of (dir ++ codes ":") ++ flat_map row_line (row ∷ rows)
 
+-- the lines of a directory: its name, and each selected module
 abbrev pub wanted_text : List Text → Listing → Text
 wanted_text texts listing = rows_text listing.0 (filter (λ row. is_wanted texts row.0) listing.1)
 

@@ -1,4 +1,4 @@
--- What is asked of a run for it to lead back to its start: the modules are new, reversible and apart.
+-- The premises under which a run returns to its start (own): the modules are new, reversible and apart.
 use Rattle.std.specs.Prelude.{◌≡◌, false, List, [], ◌∷◌, Some}
 use Rattle.environment.specs.Texts.{Text, has}
 use Rattle.environment.specs.Environment.{Environment}
@@ -12,6 +12,7 @@ abbrev pub IsNew : Environment → Move → Type 0
 IsNew start (Loads m) = Unit {0}
 IsNew start (Unloads m) = (xs : List Entry) → loaded_in start ≡ Some xs → has m.name (names_of xs) ≡ false
 
+-- so for each move
 abbrev pub AreNew : Environment → List Move → Type 0
 AreNew start [] = Unit {0}
 AreNew start (m ∷ ms) = IsNew start m × AreNew start ms

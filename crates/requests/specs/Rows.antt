@@ -1,8 +1,9 @@
--- Loaded modules and listings of the worked rows.
+-- The loaded modules and the listing of the worked examples.
 use Rattle.std.specs.Prelude.{true, false, List, [], ◌∷◌, codes}
 use Rattle.loadedlist.specs.Loaded.{Entry}
 use Rattle.modulesearch.specs.Listed.{Row}
 
+-- without conflicts and prereqs
 abbrev pub k1 : Entry
 k1 = record { name = codes "k/1"; path = codes "/m/k/1"; conflicts = []; prereqs = [] }
 
@@ -10,6 +11,7 @@ k1 = record { name = codes "k/1"; path = codes "/m/k/1"; conflicts = []; prereqs
 abbrev pub n1 : Entry
 n1 = record { name = codes "n/1"; path = codes "/m/n/1"; conflicts = codes "k" ∷ []; prereqs = [] }
 
+-- what mpi/1 needs
 abbrev pub gcc9 : Entry
 gcc9 = record { name = codes "gcc/9"; path = codes "/m/gcc/9"; conflicts = []; prereqs = [] }
 
@@ -17,6 +19,6 @@ gcc9 = record { name = codes "gcc/9"; path = codes "/m/gcc/9"; conflicts = []; p
 abbrev pub mpi1 : Entry
 mpi1 = record { name = codes "mpi/1"; path = codes "/m/mpi/1"; conflicts = []; prereqs = (codes "gcc" ∷ []) ∷ [] }
 
--- the first is named by a default file
+-- versions in their order, of which a default file names the first
 abbrev pub versions : List Row
 versions = (codes "ver/1.9", true) ∷ (codes "ver/1.10", false) ∷ (codes "ver/1.10-rc", false) ∷ []

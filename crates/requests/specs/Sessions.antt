@@ -1,4 +1,4 @@
--- Sessions: requests one after another, each with one response.
+-- Sessions: requests one after another, each with one response (own).
 use Rattle.std.specs.Prelude.{ℕ, ◌≡◌, ◌==◌, Bool, true, false, List, [], ◌∷◌, map, Ok, Err}
 use Rattle.std.specs.List.{list_any}
 use Rattle.environment.specs.Environment.{Environment}
@@ -7,25 +7,26 @@ use Rattle.modulerecords.specs.Moves.{Move}
 use Rattle.reversal.specs.Requests as moves
 use Rattle.reversal.specs.Requests.{all_moves}
 use Rattle.requests.specs.Reasons.{RequestReason}
-use Rattle.requests.specs.Requests.{Asked, Request}
+use Rattle.requests.specs.Requests.{RequestedAction, Request}
 use Rattle.requests.specs.Steps.{Site, Done, RequestStep}
 
--- A request is accepted, or refused for its reason, or given up: for want of memory, or since a device failed, or since
--- the shell can't say a text. The number is that of the cause.
+-- The response to a request: accepted; refused for its reason; or given up because memory ran out, a device failed or
+-- the shell has no text for a value. The number is that of the cause.
 pub data Response : Type 0 where
   accepted : Done → Response
   refused : RequestReason → Response
   given_up : (number : ℕ) → Response
 
--- memory (of an evaluation, a request, the search, printing), a device, a text
+-- whether the number is that of a cause: 11, 31, 41 and 61 of memory (in an evaluation, a request, the search,
+-- printing), 43 of a device, 62 of a value without a text
 abbrev pub is_cause : ℕ → Bool
 is_cause number = list_any (λ n. n == number) (11 ∷ 31 ∷ 41 ∷ 61 ∷ 43 ∷ 62 ∷ [])
 
--- an accepted or refused request came to its step; one that was given up had a cause
-abbrev pub IsResponse : Site → Environment → Asked → Response → Type 0
-IsResponse s e asked (accepted d) = RequestStep s e asked (Ok d)
-IsResponse s e asked (refused reason) = RequestStep s e asked (Err reason)
-IsResponse s e asked (given_up number) = is_cause number ≡ true
+-- an accepted or refused request has the outcome of its step; one that was given up has a cause
+abbrev pub IsResponse : Site → Environment → RequestedAction → Response → Type 0
+IsResponse s e action (accepted d) = RequestStep s e action (Ok d)
+IsResponse s e action (refused reason) = RequestStep s e action (Err reason)
+IsResponse s e action (given_up number) = is_cause number ≡ true
 
 -- only an accepted request changes the environment
 abbrev pub env_after : Environment → Response → Environment
@@ -33,23 +34,23 @@ env_after e (accepted d) = d.env
 env_after e (refused reason) = e
 env_after e (given_up number) = e
 
--- what is left after all of them
+-- the environment after all of them
 abbrev pub left_by : Environment → List Response → Environment
 left_by e [] = e
 left_by e (o ∷ os) = left_by (env_after e o) os
 
--- for another shell
+-- what a request is run over, for another shell
 abbrev pub in_shell : Site → Shell → Site
 in_shell s shell = record { files = s.files; listings = s.listings; limits = s.limits; shell = shell }
 
--- From an environment, the requests have these responses: each in the environment that those before it left.
+-- From an environment, the requests have these responses: each in the environment after those before it.
 abbrev pub Session : Site → Environment → List Request → List Response → Type 0
 Session s e [] [] = Unit {0}
 Session s e [] (o ∷ os) = ⊥
 Session s e (r ∷ rs) [] = ⊥
 Session s e (r ∷ rs) (o ∷ os) = IsResponse (in_shell s r.0) e r.1 o × Session s (env_after e o) rs os
 
--- what a response moved
+-- the moves of a response
 abbrev pub outcome_of : Response → moves.RequestOutcome
 outcome_of (accepted d) = moves.accepted d.moves
 outcome_of (refused reason) = moves.refused

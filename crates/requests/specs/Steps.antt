@@ -1,4 +1,5 @@
--- What a request makes of an environment, over the files and folders of a tree (module(1)). It names its moves.
+-- The step of a request: what it makes of an environment, over the files and folders of a tree (module(1)). It names
+-- its moves.
 use Rattle.std.specs.Prelude.{◌≡◌, Bool, true, false, List, [], ◌∷◌, ◌++◌, codes, reverse, find, unwrap_or, Option, Some, None, Result, Ok, Err}
 use Rattle.modulename.specs.ModuleName.{is_module_name, means, parts}
 use Rattle.environment.specs.Texts.{Text, has}
@@ -26,7 +27,7 @@ use Rattle.modulesearch.specs.Found.{Found}
 use Rattle.modulesearch.specs.Listed.{Listing, Listed}
 use Rattle.requests.specs.Refusals.{refused_as, unless, RefusedAs}
 use Rattle.requests.specs.Reasons.{RequestReason, bad_arguments, missed, file_gone, not_a_modulefile, stopped, refused_edit}
-use Rattle.requests.specs.Requests.{Asked, load, unload, switch, purge, list, avail, show, whatis}
+use Rattle.requests.specs.Requests.{RequestedAction, load, unload, switch, purge, list, avail, show, whatis}
 use Rattle.requests.specs.Conditions.{load_objection, end_objection}
 use Rattle.requests.specs.Reports.{loaded_text, avail_text}
 
@@ -46,6 +47,7 @@ pub record Done : Type 0 where
   pub messages : List Text
   pub report : Text
 
+-- nothing done yet
 abbrev pub begun : Environment → Done
 begun e = record { env = e; moves = []; messages = []; report = [] }
 
@@ -54,27 +56,29 @@ abbrev pub moved_on : Done → Move → List Text → Environment → Done
 moved_on d move messages e =
     record { env = e; moves = d.moves ++ move ∷ []; messages = d.messages ++ messages; report = d.report }
 
+-- the move is made, or refused as an edit of the environment
 abbrev pub went : Done → Move → List Text → Result Done RequestReason
 went d move messages = refused_as refused_edit (moved move d.env) >>= (λ e. Ok (moved_on d move messages e))
 
--- the report goes on
+-- the report with this text after it
 abbrev pub reported : Done → List Text → Text → Done
 reported d messages text =
     record { env = d.env; moves = d.moves; messages = d.messages ++ messages; report = d.report ++ text }
 
+-- the loaded modules, or the reason that the loaded lists don't fit together
 abbrev pub consistent : Option (List Entry) → Result (List Entry) RequestReason
 consistent None = Err (refused_edit (bad_edit edits.inconsistent))
 consistent (Some xs) = Ok xs
 
--- the loaded modules
+-- the loaded modules of an environment
 abbrev pub entries_of : Environment → Result (List Entry) RequestReason
 entries_of e = consistent (loaded_in e)
 
--- the search path of the moment
+-- the MODULEPATH of an environment; empty where it is unset
 abbrev pub modulepath : Environment → Text
 modulepath e = unwrap_or (lookup e (codes "MODULEPATH")) []
 
--- what the file of this name and path is evaluated in
+-- the context in which the file of this name and path is evaluated
 abbrev pub context_of : Site → Mode → Bool → Text → Text → Text → List Entry → Environment → Context
 context_of s mode in_switch typed name path xs e =
     record {
@@ -88,17 +92,17 @@ context_of s mode in_switch typed name path xs e =
       start = e;
     }
 
--- the module with the records that its file left
+-- the module with the records that its file made
 abbrev pub module_of : Text → Text → Ran → Module
 module_of name path ran = record { name = name; path = path; records = ran.records }
 
--- what a name means now
+-- what a name means in an environment, by the search along its MODULEPATH
 abbrev pub Finds : Site → Environment → Text → Result search.FoundModule RequestReason → Type 0
 Finds s e name = RefusedAs missed (Found (Leaves s.limits) s.files s.listings (modulepath e) name)
 
 -- ---- load
 
--- The module goes last in the loaded list, unless something forbids it beside those that are loaded.
+-- The module joins the loaded list at its end, unless something forbids it beside the loaded ones.
 abbrev pub joins : Done → List Entry → Module → List Text → Result Done RequestReason
 joins d xs m messages = unless (load_objection m.name m.records xs) (went d (Loads m) messages)
 
@@ -126,7 +130,7 @@ script_at path no_cookie = Err (not_a_modulefile path)
 script_at path not_utf8 = Err (missed (not_utf8_at path))
 script_at path (script text) = Ok text
 
--- The module is unloaded by the file at its recorded path. Nothing is searched.
+-- The module is unloaded by the file at its recorded path. There is no search.
 abbrev pub UnloadsEntry : Site → Bool → Text → Done → List Entry → Entry → Result Done RequestReason → Type 0
 UnloadsEntry s in_switch typed d xs x =
     Is (script_at x.path (modulefile (s.files x.path))) >> (λ text.
@@ -143,6 +147,7 @@ UnloadsMeant s in_switch typed d xs (Some x) = UnloadsEntry s in_switch typed d 
 abbrev pub last_meant : Text → List Entry → Option Entry
 last_meant name xs = find (λ x. means name x.name) (reverse xs)
 
+-- the last loaded module that the name means is unloaded
 abbrev pub UnloadsName : Site → Bool → Text → Done → Result Done RequestReason → Type 0
 UnloadsName s in_switch typed d =
     Is (entries_of d.env) >> (λ xs.
@@ -152,7 +157,7 @@ UnloadsName s in_switch typed d =
 
 -- ---- show and whatis
 
--- The file is evaluated in the environment at hand, which stays.
+-- The file is evaluated in the environment, which doesn't change.
 abbrev pub ShowsName : Site → Mode → (search.FoundModule → List Record → Text) → Text → Done → Result Done RequestReason
     → Type 0
 ShowsName s mode text_of typed d =
@@ -161,9 +166,11 @@ ShowsName s mode text_of typed d =
     RefusedAs stopped (RunsFile s.limits (context_of s mode false typed m.name m.path xs d.env) m.text) >> (λ ran.
     Is (Ok (reported d ran.messages (text_of m ran.records))))))
 
+-- the report of `show`
 abbrev pub shown_text : search.FoundModule → List Record → Text
 shown_text m rs = show_text m.path rs
 
+-- the report of `whatis`
 abbrev pub described_text : search.FoundModule → List Record → Text
 described_text m rs = whatis_text m.name rs
 
@@ -180,7 +187,7 @@ abbrev pub Named : List Text → (Result Done RequestReason → Type 0) → Resu
 Named [] Does = Is (Err bad_arguments)
 Named (name ∷ names) Does = Does
 
--- At the end no module that stayed has lost what it needs.
+-- At the end no module that is still loaded has lost what it needs.
 abbrev pub EndsRequest : List Entry → Done → Result Done RequestReason → Type 0
 EndsRequest before d = Is (entries_of d.env) >> (λ after. Is (unless (end_objection before after) (Ok d)))
 
@@ -203,21 +210,23 @@ old_name None new = first_part (parts new)
 abbrev pub Switches : Site → Option Text → Text → Done → Result Done RequestReason → Type 0
 Switches s old new d = UnloadsName s true (old_name old new) d >> LoadsName s true new
 
+-- each name is reported on in turn
 abbrev pub ShowsNames : Site → Mode → (search.FoundModule → List Record → Text) → Environment → List Text
     → Result Done RequestReason → Type 0
 ShowsNames s mode text_of e names = Is (entries_of e) >> (λ xs. Each (ShowsName s mode text_of) names (begun e))
 
+-- the loaded modules are reported
 abbrev pub ListsLoaded : Environment → Result Done RequestReason → Type 0
 ListsLoaded e = Is (entries_of e) >> (λ xs. Is (Ok (reported (begun e) [] (loaded_text (names_of xs)))))
 
--- no loaded module is asked for
+-- the modules along MODULEPATH are reported, whatever is loaded
 abbrev pub ListsAll : Site → Environment → List Text → Result Done RequestReason → Type 0
 ListsAll s e texts o =
     (listings : List Listing) × Listed (Leaves s.limits) s.files s.listings (modulepath e) listings
     × (o ≡ Ok (reported (begun e) [] (avail_text texts listings)))
 
 -- The step of a request.
-abbrev pub RequestStep : Site → Environment → Asked → Result Done RequestReason → Type 0
+abbrev pub RequestStep : Site → Environment → RequestedAction → Result Done RequestReason → Type 0
 RequestStep s e (load names) = Named names (Changes e (λ before. Each (LoadsName s false) names))
 RequestStep s e (unload names) = Named names (Changes e (λ before. Each (UnloadsName s false) names))
 RequestStep s e (switch old new) = Changes e (λ before. Switches s old new)

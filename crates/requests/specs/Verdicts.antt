@@ -1,4 +1,4 @@
--- Whether a modulefile means the same wherever it is evaluated, and can be undone (own).
+-- Verdicts (own): whether a modulefile makes the same records wherever it is evaluated, and can be undone.
 use Rattle.std.specs.Prelude.{◌≡◌, List, true, false, if◌then◌else◌, Result, Ok}
 use Rattle.std.specs.List.{list_all}
 use Rattle.environment.specs.Texts.{Text}
@@ -16,18 +16,20 @@ use Rattle.requests.specs.Reasons.{RequestReason, stopped}
 use Rattle.requests.specs.Steps.{Site, entries_of, Finds, context_of}
 use Rattle.requests.specs.Sessions.{in_shell}
 
+-- what one evaluation of a modulefile shows about all others
 pub data Verdict : Type 0 where
   -- it asked nothing, and unloading undoes its records
   plain : Verdict
   -- it asked about the environment, the mode, the shell, the typed name or the loaded modules
-  asking : Verdict
+  asks : Verdict
   -- it asked nothing, and has a record that unloading doesn't undo
   one_way : Verdict
 
+-- the verdict by the result of the evaluation
 abbrev pub verdict_of : Ran → Verdict
-verdict_of ran = if ran.asked then asking else if list_all is_reversible ran.records then plain else one_way
+verdict_of ran = if ran.asked then asks else if list_all is_reversible ran.records then plain else one_way
 
--- for loading, in sh
+-- the context of a verdict: for loading, in sh
 abbrev pub judged_in : Site → Text → search.FoundModule → List Entry → Environment → Context
 judged_in s name m xs e = context_of (in_shell s Sh) modes.load false name m.name m.path xs e
 
@@ -41,7 +43,7 @@ Judged s e name =
     Is (Ok (verdict_of ran)))))
 
 -- In every context of this module, whatever the mode, the environment, the shell, the typed name and the loaded
--- modules, its file leaves these records or is refused.
+-- modules, its file makes these records or is refused.
 abbrev pub LeavesAlways : Site → search.FoundModule → Ran → Type 0
 LeavesAlways s m ran =
     (c : Context) (o : Result Ran Stop) → c.name ≡ m.name → c.path ≡ m.path → RunsFile s.limits c m.text o
@@ -53,7 +55,7 @@ OneVerdict =
     (s : Site) (e : Environment) (name : Text) (o p : Result Verdict RequestReason)
     → Judged s e name o → Judged s e name p → o ≡ p
 
--- A module that is judged plain leaves the same records always, and unloading undoes each of them.
+-- A module that is judged plain makes the same records always, and unloading undoes each of them.
 abbrev pub PlainHolds : Type 0
 PlainHolds =
     (s : Site) (e : Environment) (name : Text) → Judged s e name (Ok plain)

@@ -1,13 +1,13 @@
-//! Laws about the definitions alone. Each is a function that does nothing: its contract is the law.
+//! Laws about requests, sessions and verdicts. Each is a function that does nothing: its contract is the law.
 ghost use Rattle.requests.specs.Laws.{OneOutcome, SomeOutcome, StepsLead, StepsAreMade, ReportsLeave};
 ghost use Rattle.requests.specs.Laws.{SessionsRun, SessionsLead, OneSession, SessionsReturn, PlainSessionsReturn, CommandsReturn};
 ghost use Rattle.requests.specs.PlainRuns.{JudgedIsPlain};
 ghost use Rattle.requests.specs.JudgedRuns.{SomeVerdict, JudgedIsReversible, JudgedSessionsReturn};
 ghost use Rattle.requests.specs.Verdicts.{OneVerdict, PlainHolds};
 
-/// A request has one outcome at most. The moves of an accepted one lead from the environment to what it leaves, and
-/// each fits where it is made: a module that is loaded isn't loaded already, and one that is unloaded is, by its path.
-/// So what the step leaves is what its moves make.
+/// A request has one outcome at most. The moves of an accepted one take the environment to the one that results, and
+/// each fits where it is made: a module that is to be loaded isn't loaded yet, and one that is unloaded is loaded, by
+/// its path. So what the step results in is what its moves make.
 pub fn outcomes()
     ensures one { OneOutcome }
     ensures lead { StepsLead }
@@ -18,8 +18,8 @@ pub fn outcomes()
     modulerecords::laws::moves();
 }
 
-/// Each request other than `avail` has an outcome: what a search asks of a tree can be decided, and an evaluation has
-/// one.
+/// Each request other than `avail` has an outcome: what a search asks of a tree can be decided, and every evaluation
+/// ends.
 pub fn some_outcome()
     ensures { SomeOutcome }
 {
@@ -32,8 +32,8 @@ pub fn reports()
     ensures { ReportsLeave }
 {}
 
-/// A session is a run of what its requests moved: its moves lead from its first environment to its last. Where nothing
-/// was given up it has one list of responses.
+/// A session is a run of what its requests moved: its moves take its first environment to its last. Where no request
+/// was given up, a session has one list of responses.
 pub fn sessions()
     ensures run { SessionsRun }
     ensures lead { SessionsLead }
@@ -44,7 +44,7 @@ pub fn sessions()
 }
 
 /// From a start in order, in a session of new modules that are reversible and apart, each environment is in order and
-/// stands over the start with the modules that are live there. Where none is live it is the start: the maps are equal.
+/// is the start with the live modules layered on it. Where no module is live it is the start: the maps are equal.
 pub fn session_returns()
     ensures { SessionsReturn }
 {
@@ -53,7 +53,7 @@ pub fn session_returns()
     reversal::laws::steps();
 }
 
-/// The same of modules whose files are plain: that the records of an unload are those of the load is then no premise.
+/// The same for modules whose files are plain: that an unload has the records of its load is then no premise.
 pub fn plain_session_returns()
     ensures { PlainSessionsReturn }
 {
@@ -64,8 +64,8 @@ pub fn plain_session_returns()
     reversal::laws::steps();
 }
 
-/// The same of one command, which knows no history: from an environment that is in order and stands over a start in
-/// order.
+/// The same for one command, which knows no history: it begins in an environment that is in order, with live modules
+/// layered on a start that is in order.
 pub fn command_returns()
     ensures { CommandsReturn }
 {
@@ -73,7 +73,7 @@ pub fn command_returns()
     reversal::laws::steps();
 }
 
-/// The same of modules that were judged plain and are apart: that they are reversible is then no premise.
+/// The same for modules that were judged plain and are apart: that they are reversible is then no premise.
 pub fn judged_session_returns()
     ensures { JudgedSessionsReturn }
 {
@@ -81,7 +81,7 @@ pub fn judged_session_returns()
     modulefile::plain();
 }
 
-/// A module has one verdict, or one reason why there is none. One that is judged plain leaves the same records in every
+/// A module has one verdict, or one reason why there is none. One that is judged plain makes the same records in every
 /// context of its name and path, or is refused there, and unloading undoes each of them: the records of each unload are
 /// those of the load.
 pub fn verdicts()

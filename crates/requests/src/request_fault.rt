@@ -1,4 +1,4 @@
-//! Why words make no request.
+//! Why words make no request, with the numbers and texts of these faults.
 ghost use Rattle.std.specs.Prelude.{◌≡◌, Some};
 ghost use Rattle.message.specs.Messages.{text_of};
 ghost use Rattle.requests.specs.declared.request_fault.RequestFault.TheVariants as faults;
@@ -13,7 +13,7 @@ use std::fmt::Display;
 /// Why words make no request. Its `Display` is what follows `ERROR: `.
 #[derive(Debug, Drop)]
 pub enum RequestFault {
-    /// 31: a growth of memory was refused.
+    /// 31: memory ran out.
     OutOfMemory,
     /// 56: there is no subcommand, or its words don't fit it.
     BadArguments,
@@ -33,7 +33,7 @@ impl RequestFault {
         }
     }
 
-    /// What the fault says.
+    /// The text of the fault.
     pub fn message(&self) -> Message<'_>
         ensures { text_of result ≡ fault_message self.now }
     {

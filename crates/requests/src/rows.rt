@@ -1,4 +1,4 @@
-//! Worked requests, conditions and reports, by computation. More are rows of `cases_requests`.
+//! Worked examples of requests, conditions and reports, proved by computation. More stand in `cases_requests`.
 ghost use Rattle.std.specs.Prelude.{◌≡◌, [], ◌∷◌, codes, Some, None, Ok, Err};
 ghost use Rattle.modulerecords.specs.Records.{Conflict};
 ghost use Rattle.requests.specs.Reasons.{bad_arguments, unknown_subcommand, conflict_with, still_needed_by};
@@ -7,7 +7,7 @@ ghost use Rattle.requests.specs.Conditions.{load_objection, end_objection};
 ghost use Rattle.requests.specs.Reports.{loaded_text, avail_text};
 ghost use Rattle.requests.specs.Rows.{k1, n1, gcc9, mpi1, versions};
 
-/// The requests that words make.
+/// Which request the words of a command line make, or why none.
 pub fn request_rows()
     ensures load { request_of (codes "add" ∷ codes "x" ∷ codes "y" ∷ []) ≡ Ok (load (codes "x" ∷ codes "y" ∷ [])) }
     ensures switch_one { request_of (codes "swap" ∷ codes "gcc/10" ∷ []) ≡ Ok (switch None (codes "gcc/10")) }
@@ -17,7 +17,7 @@ pub fn request_rows()
     ensures unknown { request_of (codes "use" ∷ []) ≡ Err (unknown_subcommand (codes "use")) }
 {}
 
-/// Conflicts and prereqs.
+/// When conflicts and prereqs forbid a load, and when they forbid that a command ends.
 pub fn condition_rows()
     ensures own { load_objection (codes "n/1") (Conflict (codes "k" ∷ []) ∷ []) (k1 ∷ [])
         ≡ Some (conflict_with (codes "k/1")) }
@@ -26,7 +26,7 @@ pub fn condition_rows()
     ensures never_met { end_objection (mpi1 ∷ []) (mpi1 ∷ []) ≡ None }
 {}
 
-/// The bytes of reports.
+/// The bytes of the reports of `list` and `avail`.
 pub fn report_rows()
     ensures list { loaded_text (codes "foo/1.0" ∷ []) ≡ codes "Currently Loaded Modulefiles:\nfoo/1.0\n" }
     ensures avail { avail_text [] ((codes "/m", []) ∷ (codes "/n", versions) ∷ [])

@@ -1,15 +1,16 @@
-//! Makes a request of the words of a command line.
+//! Parses the words of a command line into a request (module(1)).
 ghost use Rattle.std.specs.Prelude.{◌≡◌, List, map, IfOk, string_bytes, vec_items, Ok};
 ghost use Rattle.environment.specs.Texts.{Text};
-ghost use Rattle.requests.specs.Requests.{Asked, some_names, switch_of, no_names, request_of};
+ghost use Rattle.requests.specs.Requests.{RequestedAction, some_names, switch_of, no_names, request_of};
 ghost use Rattle.message.specs.Answers.{Gives};
 ghost use Rattle.requests.specs.RequestViews.{reason_of, asked_view, texts_of};
 
-use crate::asked::{Action, Request};
+use crate::action::{Action, Request};
 use crate::request_fault::RequestFault;
 use shells::Shell;
 use std::alloc::{AllocError, Global};
 
+/// A copy of the words.
 fn copied(alloc: Global, words: &[String]) -> Result<Vec<String>, AllocError>
     ensures { IfOk result (λ names. map string_bytes (vec_items names) ≡ map string_bytes words.now) }
 {
@@ -20,9 +21,9 @@ fn copied(alloc: Global, words: &[String]) -> Result<Vec<String>, AllocError>
     Ok(names)
 }
 
-/// At least one name.
+/// A copy of the names that follow a subcommand which needs at least one; 56 where there is none.
 fn some_names(alloc: Global, words: &[String]) -> Result<Vec<String>, RequestFault>
-    ensures { (make : List Text → Asked)
+    ensures { (make : List Text → RequestedAction)
         → Gives reason_of (λ names. make (texts_of names)) result (some_names make (map string_bytes words.now)) }
 {
     if words.is_empty() {
@@ -31,7 +32,7 @@ fn some_names(alloc: Global, words: &[String]) -> Result<Vec<String>, RequestFau
     Ok(copied(alloc, words)?)
 }
 
-/// The action, where no name follows.
+/// The action, where no name follows the subcommand; else 56.
 fn no_names(action: Action, words: &[String]) -> Result<Action, RequestFault>
     ensures { Gives reason_of asked_view result (no_names (asked_view action) (map string_bytes words.now)) }
 {
@@ -41,6 +42,7 @@ fn no_names(action: Action, words: &[String]) -> Result<Action, RequestFault>
     }
 }
 
+/// The action of `switch [OLD] NEW`; 56 for any other count of names.
 fn switch_of(words: &[String]) -> Result<Action, RequestFault>
     ensures { Gives reason_of asked_view result (switch_of (map string_bytes words.now)) }
 {
@@ -51,7 +53,7 @@ fn switch_of(words: &[String]) -> Result<Action, RequestFault>
     }
 }
 
-/// The action that the words ask for, from the subcommand on.
+/// The action that the words ask for; the first is the subcommand.
 fn action_of(alloc: Global, words: &[String]) -> Result<Action, RequestFault>
     ensures { Gives reason_of asked_view result (request_of (map string_bytes words.now)) }
 {
@@ -71,14 +73,14 @@ fn action_of(alloc: Global, words: &[String]) -> Result<Action, RequestFault>
     }
 }
 
-/// The request that the words make, from the subcommand on. `add`, `rm`, `swap` and `display` are short for `load`,
-/// `unload`, `switch` and `show`.
+/// The request that the words make; the first is the subcommand. `add`, `rm`, `swap` and `display` are short for
+/// `load`, `unload`, `switch` and `show`.
 ///
-/// Errors: `UnknownSubcommand` (57), there is no such subcommand; `BadArguments` (56), there is none at all, or its
+/// Errors: `UnknownSubcommand` (57), there is no such subcommand; `BadArguments` (56), there is none at all, or the
 /// names don't fit it: `load`, `unload`, `show` and `whatis` take at least one, `switch` one or two, `purge` and `list`
-/// none; or want of memory.
+/// none; `OutOfMemory` (31), memory ran out.
 pub fn request(alloc: Global, shell: Shell, words: &[String]) -> Result<Request, RequestFault>
-    ensures asked { Gives reason_of (λ request. asked_view request.action) result
+    ensures action { Gives reason_of (λ request. asked_view request.action) result
         (request_of (map string_bytes words.now)) }
     ensures shell { IfOk result (λ request. request.shell ≡ shell) }
 {

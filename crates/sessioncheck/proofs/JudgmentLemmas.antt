@@ -24,7 +24,7 @@ use Rattle.sessioncheck.specs.Judgments.{IsJudgment, AreJudgments, count_failed_
 use Rattle.sessioncheck.specs.Parts.{loaded_in}
 use Rattle.sessioncheck.specs.declared.judging.Judgment.{Judgment}
 
--- ---- what was told of more maps, and after fewer failures
+-- ---- what holds for more maps, and after fewer failures
 
 narrowed_cause : (c : Cause RequestReason) (agrees agrees' : Files → Listings → Type 0) (failed failed' : Type 0) (Is : RequestReason → Files → Listings → Type 0)
     → Narrows agrees agrees' → (failed → failed') → Applies c failed (λ r. InEachPair agrees (Is r)) → Applies c failed' (λ r. InEachPair agrees' (Is r))
@@ -97,7 +97,7 @@ pub verdict_counts : (agrees : Files → Listings → Type 0) (before now : ℕ)
 verdict_counts agrees before now (Ok v) Comes later h = none_failed before now later
 verdict_counts agrees before now (Err refusal) Comes later h = cause_counts (cause_of refusal) before now (λ r. InEachPair agrees (λ files listings. Comes files listings (Err r))) later h
 
--- ---- the names that are left
+-- ---- the remaining names
 
 pub more_below : (a b c : ℕ) → a < b → b ≤ c → a < c
 more_below a b c h k = omega arith

@@ -5,7 +5,7 @@ use Rattle.environment.specs.Environment.{Environment}
 use Rattle.filetree.specs.Causes.{Cause, Applies, memory, device, because}
 use Rattle.relations.specs.Relations.{Is}
 use Rattle.requests.specs.Reasons.{RequestReason}
-use Rattle.requests.specs.Requests.{Asked, request_of}
+use Rattle.requests.specs.Requests.{RequestedAction, request_of}
 use Rattle.requests.specs.Sessions.{Response, accepted, refused, given_up, IsResponse, env_after, is_cause}
 use Rattle.requests.specs.Steps.{Site}
 use Rattle.modulesteps.specs.Answers.{cause_of}
@@ -17,7 +17,7 @@ use Rattle.modules.specs.declared.sessions.Outcome.TheVariants.{Refused}
 use Rattle.sessioncheck.specs.Sessions.{IsLineResponse, LineSession}
 
 -- the response of a line's request is the line's
-pub line_responds : (s : Site) (e : Environment) (words : List Text) (asked : Asked) (o : Response) → request_of words ≡ Ok asked
+pub line_responds : (s : Site) (e : Environment) (words : List Text) (asked : RequestedAction) (o : Response) → request_of words ≡ Ok asked
     → IsResponse s e asked o → IsLineResponse s e words o
 line_responds s e words asked (accepted d) made h = (Ok asked, sym made, h)
 line_responds s e words asked (refused reason) made h = (Ok asked, sym made, h)
@@ -45,7 +45,7 @@ same_number n = omega arith
 pub none_counts : (failures : ℕ) (refusal : Refusal) (Is : RequestReason → Type 0) → Applies (cause_of refusal) ⊥ Is → failures + count_failed (Refused refusal ∷ []) ≤ failures
 none_counts failures refusal Is h = refused_counts failures failures refusal Is (same_number failures) (more_applies (cause_of refusal) (failures < failures) Is h)
 
--- what the rest of the lines has as responses, the whole has behind those so far
+-- what the rest of the lines has as responses, the whole has after those so far
 pub lines_taken : (s : Site) (start e new : Environment) (words : List Text) (lines all : List (List Text)) (sofar grown : List Response) (o : Response)
     → (os : List Response) → (LineSession s e (words ∷ lines) (o ∷ os) → LineSession s start all (sofar ++ o ∷ os))
     → IsLineResponse s e words o → new ≡ env_after e o → grown ≡ sofar ++ o ∷ []
@@ -59,7 +59,7 @@ no_more : {W : Type 0} (view : W → List Text) (s : Site) (e : Environment) (re
 no_more view s e [] none = tt
 no_more view s e (w ∷ ws) none = absurd (omega arith)
 
--- no line is left
+-- no line remains
 pub lines_done : {W : Type 0} (view : W → List Text) (s : Site) (start e : Environment) (rest : List W) (all : List (List Text)) (sofar : List Response) → length rest < 1
     → ((os : List Response) → LineSession s e (map view rest) os → LineSession s start all (sofar ++ os)) → LineSession s start all sofar
 lines_done view s start e rest all sofar none run =

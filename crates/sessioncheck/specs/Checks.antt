@@ -16,17 +16,17 @@ use Rattle.sessioncheck.specs.Sessions.{LineSession}
 use Rattle.sessioncheck.specs.Judgments.{names_loaded, AreJudgments, count_failed_judgments}
 use Rattle.sessioncheck.specs.declared.checking.Findings.{Findings}
 
--- what came of each line, one after another
+-- the response to each line, one after another
 abbrev pub responses_in : Environment → Findings → List Response
 responses_in e check = responses e check.outcomes.items
 
--- how many lines were refused, and modules not judged, since the device failed
+-- how many lines were refused, and modules not judged, because the device failed
 abbrev pub failed_in : Findings → ℕ
 failed_in check = count_failed check.outcomes.items + count_failed_judgments check.judgments.items
 
--- The lines of the text are a session from this environment, which leaves the check's; the modules that it loaded are
--- judged in the first environment; and the device, which had failed so often before and has so often now, has failed
--- since then at least as often as the check says.
+-- The lines of the text are a session from this environment to the check's; the modules that it loaded are judged in
+-- the first environment; and the device, which had failed so often before and has so often now, has failed since then
+-- at least as often as the check has refusals by it.
 pub record IsCheck (agrees : Files → Listings → Type 0) (before now : ℕ) (limits : Limits) (shell : Shell)
     (e : Environment) (text : Text) (check : Findings) : Type 0 where
   pub session : InEachPair agrees (λ files listings.
@@ -35,6 +35,7 @@ pub record IsCheck (agrees : Files → Listings → Type 0) (before now : ℕ) (
   pub judged : AreJudgments agrees (before < now) limits e (names_loaded (responses_in e check)) check.judgments.items
   pub failures : before + failed_in check ≤ now
 
+-- the line was accepted
 abbrev pub was_accepted : Outcome → Bool
 was_accepted (Accepted done) = true
 was_accepted (Refused refusal) = false

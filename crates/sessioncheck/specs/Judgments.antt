@@ -25,7 +25,7 @@ IsJudgment agrees failed limits e name judgment =
     (string_bytes judgment.name ≡ name)
     × Tells agrees failed verdict_view judgment.verdict (λ files listings. Judged (in_sh limits files listings) e name)
 
--- one for each name, in order
+-- the verdicts on the modules of these names, one for each, in order
 abbrev pub AreJudgments : (Files → Listings → Type 0) → Type 0 → Limits → Environment → List Text → List Judgment
     → Type 0
 AreJudgments agrees failed limits e [] [] = Unit {0}
@@ -34,11 +34,12 @@ AreJudgments agrees failed limits e (name ∷ names) [] = ⊥
 AreJudgments agrees failed limits e (name ∷ names) (j ∷ js) =
     IsJudgment agrees failed limits e name j × AreJudgments agrees failed limits e names js
 
--- how many have no verdict since the device failed
+-- one for a module that has no verdict because the device failed
 abbrev pub count_unjudged : Result Verdict Refusal → ℕ
 count_unjudged (Ok verdict) = 0
 count_unjudged (Err refusal) = count_cause (cause_of refusal)
 
+-- how many modules have no verdict because the device failed
 abbrev pub count_failed_judgments : List Judgment → ℕ
 count_failed_judgments [] = 0
 count_failed_judgments (j ∷ js) = count_unjudged j.verdict + count_failed_judgments js

@@ -7,8 +7,7 @@ use Rattle.requests.specs.Sessions.{Response, Session, in_shell, left_by, sessio
 use Rattle.requests.specs.Steps.{Site}
 use Rattle.sessioncheck.specs.Sessions.{LineSession, requests_in, answered}
 
--- A session of lines is the session of their requests: a line that makes none leaves the environment, and moves
--- nothing.
+-- A session of lines is the session of their requests: a line that makes none changes no variable, and moves nothing.
 abbrev pub LinesRun : Type 0
 LinesRun =
     (s : Site) (shell : Shell) (e : Environment) (lines : List (List Text)) (os : List Response)

@@ -1,3 +1,4 @@
+-- The definitions of the check of lines (own), and of its law.
 pub mod Lines
 pub mod Sessions
 pub mod Judgments

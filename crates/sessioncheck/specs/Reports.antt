@@ -1,4 +1,4 @@
--- The lines that tell what a check found (own).
+-- The bytes of the report of a check (own).
 use Rattle.std.specs.Prelude.{ℕ, ◌+◌, List, [], ◌∷◌, ◌++◌, codes, decimal, string_bytes, Result, Ok, Err}
 use Rattle.std.specs.List.{flat_map}
 use Rattle.environment.specs.Texts.{Text}
@@ -11,7 +11,7 @@ use Rattle.modules.specs.declared.sessions.Outcome.TheVariants.{Accepted, Refuse
 use Rattle.sessioncheck.specs.declared.checking.Findings.{Findings}
 use Rattle.sessioncheck.specs.declared.judging.Judgment.{Judgment}
 
--- what came of the request of this number
+-- the line of a request's outcome, with the request's number
 abbrev pub outcome_line : ℕ → Outcome → Text
 outcome_line n (Accepted done) = decimal n ++ codes " accepted\n"
 outcome_line n (Refused refusal) = decimal n ++ (codes " refused: " ++ (message_of refusal ++ codes "\n"))
@@ -21,15 +21,17 @@ abbrev pub outcome_lines : ℕ → List Outcome → Text
 outcome_lines n [] = []
 outcome_lines n (o ∷ os) = outcome_line n o ++ outcome_lines (n + 1) os
 
+-- the verdict, or why there is none
 abbrev pub verdict_text : Result Verdict Refusal → Text
 verdict_text (Ok Plain) = codes "Plain"
 verdict_text (Ok Asked) = codes "Asked"
 verdict_text (Ok OneWay) = codes "OneWay"
 verdict_text (Err refusal) = message_of refusal
 
+-- the line of a module
 abbrev pub judgment_line : Judgment → Text
 judgment_line j = string_bytes j.name ++ (codes ": " ++ (verdict_text j.verdict ++ codes "\n"))
 
--- what came of each request, and then the verdict on each module that was loaded
+-- the line of each request, and then of each module that was loaded
 abbrev pub report_of : Findings → Text
 report_of check = outcome_lines 1 check.outcomes.items ++ flat_map judgment_line check.judgments.items

@@ -1,4 +1,4 @@
-//! The check of lines.
+//! Checks the lines of a text: runs their requests as a session, and judges the modules that they loaded.
 ghost use Rattle.std.specs.Prelude.{◌≡◌, ◌<◌, ◌≤◌, ◌+◌, IfOk, IfErr};
 ghost use Rattle.std.specs.List.{flat_map};
 ghost use Rattle.environment.specs.Fields.{firsts};
@@ -19,14 +19,14 @@ use shells::Shell;
 use std::alloc::{AllocError, Global};
 use tclrules::Limits;
 
-/// What the check of lines found.
+/// What the check of lines found: an outcome for each line, and a verdict for each module.
 #[derive(Drop)]
 pub struct Findings {
-    /// The environment that the requests leave.
+    /// The environment that results of the requests.
     pub env: Env,
-    /// What came of each line with words, in order.
+    /// The outcome of each line with words, in order.
     pub outcomes: Vec<Outcome>,
-    /// The modules that they loaded, in the order of the first load.
+    /// The verdicts on the modules that they loaded, in the order of the first load.
     pub judgments: Vec<Judgment>,
 }
 
@@ -46,7 +46,7 @@ impl Findings {
     }
 }
 
-/// Judges the modules that the requests loaded, in an environment.
+/// Judges the modules that the requests loaded, each once, in an environment.
 fn judge_loaded<T: Tree>(
     alloc: Global,
     outcomes: &[Outcome],
@@ -66,14 +66,15 @@ fn judge_loaded<T: Tree>(
     judge(alloc, names.as_slice(), env, tree, limits)
 }
 
-/// Runs the requests of lines one after another from an environment, which stays as it is, over a tree of modulefiles,
+/// Runs the requests of lines one after another from an environment, which doesn't change, over a tree of modulefiles,
 /// and judges the modules that they load in that environment.
 ///
 /// The words of a line, between spaces and tabs, make its request, for this shell. A line without words is passed over;
-/// one that makes no request is refused (56, 57), and so is a request that its step refuses. Then the environment
-/// stays, and the next line is run. No more lines and verdicts are refused by 43 than the device failed.
+/// one that makes no request is refused (56, 57), and so is a request that its step refuses. A refused line changes
+/// nothing, and the next line is run. No more lines and verdicts are refused by 43 than the device failed.
 ///
-/// Errors: want of memory (31), apart from what one request or one verdict wants.
+/// Errors: want of memory (31), apart from that of a single request or verdict, which is the outcome of its line or
+/// module.
 pub fn check<T: Tree>(
     alloc: Global,
     shell: Shell,

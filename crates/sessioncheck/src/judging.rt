@@ -1,4 +1,4 @@
-//! The verdicts on modules.
+//! Judges modules by their names, each with a verdict or why there is none.
 ghost use Rattle.std.specs.Prelude.{◌<◌, ◌≤◌, ◌+◌, IfOk};
 ghost use Rattle.environment.specs.Texts.{shown};
 ghost use Rattle.filetree.specs.Agreement.{Narrows};
@@ -15,7 +15,7 @@ use tclrules::Limits;
 pub struct Judgment {
     /// The module's full name.
     pub name: String,
-    /// The verdict in the environment in which it was judged.
+    /// The verdict, in the environment in which it was judged; or why there is none.
     pub verdict: Result<Verdict, Refusal>,
 }
 

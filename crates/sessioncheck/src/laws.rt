@@ -1,8 +1,8 @@
-//! Laws of checks. Each is a function that does nothing: its contract is the law.
+//! The law of lines: a function that does nothing, whose contract is the law.
 ghost use Rattle.sessioncheck.specs.Laws.{LinesRun};
 
 /// A session of lines is the session of their requests, from the same environment to the same: a line that makes no
-/// request leaves the environment, and moves nothing.
+/// request changes no variable, and moves nothing.
 pub fn lines_run()
     ensures { LinesRun }
 {}

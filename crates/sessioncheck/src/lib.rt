@@ -1,4 +1,6 @@
-//! The check of lines: what the requests that they make would do, and which modules that they load are plain.
+//! The check of an input's lines: what their requests would do, and the verdict on each module that they load (own).
+//! Takes memory; reads the files and folders (`Tree`) that it is given.
+//! Used by modulecmd.
 #![tactic(auto)]
 
 mod checking;

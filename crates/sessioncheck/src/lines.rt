@@ -1,4 +1,4 @@
-//! The words of lines.
+//! Takes a text apart into its lines, and a line into the words between its spaces and tabs.
 ghost use Rattle.std.specs.Prelude.{◌≡◌, ◌++◌, map, IfOk, OnOk};
 ghost use Rattle.environment.specs.Texts.{texts_in};
 ghost use Rattle.sessioncheck.specs.Lines as spec;
@@ -17,7 +17,7 @@ fn push_word(alloc: Global, word: &str, words: &mut Vec<String>) -> Result<(), A
     Ok(words.push(String::from_str(alloc, word)?)?)
 }
 
-/// Adds the words between tabs.
+/// Adds the words of a text without spaces, which tabs part.
 fn push_words(alloc: Global, text: &str, words: &mut Vec<String>) -> Result<(), AllocError>
     ensures { OnOk result (texts_in words.new ≡ texts_in words.old ++ words_between_tabs text.now) }
 {
@@ -44,7 +44,7 @@ fn words_in(alloc: Global, line: &str) -> Result<Vec<String>, AllocError>
     Ok(words)
 }
 
-/// Adds the words of a line, unless it has none.
+/// Adds the list of a line's words, unless it has none.
 fn push_line(alloc: Global, line: &str, lines: &mut Vec<Vec<String>>) -> Result<(), AllocError>
     ensures { OnOk result (map texts_in lines.new.items ≡ map texts_in lines.old.items ++ line_words line.now) }
 {

@@ -1,4 +1,4 @@
-//! The modules that were loaded.
+//! Which modules the requests loaded.
 ghost use Rattle.std.specs.Prelude.{◌≡◌, ◌++◌, map, IfOk, OnOk, string_bytes};
 ghost use Rattle.std.specs.List.{flat_map};
 ghost use Rattle.environment.specs.Fields.{firsts};
@@ -9,7 +9,7 @@ use environment::fields::once;
 use modules::Outcome;
 use std::alloc::{AllocError, Global};
 
-/// Adds names.
+/// Adds the names that one request loaded.
 fn push_names<'a>(names: &mut Vec<&'a str>, loaded: &'a [String]) -> Result<(), AllocError>
     ensures { OnOk result (shown names.new.items ≡ shown names.old.items ++ map string_bytes loaded.now) }
 {

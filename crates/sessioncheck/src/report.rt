@@ -1,4 +1,4 @@
-//! The lines that tell what a check found.
+//! The report of a check: a line for each outcome and for each verdict.
 ghost use Rattle.std.specs.Prelude.{◌≡◌, ◌++◌, IfOk, OnOk, string_bytes};
 ghost use Rattle.std.specs.List.{flat_map};
 ghost use Rattle.sessioncheck.specs.Reports as spec;
@@ -9,7 +9,7 @@ use crate::judging::Judgment;
 use modules::{Outcome, Verdict};
 use std::alloc::{AllocError, Global};
 
-/// What came of the request of this number.
+/// The line of a request's outcome, with the request's number.
 fn outcome_line(alloc: Global, number: usize, outcome: &Outcome) -> Result<String, AllocError>
     ensures { IfOk result (λ line. string_bytes line ≡ spec.outcome_line number outcome.now) }
 {
@@ -19,7 +19,7 @@ fn outcome_line(alloc: Global, number: usize, outcome: &Outcome) -> Result<Strin
     }
 }
 
-/// The verdict on a module, or why there is none.
+/// The line of a module, with the verdict on it or why there is none.
 fn judgment_line(alloc: Global, judgment: &Judgment) -> Result<String, AllocError>
     ensures { IfOk result (λ line. string_bytes line ≡ spec.judgment_line judgment.now) }
 {
@@ -32,7 +32,7 @@ fn judgment_line(alloc: Global, judgment: &Judgment) -> Result<String, AllocErro
     }
 }
 
-/// Adds what came of each request, by its number.
+/// Adds the line of each outcome; the requests have their numbers from 1.
 fn push_outcomes(alloc: Global, report: &mut String, outcomes: &[Outcome]) -> Result<(), AllocError>
     ensures { OnOk result (string_bytes report.new ≡ string_bytes report.old ++ spec.outcome_lines 1 outcomes.now) }
 {
@@ -42,7 +42,7 @@ fn push_outcomes(alloc: Global, report: &mut String, outcomes: &[Outcome]) -> Re
     Ok(())
 }
 
-/// Adds the verdict on each module.
+/// Adds the line of each module.
 fn push_judgments(
     alloc: Global,
     report: &mut String,
@@ -60,8 +60,8 @@ fn push_judgments(
 }
 
 impl Findings {
-    /// The lines that tell what was found: `N accepted`, or `N refused: ` and why, for the request of each number, from
-    /// 1; and then for each module that was loaded its name, and its verdict or why there is none.
+    /// The report: `N accepted`, or `N refused: ` and why, for the request of each number, from 1; and then for each
+    /// module that was loaded its name, and its verdict or why there is none.
     pub fn report(&self, alloc: Global) -> Result<String, AllocError>
         ensures { IfOk result (λ report. string_bytes report ≡ report_of self.now) }
     {

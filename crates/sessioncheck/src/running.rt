@@ -1,4 +1,4 @@
-//! The session of lines.
+//! Runs lines one after another, each by the request that its words make.
 ghost use Rattle.std.specs.Prelude.{◌≡◌, ◌≤◌, ◌+◌, [], ◌∷◌, map, IfOk, IfErr, string_bytes};
 ghost use Rattle.environment.specs.Texts.{texts_in};
 ghost use Rattle.filetree.specs.Agreement.{Narrows, InEachPair};
@@ -15,7 +15,7 @@ use shells::Shell;
 use std::alloc::Global;
 use tclrules::Limits;
 
-/// What comes of the words of a line. Where they make no request it is refused so.
+/// Runs the request of a line's words and answers its outcome. Where they make no request it is refused so.
 fn respond_to<T: Tree>(
     alloc: Global,
     shell: Shell,
@@ -38,7 +38,7 @@ fn respond_to<T: Tree>(
     }
 }
 
-/// Runs lines one after another, each by its words, and answers what came of each.
+/// Runs lines one after another, each by its words, and answers the outcome of each.
 pub(crate) fn run_lines<T: Tree>(
     alloc: Global,
     shell: Shell,

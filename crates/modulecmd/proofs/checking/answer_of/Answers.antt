@@ -48,6 +48,6 @@ returns-clause-answered g c = record {
     exact = c.in_ok-difference.ensures.ok;
     says = rw c.as_slice.ensures.value at c.in_ok-text.ensures.text;
   };
-  told = c.in_ok-report.ensures;
+  report = c.in_ok-report.ensures;
   accepted = c.is_accepted.ensures;
 }

@@ -1,6 +1,6 @@
 use Rattle.std.proofs.Common.{◌<◌, refl}
 use Rattle.modulesteps.specs.declared.commands.Doing.{Doing}
-use Rattle.modulesteps.specs.declared.commands.Doing.TheVariants.{Load, Unload, Report}
+use Rattle.modulesteps.specs.declared.commands.Doing.TheVariants.{Load, Unload, ReportOn}
 use Rattle.modulesteps.specs.Views.{site_of, done_view}
 use Rattle.modulesteps.specs.Parts.{DoesForName, LooksForName}
 use Rattle.modulesteps.proofs.StepLemmas.{tells_of}
@@ -25,12 +25,12 @@ returns-in-Unload-clause-told g c =
     tells_of (g.T.Tree.agrees c.unload_name.new.tree) rose (λ (u : Unit {0}). done_view c.unload_name.new.done (g.V.Vars.vars c.unload_name.new.env)) c.unload_name.result
     (λ (doing : Doing) files listings. DoesForName doing (site_of c.args.terms files listings) c.args.typed.now d) c.args.doing Unload c.in-Unload.is c.unload_name.ensures.told
 
-pub returns-in-Report-clause-told : goal.returns-in-Report-clause-told
-returns-in-Report-clause-told g c =
+pub returns-in-ReportOn-clause-told : goal.returns-in-ReportOn-clause-told
+returns-in-ReportOn-clause-told g c =
     let d = done_view c.args.done.now (g.V.Vars.vars c.args.env.now) in
     let rose = g.T.Tree.failures c.args.tree.now < g.T.Tree.failures c.report_name.new.tree in
     tells_of (g.T.Tree.agrees c.report_name.new.tree) rose (λ (u : Unit {0}). done_view c.report_name.new.done (g.V.Vars.vars c.report_name.new.env)) c.report_name.result
-    (λ (doing : Doing) files listings. DoesForName doing (site_of c.args.terms files listings) c.args.typed.now d) c.args.doing (Report c.in-Report.topic) c.in-Report.is c.report_name.ensures.told
+    (λ (doing : Doing) files listings. DoesForName doing (site_of c.args.terms files listings) c.args.typed.now d) c.args.doing (ReportOn c.in-ReportOn.topic) c.in-ReportOn.is c.report_name.ensures.told
 
 pub returns-in-Load-clause-failed : goal.returns-in-Load-clause-failed
 returns-in-Load-clause-failed g c =
@@ -53,12 +53,12 @@ returns-in-Unload-clause-failed g c =
     (fails_last is_failure before before now c.unload_name.result (UnloadLooksAt c.args.typed.now d)
     (λ at. InEachPair agrees (λ files listings. UnloadLooksAt c.args.typed.now d at)) refl (λ at h files listings a. h) c.unload_name.ensures.failed)
 
-pub returns-in-Report-clause-failed : goal.returns-in-Report-clause-failed
-returns-in-Report-clause-failed g c =
+pub returns-in-ReportOn-clause-failed : goal.returns-in-ReportOn-clause-failed
+returns-in-ReportOn-clause-failed g c =
     let d = done_view c.args.done.now (g.V.Vars.vars c.args.env.now) in
     let before = g.T.Tree.failed c.args.tree.now in
     let now = g.T.Tree.failed c.report_name.new.tree in
     let agrees = g.T.Tree.agrees c.report_name.new.tree in
     fails_of agrees before now c.report_name.result
-    (λ (doing : Doing) files listings. LooksForName doing (site_of c.args.terms files listings) c.args.typed.now d) c.args.doing (Report c.in-Report.topic) c.in-Report.is
+    (λ (doing : Doing) files listings. LooksForName doing (site_of c.args.terms files listings) c.args.typed.now d) c.args.doing (ReportOn c.in-ReportOn.topic) c.in-ReportOn.is
     c.report_name.ensures.failed

@@ -6,7 +6,7 @@ use Rattle.loadedlist.specs.Loaded.{names_of}
 use Rattle.loadedlist.specs.LoadedEntries.{entry_of}
 use Rattle.loadedlist.specs.declared.entry.Loaded.{Loaded}
 use Rattle.relations.specs.Relations.{Is, Then}
-use Rattle.requests.specs.Requests as asked
+use Rattle.requests.specs.Requests as actions
 use Rattle.requests.specs.Steps.{begun, entries_of, Each, EndsRequest, RequestStep, UnloadsName}
 use Rattle.modulesteps.specs.declared.done.Done.{Done}
 use Rattle.modulesteps.specs.declared.commands.Doing.TheVariants.{Unload}
@@ -25,7 +25,7 @@ returns-in_err-before-clause-told g c =
     let p = err_from_is_err_and c.from_residual.result c.from_residual.ensures.1 in
     let e = g.V.Vars.vars c.args.env.now in
     rw (p.1, p.2) (gives_refused (g.T.Tree.agrees c.args.tree.now) (g.T.Tree.failures c.args.tree.now < g.T.Tree.failures c.args.tree.now) entries_view (λ (x : Done). begun e) c.in_err-before.field-0.0
-    (Is (entries_of e)) (λ files listings. RequestStep (site_of c.args.terms files listings) e asked.purge) (λ files listings r a h. (Err r, h, refl)) c.in_err-before.ensures.given)
+    (Is (entries_of e)) (λ files listings. RequestStep (site_of c.args.terms files listings) e actions.purge) (λ files listings r a h. (Err r, h, refl)) c.in_err-before.ensures.given)
 
 pub returns-clause-told : goal.returns-clause-told
 returns-clause-told g c =
@@ -37,7 +37,7 @@ returns-clause-told g c =
     let back : map (λ (s : String Global). string_bytes s) c.in_ok-names.names.items ≡ reverse (names_of xs) = c.in_ok-names.ensures ∙ ap (λ (es : List Loaded). reverse (names_of (map entry_of es))) c.as_slice.ensures.value in
     tells_same (g.T.Tree.agrees c.change_each.new.tree) rose rose (λ (x : Done). done_view x (g.V.Vars.vars c.change_each.new.env)) c.change_each.result
     (λ files listings. Then (Each (DoesForName Unload (site_of c.args.terms files listings)) (map (λ (s : String Global). string_bytes s) c.in_ok-names.names.items) (begun e)) (EndsRequest xs))
-    (λ files listings. RequestStep (site_of c.args.terms files listings) e asked.purge) (λ q. q)
+    (λ files listings. RequestStep (site_of c.args.terms files listings) e actions.purge) (λ q. q)
     (λ files listings o a h. (Ok xs, c.in_ok-before.ensures.given, subst (λ (ns : List Text). Then (Each (UnloadsName (site_of c.args.terms files listings) false) ns (begun e)) (EndsRequest xs) o) back h))
     told
 

@@ -10,7 +10,7 @@ use Rattle.modulesteps.proofs.StepLemmas.{tells_refused}
 use Rattle.modulesteps.proofs.EachLemmas.{shows_some}
 use Rattle.filetree.specs.Agreement.{InEachPair}
 use Rattle.modulefind.proofs.FailureLemmas.{fails_then}
-use Rattle.modulesteps.specs.declared.commands.Doing.TheVariants.{Report}
+use Rattle.modulesteps.specs.declared.commands.Doing.TheVariants.{ReportOn}
 use Rattle.modulesteps.specs.Answers.{is_failure}
 use Rattle.modulesteps.proofs.commands.report_names.Goals as goal
 
@@ -46,7 +46,7 @@ returns-in_err-do_each-clause-failed g c =
     let agrees = g.T.Tree.agrees c.do_each.new.tree in
     let fails = is_failure c.in_err-do_each.field-0.0 in
     rw (p.1, p.2) (fails_then fails fails before before (g.T.Tree.failed c.do_each.new.tree)
-    (λ at. InEachPair agrees (λ files listings. LooksForEach (Report c.args.topic) (site_of c.args.terms files listings) names d at))
-    (λ at. InEachPair agrees (λ files listings. LooksForEach (Report c.args.topic) (site_of c.args.terms files listings) names (begun e) at)) refl refl
-    (λ at h files listings a. subst (λ x. LooksForEach (Report c.args.topic) (site_of c.args.terms files listings) names x at) (c.new-done.ensures e) (h files listings a))
+    (λ at. InEachPair agrees (λ files listings. LooksForEach (ReportOn c.args.topic) (site_of c.args.terms files listings) names d at))
+    (λ at. InEachPair agrees (λ files listings. LooksForEach (ReportOn c.args.topic) (site_of c.args.terms files listings) names (begun e) at)) refl refl
+    (λ at h files listings a. subst (λ x. LooksForEach (ReportOn c.args.topic) (site_of c.args.terms files listings) names x at) (c.new-done.ensures e) (h files listings a))
     c.in_err-do_each.ensures.failed)

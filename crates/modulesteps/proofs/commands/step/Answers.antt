@@ -2,8 +2,8 @@ use Rattle.std.proofs.Common.{◌≡◌, ◌<◌, Bor, IfErr, String, string_byt
 use Rattle.std.specs.declared.alloc.Global.{Global}
 use Rattle.std.specs.Option.{option_map}
 use Rattle.environment.specs.Texts.{Text}
-use Rattle.requests.specs.declared.asked.Action.{Action}
-use Rattle.requests.specs.declared.asked.Action.TheVariants as actions
+use Rattle.requests.specs.declared.action.Action.{Action}
+use Rattle.requests.specs.declared.action.Action.TheVariants as actions
 use Rattle.requests.specs.RequestViews.{asked_view}
 use Rattle.requests.specs.Steps.{ListsLoaded, RequestStep}
 use Rattle.modulesteps.specs.declared.done.Terms.{Terms}

@@ -4,7 +4,7 @@ use Rattle.std.specs.Option.{option_map}
 use Rattle.environment.specs.Texts.{Text}
 use Rattle.loadedlist.specs.LoadedEntries.{entry_of}
 use Rattle.relations.specs.Relations.{Is, Then}
-use Rattle.requests.specs.Requests as asked
+use Rattle.requests.specs.Requests as actions
 use Rattle.requests.specs.Steps.{begun, entries_of, EndsRequest, RequestStep, LoadsName, UnloadsName, Switches, old_name}
 use Rattle.modulesteps.specs.declared.done.Done.{Done}
 use Rattle.modulesteps.specs.Views.{site_of, done_view}
@@ -22,7 +22,7 @@ returns-in_err-before-clause-told g c =
     let p = err_from_is_err_and c.from_residual.result c.from_residual.ensures.1 in
     let e = g.V.Vars.vars c.args.env.now in
     rw (p.1, p.2) (gives_refused (g.T.Tree.agrees c.args.tree.now) (g.T.Tree.failures c.args.tree.now < g.T.Tree.failures c.args.tree.now) entries_view (λ (x : Done). begun e) c.in_err-before.field-0.0
-    (Is (entries_of e)) (λ files listings. RequestStep (site_of c.args.terms files listings) e (asked.switch (option_map (λ x. x.now) c.args.old) c.args.new.now)) (λ files listings r a h. (Err r, h, refl)) c.in_err-before.ensures.given)
+    (Is (entries_of e)) (λ files listings. RequestStep (site_of c.args.terms files listings) e (actions.switch (option_map (λ x. x.now) c.args.old) c.args.new.now)) (λ files listings r a h. (Err r, h, refl)) c.in_err-before.ensures.given)
 
 pub returns-in_err-switch_names-clause-told : goal.returns-in_err-switch_names-clause-told
 returns-in_err-switch_names-clause-told g c =
@@ -33,7 +33,7 @@ returns-in_err-switch_names-clause-told g c =
     let rose = g.T.Tree.failures c.args.tree.now < g.T.Tree.failures c.switch_names.new.tree in
     rw (p.1, p.2) (tells_refused (g.T.Tree.agrees c.switch_names.new.tree) rose rose (λ (u : Unit {0}). d) (λ (x : Done). d) c.in_err-switch_names.field-0.0
     (λ files listings. Switches (site_of c.args.terms files listings) (Some c.old_name.result.now) c.args.new.now d)
-    (λ files listings. RequestStep (site_of c.args.terms files listings) e (asked.switch (option_map (λ x. x.now) c.args.old) c.args.new.now)) (λ q. q)
+    (λ files listings. RequestStep (site_of c.args.terms files listings) e (actions.switch (option_map (λ x. x.now) c.args.old) c.args.new.now)) (λ q. q)
     (λ files listings r a h. (
       Ok xs,
       c.in_ok-before.ensures.given,
@@ -55,7 +55,7 @@ returns-in_err-end-clause-told g c =
     let rose = g.T.Tree.failures c.args.tree.now < g.T.Tree.failures c.switch_names.new.tree in
     let ended = rw c.as_slice.ensures.value at c.in_err-end.ensures in
     rw (p.1, p.2) (gives_refused (g.T.Tree.agrees c.switch_names.new.tree) rose (λ (u : Unit {0}). d) (λ (x : Done). d) c.in_err-end.field-0.0
-    (EndsRequest xs d) (λ files listings. RequestStep (site_of c.args.terms files listings) e (asked.switch (option_map (λ x. x.now) c.args.old) c.args.new.now))
+    (EndsRequest xs d) (λ files listings. RequestStep (site_of c.args.terms files listings) e (actions.switch (option_map (λ x. x.now) c.args.old) c.args.new.now))
     (λ files listings r a h. (
       Ok xs,
       c.in_ok-before.ensures.given,
