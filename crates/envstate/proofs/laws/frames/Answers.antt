@@ -1,5 +1,5 @@
-use Rattle.envlaws.proofs.FrameLemmas.{path_edits_variable, stack_edits_variable, keeps_other, keeps_loaded, loaded_keeps, rest_stays, loaded_rest_stays}
-use Rattle.envlaws.proofs.frames.Goals as goal
+use Rattle.envstate.proofs.FrameLemmas.{path_edits_variable, stack_edits_variable, keeps_other, keeps_loaded, loaded_keeps, rest_stays, loaded_rest_stays}
+use Rattle.envstate.proofs.laws.frames.Goals as goal
 
 pub returns-clause-path : goal.returns-clause-path
 returns-clause-path c = path_edits_variable

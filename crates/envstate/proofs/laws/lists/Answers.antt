@@ -1,5 +1,5 @@
-use Rattle.envlaws.proofs.StateLemmas.{names_added, names_dropped, list_in_order, dropped_list}
-use Rattle.envlaws.proofs.lists.Goals as goal
+use Rattle.envstate.proofs.StateLemmas.{names_added, names_dropped, list_in_order, dropped_list}
+use Rattle.envstate.proofs.laws.lists.Goals as goal
 
 pub returns-clause-add : goal.returns-clause-add
 returns-clause-add c = names_added

@@ -23,8 +23,8 @@ use Rattle.stackstate.proofs.StackAfter.{name_owns}
 use Rattle.loadedlist.specs.Loaded.{Entry, names_of, is_entry, is_path, is_group, names_text, files_text, conflicts_text, prereqs_text, loaded_in, with_loaded, AreLoadedInOrder, kept_once, without_entry, dropped_from, dropped_loaded}
 use Rattle.loadedlist.proofs.LoadedAgain.{loaded_again}
 use Rattle.loadedlist.proofs.LoadedEdits.{loaded_after_drop}
-use Rattle.envlaws.specs.EnvLaws.{IsStartOf, SamePath, SameStack, SameLoaded, AreSound}
-use Rattle.envlaws.proofs.FrameLemmas.{accepted, texts_of}
+use Rattle.envstate.specs.EnvLaws.{IsStartOf, SamePath, SameStack, SameLoaded, AreSound}
+use Rattle.envstate.proofs.FrameLemmas.{accepted, texts_of}
 
 -- stacks
 

@@ -14,9 +14,9 @@ use Rattle.stackstate.specs.StackRuns.{IsOwnedStart, standing}
 use Rattle.stackstate.specs.StackVariables.{stack_in, pushed_value, popped_value, is_loaded_owner, IsStackInOrder}
 use Rattle.loadedlist.specs.LoadedTexts.{names_variable, files_variable, conflicts_variable, prereqs_variable}
 use Rattle.loadedlist.specs.Loaded.{Entry, names_of, is_path, loaded_in, AreLoadedInOrder, kept_once, without_entry, added_loaded, dropped_loaded}
-use Rattle.envlaws.specs.Places.{place_of, is_editable, IsNameOf}
-use Rattle.envlaws.specs.Places.StatePlace.{Variable, Counters, Stack, LoadedNames, LoadedFiles, LoadedConflicts, LoadedPrereqs, Other}
-use Rattle.envlaws.specs.Frames.{OnlyAmong, loaded_names, EditsPath, EditsStack, EditsVariable, KeepsVariable, KeepsLoaded}
+use Rattle.envstate.specs.Places.{place_of, is_editable, IsNameOf}
+use Rattle.envstate.specs.Places.StatePlace.{Variable, Counters, Stack, LoadedNames, LoadedFiles, LoadedConflicts, LoadedPrereqs, Other}
+use Rattle.envstate.specs.Frames.{OnlyAmong, loaded_names, EditsPath, EditsStack, EditsVariable, KeepsVariable, KeepsLoaded}
 
 -- names
 

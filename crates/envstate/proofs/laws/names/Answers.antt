@@ -1,5 +1,5 @@
-use Rattle.envlaws.proofs.PlaceLemmas.{name_of_place, have_places, loaded_places, parted, no_reason_against}
-use Rattle.envlaws.proofs.names.Goals as goal
+use Rattle.envstate.proofs.PlaceLemmas.{name_of_place, have_places, loaded_places, parted, no_reason_against}
+use Rattle.envstate.proofs.laws.names.Goals as goal
 
 pub returns-clause-places : goal.returns-clause-places
 returns-clause-places c = name_of_place

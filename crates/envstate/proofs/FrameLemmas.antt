@@ -21,10 +21,10 @@ use Rattle.stackstate.proofs.StackAfter.{others_after_push, others_after_pop}
 use Rattle.loadedlist.specs.LoadedTexts.{names_variable, files_variable, conflicts_variable, prereqs_variable}
 use Rattle.loadedlist.specs.Loaded.{Entry, names_of, entries_in, names_text, files_text, conflicts_text, prereqs_text, loaded_in, with_loaded, AreLoadedInOrder, can_be_added, kept_once, without_entry, added_to, dropped_from, added_loaded, dropped_loaded}
 use Rattle.loadedlist.proofs.LoadedEdits.{others_stay}
-use Rattle.envlaws.specs.Places.{StatePlace, place_of, is_editable}
-use Rattle.envlaws.specs.Places.StatePlace.{Variable, Counters, Stack, LoadedNames, LoadedFiles, LoadedConflicts, LoadedPrereqs, Other}
-use Rattle.envlaws.specs.Frames.{OnlyAmong, path_names, stack_names, loaded_names, EditsPath, EditsStack, EditsVariable, KeepsVariable, KeepsLoaded}
-use Rattle.envlaws.proofs.PlaceLemmas.{apart, variable_place, counters_place, stack_place, no_reason_against}
+use Rattle.envstate.specs.Places.{StatePlace, place_of, is_editable}
+use Rattle.envstate.specs.Places.StatePlace.{Variable, Counters, Stack, LoadedNames, LoadedFiles, LoadedConflicts, LoadedPrereqs, Other}
+use Rattle.envstate.specs.Frames.{OnlyAmong, path_names, stack_names, loaded_names, EditsPath, EditsStack, EditsVariable, KeepsVariable, KeepsLoaded}
+use Rattle.envstate.proofs.PlaceLemmas.{apart, variable_place, counters_place, stack_place, no_reason_against}
 
 -- no name of the list
 

@@ -1,5 +1,5 @@
-use Rattle.envlaws.proofs.FrameLemmas.{add_edits, drop_edits, push_edits, pop_edits, set_edits, add_edits_loaded, drop_edits_loaded}
-use Rattle.envlaws.proofs.edits.Goals as goal
+use Rattle.envstate.proofs.FrameLemmas.{add_edits, drop_edits, push_edits, pop_edits, set_edits, add_edits_loaded, drop_edits_loaded}
+use Rattle.envstate.proofs.laws.edits.Goals as goal
 
 pub returns-clause-add_path : goal.returns-clause-add_path
 returns-clause-add_path c = add_edits

@@ -1,5 +1,5 @@
-use Rattle.envlaws.proofs.StateLemmas.{start_of, standing_absent}
-use Rattle.envlaws.proofs.starts.Goals as goal
+use Rattle.envstate.proofs.StateLemmas.{start_of, standing_absent}
+use Rattle.envstate.proofs.laws.starts.Goals as goal
 
 pub returns-clause-start : goal.returns-clause-start
 returns-clause-start c = start_of

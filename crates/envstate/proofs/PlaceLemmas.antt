@@ -8,9 +8,9 @@ use Rattle.environment.specs.Names.{is_variable_name, is_protected, share_name, 
 use Rattle.environment.specs.Reasons.{EnvReason, bad_variable, protected}
 use Rattle.environment.proofs.TextLemmas.{same_text}
 use Rattle.loadedlist.specs.LoadedTexts.{names_variable, files_variable, conflicts_variable, prereqs_variable}
-use Rattle.envlaws.specs.Places.{StatePlace, is_editable, behind, kept_place, place_of, IsNameOf}
-use Rattle.envlaws.specs.Places.StatePlace.{Variable, Counters, Stack, LoadedNames, LoadedFiles, LoadedConflicts, LoadedPrereqs, Other}
-use Rattle.envlaws.specs.EnvLaws.{HasPlaces, LoadedHavePlaces}
+use Rattle.envstate.specs.Places.{StatePlace, is_editable, behind, kept_place, place_of, IsNameOf}
+use Rattle.envstate.specs.Places.StatePlace.{Variable, Counters, Stack, LoadedNames, LoadedFiles, LoadedConflicts, LoadedPrereqs, Other}
+use Rattle.envstate.specs.EnvLaws.{HasPlaces, LoadedHavePlaces}
 
 behind_at : (c k : ℕ) (front n v : Text) (b : Bool) → nat_eq c k ≡ b → (behind front n ≡ Some v → n ≡ front ++ v) → cond b (behind front n) None ≡ Some v → k ∷ n ≡ c ∷ (front ++ v)
 behind_at c k front n v true e f g = let q : n ≡ front ++ v = f g in let y : c ≡ k = eqb-true c k e in cc

@@ -1,5 +1,5 @@
-use Rattle.envlaws.proofs.StateLemmas.{one_path, one_stack, one_list}
-use Rattle.envlaws.proofs.writings.Goals as goal
+use Rattle.envstate.proofs.StateLemmas.{one_path, one_stack, one_list}
+use Rattle.envstate.proofs.laws.writings.Goals as goal
 
 pub returns-clause-paths : goal.returns-clause-paths
 returns-clause-paths c = one_path

@@ -8,7 +8,7 @@ use Rattle.pathstate.specs.PathOrder.{IsPathInOrder}
 use Rattle.stackstate.specs.StackVariables.{stack_in, IsStackInOrder}
 use Rattle.loadedlist.specs.LoadedTexts.{names_variable, files_variable, conflicts_variable, prereqs_variable}
 use Rattle.loadedlist.specs.Loaded.{loaded_in, AreLoadedInOrder}
-use Rattle.envlaws.specs.Places.{is_editable}
+use Rattle.envstate.specs.Places.{is_editable}
 
 -- every variable but these is as it was
 abbrev pub OnlyAmong : Environment → Environment → List Text → Type 0
