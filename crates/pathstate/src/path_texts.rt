@@ -1,4 +1,4 @@
-//! Reading and writing a path variable: its elements, and in another variable their counters.
+//! Reading and writing the two texts of a path variable: its elements, and the counters of its elements.
 ghost use Rattle.std.specs.Prelude.{◌≡◌, ◌≤◌, ◌<◌, ◌==◌, ℕ, List, Option, IfOk, OnOk, None, Some, [], ◌∷◌, ◌++◌, decimal, flat_map, string_bytes, bytes_eq, nat_le, is_some, if◌then◌else◌};
 ghost use Rattle.std.specs.List.{slice_split, join_with_byte, list_any};
 ghost use Rattle.std.specs.Option.{option_or, option_map};
@@ -19,7 +19,7 @@ use indexmap::IndexMap;
 use itoa::Buffer;
 use std::alloc::{AllocError, Global};
 
-/// Gives an element the counter that a text spells, where the element has a counter and the text spells one.
+/// Sets the counter of an element to the one that a text spells, where the element is there and the text spells one.
 fn note(counters: &mut Counters<'_>, element: &str, number: &str)
     ensures { (x : Text) → counter_in counters.new x
         ≡ noted_over ((element.now, number.now) ∷ []) (counter_in counters.old) x }
@@ -32,7 +32,8 @@ fn note(counters: &mut Counters<'_>, element: &str, number: &str)
     }
 }
 
-/// Notes the counters of the pairs that the fields make, from the last to the first: so the first of an element counts.
+/// Sets the counters from fields in pairs of element and counter. They are gone through from the last to the first, so
+/// the first pair of an element counts. A last field without a partner is passed over.
 fn note_each(counters: &mut Counters<'_>, fields: &[&str])
     ensures { (x : Text) → counter_in counters.new x
         ≡ noted_over (paired (shown fields.now)) (counter_in counters.old) x }
@@ -44,7 +45,7 @@ fn note_each(counters: &mut Counters<'_>, fields: &[&str])
     }
 }
 
-/// Whether the fields have a counter of the empty element.
+/// Whether a pair of the fields has a counter for the empty element.
 fn counts_empty(fields: &[&str]) -> bool
     ensures { result ≡ is_some (counted [] (paired (shown fields.now))) }
 {
@@ -58,7 +59,7 @@ fn counts_empty(fields: &[&str]) -> bool
     false
 }
 
-/// The elements that a text says beside the fields of the counters.
+/// The elements of a path variable. The fields of its counters decide whether an empty text is one empty element.
 fn elements_of<'a>(
     alloc: Global,
     delim: char,
@@ -95,13 +96,13 @@ fn ones<'a>(alloc: Global, elements: &[&'a str]) -> Result<Counters<'a>, AllocEr
     Ok(counters)
 }
 
-/// A path variable as it was read: its elements, and a counter for each of them and for nothing else.
+/// A path variable that was read: its elements, and a counter for each of them and for nothing else.
 pub(crate) struct Path<'a> {
     pub elements: Vec<&'a str>,
     pub counters: Counters<'a>,
 }
 
-// Not derived, so that it is dropped by one call, and no proof opens the table of counters at each way out.
+// Not derived: it is dropped by one call, so a proof needn't look into the table of counters at each exit.
 impl<'a> Drop for Path<'a> {
     fn drop(self) {
         let Path {
@@ -111,7 +112,7 @@ impl<'a> Drop for Path<'a> {
     }
 }
 
-/// Reads a path variable beside the fields of its counters.
+/// Reads a path variable with the fields of its counters.
 fn path_of<'a>(
     alloc: Global,
     delim: char,
@@ -130,7 +131,7 @@ fn path_of<'a>(
     Ok(Path { elements, counters })
 }
 
-/// Reads a path variable and its counters.
+/// Reads a path variable from its text and from that of its counters.
 pub(crate) fn read_path<'a>(
     alloc: Global,
     delim: char,
@@ -154,10 +155,10 @@ pub(crate) fn read_path<'a>(
     path_of(alloc, delim, text, fields.as_slice())
 }
 
-/// The least counter that is written.
+/// The smallest counter that is written: an element without a written counter has 1.
 const WRITTEN: u32 = 2;
 
-/// Puts a colon behind what a text has.
+/// Appends a colon, unless the text is empty.
 fn part_fields(text: &mut String) -> Result<(), AllocError>
     ensures { OnOk result (string_bytes text.new ≡ parted_from (string_bytes text.old)) }
 {
@@ -167,7 +168,7 @@ fn part_fields(text: &mut String) -> Result<(), AllocError>
     text.push(':')
 }
 
-/// Puts an element, with escapes, and its counter at the end of a text.
+/// Appends an element, with escapes, and its counter.
 fn push_pair(text: &mut String, element: &str, count: u32) -> Result<(), AllocError>
     ensures { OnOk result (string_bytes text.new ≡ string_bytes text.old ++
         (escaped element.now ++ 58 ∷ decimal count)) }
@@ -177,7 +178,7 @@ fn push_pair(text: &mut String, element: &str, count: u32) -> Result<(), AllocEr
     text.push_str(Buffer::new().format(count))
 }
 
-/// Puts the pair of an element behind those of a text, where its counter is two or more.
+/// Appends the pair of an element and its counter to the pairs of a text, where the counter is two or more.
 fn push_count(text: &mut String, element: &str, count: u32) -> Result<(), AllocError>
     ensures { OnOk result ((fs : List Text) → unless_empty (string_bytes text.old) ≡ text_of fs
         → unless_empty (string_bytes text.new) ≡ text_of (fs ++ pair_fields (λ x. count) element.now)) }
@@ -189,7 +190,7 @@ fn push_count(text: &mut String, element: &str, count: u32) -> Result<(), AllocE
     push_pair(text, element, count)
 }
 
-/// The text, unless it is empty.
+/// The text; none where it is empty.
 fn unless_empty(text: String) -> Option<String>
     ensures { option_map string_bytes result ≡ unless_empty (string_bytes text) }
 {
@@ -199,8 +200,8 @@ fn unless_empty(text: String) -> Option<String>
     Some(text)
 }
 
-/// The text of the counters of two or more. An element that stands twice is written at its first place: the counter of
-/// each that is written becomes 1.
+/// The text of the counters of two or more, in the order of the elements. An element that is there twice is written once,
+/// since the counter of each element becomes 1 when it is written.
 fn counts_text<'a>(
     alloc: Global,
     elements: &[&'a str],
@@ -219,7 +220,7 @@ fn counts_text<'a>(
     Ok(unless_empty(text))
 }
 
-/// The text of the counter of an empty element alone.
+/// The text of the counters where the empty element is the only one, whose counter is always written.
 fn lone_text(alloc: Global, counters: &Counters<'_>) -> Result<Option<String>, AllocError>
     ensures { IfOk result (λ t. option_map string_bytes t
         ≡ text_of ([] ∷ decimal (count_in (counter_in counters.now) []) ∷ [])) }
@@ -230,7 +231,7 @@ fn lone_text(alloc: Global, counters: &Counters<'_>) -> Result<Option<String>, A
     Ok(Some(text))
 }
 
-/// Whether there is one element alone, and it is empty.
+/// Whether the empty element is the only one.
 fn is_lone_empty(elements: &[&str]) -> bool
     ensures { result ≡ is_lone_empty (shown elements.now) }
 {
@@ -240,14 +241,14 @@ fn is_lone_empty(elements: &[&str]) -> bool
     }
 }
 
-/// Whether a counter is two or more.
+/// Whether some counter is two or more.
 fn are_repeated(counters: &Counters<'_>) -> bool
     ensures { result ≡ list_any (λ count. nat_le 2 count) (values counters.now) }
 {
     counters.values().any(|count| *count >= 2)
 }
 
-/// The text of the counters that are written.
+/// The text of the counters; none where none has to be written. It uses the counters up.
 fn write_counters<'a>(
     alloc: Global,
     elements: &[&'a str],
@@ -265,14 +266,14 @@ fn write_counters<'a>(
     counts_text(alloc, elements, counters)
 }
 
-/// The texts of a path variable and of its counters, or none where the variable is unset.
+/// The texts of a path variable and of its counters; no text unsets that variable.
 #[derive(Drop)]
 pub(crate) struct PathTexts {
     pub elements: Option<String>,
     pub counters: Option<String>,
 }
 
-/// The elements with the delimiter between them; none unsets the variable.
+/// The elements with the delimiter between them; no text where there is no element.
 fn elements_text(
     alloc: Global,
     delim: char,
@@ -287,7 +288,7 @@ fn elements_text(
     Ok(Some(join(alloc, elements, delim)?))
 }
 
-/// The texts that a path variable and its counters are written as. The counters are used up.
+/// The two texts that a path variable is written as. It uses the counters up.
 pub(crate) fn write_path(
     alloc: Global,
     delim: char,

@@ -18,22 +18,26 @@ use crate::path_texts::{Path, PathTexts, read_path, write_path};
 use environment::{Change, EnvFault, Vars, judge_name, share_name};
 use std::alloc::{AllocError, Global};
 
-/// An end of a list.
+/// The end of the list at which elements are added.
 #[derive(Clone, Copy, Debug, PartialEq, Eq)]
 pub enum End {
+    /// Before the first element (prepend-path).
     Front,
+    /// After the last element (append-path).
     Back,
 }
 
-/// The counter of an element that leaves the list when it is dropped.
+/// The counter at which an element leaves the list when it is dropped.
 const LAST: u32 = 1;
 
+/// Whether the character can separate elements: a printable character of ASCII, from the space to the tilde.
 fn is_delimiter(delim: char) -> bool
     ensures { result ≡ is_delimiter delim }
 {
     ' ' <= delim && delim <= '~'
 }
 
+/// Whether a path variable with this delimiter can hold the element: one without the delimiter and without NUL.
 fn is_element(delim: char, text: &str) -> bool
     requires { delim < 128 }
     ensures { result ≡ is_element delim text.now }
@@ -42,6 +46,7 @@ fn is_element(delim: char, text: &str) -> bool
     text.as_bytes().iter().all(|b| !(*b == delim || *b == 0))
 }
 
+/// Whether a path variable with this delimiter can hold each of these elements.
 fn are_elements(delim: char, texts: &[&str]) -> bool
     requires { delim < 128 }
     ensures { result ≡ list_all (is_element delim) (shown texts.now) }
@@ -56,7 +61,8 @@ fn are_elements(delim: char, texts: &[&str]) -> bool
     true
 }
 
-/// Refuses variables, delimiters and elements that can't be edited.
+/// Accepts an edit by its words alone. The errors: those of the variable's name, then `BadValue` for the delimiter or an
+/// element.
 fn judge_path(alloc: Global, var: &str, delim: char, elements: &[&str]) -> Result<(), EnvFault>
     ensures judged { Judges result (path_reason var.now delim (shown elements.now)) }
     ensures delimiter { OnOk result (delim < 128) }
@@ -68,7 +74,7 @@ fn judge_path(alloc: Global, var: &str, delim: char, elements: &[&str]) -> Resul
     Ok(())
 }
 
-/// Counts an element once more, and puts it behind the others that are new unless it was counted before.
+/// Adds one to the counter of an element, and appends the element to `added` where it had no counter.
 fn add_one<'a>(
     alloc: Global,
     var: &str,
@@ -94,7 +100,7 @@ fn add_one<'a>(
     Ok(())
 }
 
-/// Adds elements behind the others, from the first to the last.
+/// Adds elements after the others, from the first to the last.
 fn add_back<'a>(
     alloc: Global,
     var: &str,
@@ -118,7 +124,7 @@ fn add_back<'a>(
     Ok(())
 }
 
-/// Adds elements before the others, from the last to the first.
+/// Adds elements before the others, from the last to the first, so that they end in the order in which they are given.
 fn add_front<'a>(
     alloc: Global,
     var: &str,
@@ -171,7 +177,7 @@ fn add_each<'a>(
     }
 }
 
-/// The texts after elements were added.
+/// The texts of a path variable after elements are added.
 fn added(
     alloc: Global,
     var: &str,
@@ -190,15 +196,15 @@ fn added(
     Ok(write_path(alloc, delim, &mut path)?)
 }
 
-/// Adds elements to a path variable that is parted by `delim`, in front of its elements from the last to the first,
-/// or behind them from the first to the last.
+/// Adds elements to a path variable whose elements are separated by `delim`: before its elements from the last to the
+/// first, or after them from the first to the last.
 ///
-/// An element that is there already stays where it is and is counted once more.
+/// An element that is there already stays where it is, and its counter rises by one.
 ///
-/// It is refused, in this order, by `BadVariable` where `var` isn't spelled as a variable's name, by `Protected` where
-/// the variable holds the tool's own state, by `BadValue` where the delimiter isn't one from the space to the tilde or
-/// an element holds it or NUL, and by `CounterFull` where a counter would pass 4294967295. Memory can run out. After
-/// each of these the environment is as it was.
+/// The errors, in this order: `BadVariable` where `var` isn't spelled as a variable's name; `Protected` where the
+/// variable holds the tool's own state; `BadValue` where the delimiter isn't a character from the space to the tilde,
+/// or an element holds the delimiter or NUL; `CounterFull` where a counter would pass 4294967295. `OutOfMemory` can come
+/// at any point. After each of these the environment is unchanged.
 pub fn add_path<V: Vars>(
     alloc: Global,
     env: &mut V,
@@ -225,7 +231,7 @@ pub fn add_path<V: Vars>(
     write_both(alloc, env, var, share, texts)
 }
 
-/// Counts an element once less, and takes it out of the counters at 0. The answer is whether one may have left them.
+/// Takes one from the counter of an element, and removes the counter at 0. The result is whether one may be gone.
 fn drop_one(counters: &mut Counters<'_>, element: &str) -> bool
     ensures lowered { (x : Text) → counter_in counters.new x ≡ lowered (counter_in counters.old) element.now x }
     ensures left { result ≡ false → HaveSame (counter_in counters.old) (counter_in counters.new) }
@@ -241,7 +247,7 @@ fn drop_one(counters: &mut Counters<'_>, element: &str) -> bool
     false
 }
 
-/// Counts elements once less, from the first to the last. The answer is whether one may have left the counters.
+/// Takes one from the counter of each element, from the first to the last. The result is whether a counter may be gone.
 fn drop_each(counters: &mut Counters<'_>, less: &[&str]) -> bool
     ensures dropped { (xs : List Text) → stated (kept xs (counter_in counters.new)) (counter_in counters.new)
         ≡ drop_all (stated (kept xs (counter_in counters.old)) (counter_in counters.old)) (shown less.now) }
@@ -256,14 +262,14 @@ fn drop_each(counters: &mut Counters<'_>, less: &[&str]) -> bool
     left
 }
 
-/// Leaves the elements that have a counter.
+/// Retains the elements that have a counter.
 fn keep_counted(elements: &mut Vec<&str>, counters: &Counters<'_>)
     ensures { shown elements.new.items ≡ kept (shown elements.old.items) (counter_in counters.now) }
 {
     elements.retain(|element| counters.contains_key(*element));
 }
 
-/// Takes elements out of a path variable that was read.
+/// Drops elements from a path variable that was read.
 fn take_out(path: &mut Path<'_>, less: &[&str])
     requires { IsTable (shown path.old.elements.items) (counter_in path.old.counters) }
     ensures { stated (shown path.new.elements.items) (counter_in path.new.counters)
@@ -274,7 +280,7 @@ fn take_out(path: &mut Path<'_>, less: &[&str])
     }
 }
 
-/// The texts after elements were dropped.
+/// The texts of a path variable after elements are dropped.
 fn dropped(
     alloc: Global,
     delim: char,
@@ -291,7 +297,7 @@ fn dropped(
     write_path(alloc, delim, &mut path)
 }
 
-/// Writes a path variable and its counters, or neither.
+/// Writes a path variable and its counters; neither where memory is refused.
 fn write_both<V: Vars>(
     alloc: Global,
     env: &mut V,
@@ -318,11 +324,12 @@ fn write_both<V: Vars>(
     env.apply(changes)
 }
 
-/// Drops elements from a path variable that is parted by `delim`, from the first to the last.
+/// Drops elements from a path variable whose elements are separated by `delim`, from the first to the last.
 ///
-/// An element is counted once less, and at 0 leaves the list; one that isn't there changes nothing.
+/// The counter of an element falls by one, and at 0 every occurrence of the element leaves the list. An element that
+/// isn't there changes nothing.
 ///
-/// It is refused as an add is, but for `CounterFull`.
+/// The errors are those of `add_path`, in the same order, without `CounterFull`.
 pub fn drop_path<V: Vars>(
     alloc: Global,
     env: &mut V,
