@@ -1,5 +1,5 @@
-//! Fields that may hold colons: a colon or a backslash that is part of a field has a backslash before it. Stacks and the
-//! counters of path variables are written so.
+//! Fields that may hold colons: a colon or a backslash that is part of a field has a backslash before it. Stacks and
+//! the counters of path variables are written so.
 ghost use Rattle.std.specs.Prelude.{◌≡◌, ◌++◌, [], ◌∷◌, encode_utf8, string_bytes, true, false, IfOk, OnOk};
 ghost use Rattle.std.specs.List.{list_any};
 ghost use Rattle.environment.specs.Texts.{Text, texts_in};

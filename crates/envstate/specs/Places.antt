@@ -1,4 +1,5 @@
--- What the names of variables stand for.
+-- The role of a variable by its name: edited by modulefiles, or holding the tool's own state (own; module(1),
+-- ENVIRONMENT).
 use Rattle.std.specs.Prelude.{◌≡◌, Bool, true, not, ◌&&◌, ◌==◌, [], ◌∷◌, bytes_eq, codes, Option, Some, None, if◌then◌else◌}
 use Rattle.environment.specs.Texts.{Text}
 use Rattle.environment.specs.Names.{is_variable_name, is_protected, share_name, stack_name}
@@ -8,7 +9,8 @@ use Rattle.loadedlist.specs.LoadedTexts.{names_variable, files_variable, conflic
 abbrev pub is_editable : Text → Bool
 is_editable name = not (is_protected name) && is_variable_name name
 
--- a variable that may be edited, the counters or the stack of one, a text of the loaded list, or something else
+-- the role of a name: a variable that modulefiles may edit, the counters or the stack of one, one of the four variables
+-- of the loaded modules, or something else
 pub data StatePlace : Type 0 where
   Variable : (name : Text) → StatePlace
   Counters : (name : Text) → StatePlace
@@ -19,17 +21,17 @@ pub data StatePlace : Type 0 where
   LoadedPrereqs : StatePlace
   Other : StatePlace
 
--- what stands behind the front, where a text begins so
+-- the rest of a text after a prefix; none where the text doesn't begin with the prefix
 abbrev pub behind : Text → Text → Option Text
 behind [] n = Some n
 behind (c ∷ front) [] = None
 behind (c ∷ front) (k ∷ n) = if c == k then behind front n else None
 
--- the place of a variable that may be edited
+-- the role, where it is that of a variable that modulefiles may edit, else Other
 abbrev pub of_editable : Text → StatePlace → StatePlace
 of_editable name place = if is_editable name then place else Other
 
--- the place of a name that is kept, by what stands behind either front
+-- the role of a name that modulefiles may not edit, by its rests after the prefixes of counters and of stacks
 abbrev pub kept_place : Text → Option Text → Option Text → StatePlace
 kept_place n (Some v) o = of_editable v (Counters v)
 kept_place n None (Some v) = of_editable v (Stack v)
@@ -40,13 +42,13 @@ kept_place n None None =
     else if bytes_eq n prereqs_variable then LoadedPrereqs
     else Other
 
--- what a name stands for
+-- the role of a name
 abbrev pub place_of : Text → StatePlace
 place_of n =
     if is_editable n then Variable n else kept_place n (behind (codes "__MODULES_SHARE_") n) (behind
     (codes "__MODULES_PUSHENV_") n)
 
--- the name is the one of the place
+-- the name is the one with this role
 abbrev pub IsNameOf : Text → StatePlace → Type 0
 IsNameOf n (Variable v) = (is_editable v ≡ true) × (n ≡ v)
 IsNameOf n (Counters v) = (is_editable v ≡ true) × (n ≡ share_name v)

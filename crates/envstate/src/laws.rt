@@ -1,5 +1,6 @@
-//! The laws of the four families, handed on, and laws of whole environments: which variables an edit may touch, and what
-//! it leaves as it was. Each is a function that does nothing: its contract is the law, about the definitions alone.
+//! The laws of the four crates below, handed on, and laws of whole environments: which variables an edit may touch, and
+//! what it leaves unchanged. Each is a function that does nothing: its contract is the law, about the definitions
+//! alone.
 ghost use Rattle.envstate.specs.EnvLaws.{PlacesName, VariablesHavePlaces, LoadedHavePlaces, PlacesPartNames, EditableHasNoReason};
 ghost use Rattle.envstate.specs.EnvLaws.{AddEditsPath, DropEditsPath, PushEditsStack, PopEditsStack, SetEditsVariable, AddEditsLoaded, DropEditsLoaded};
 ghost use Rattle.envstate.specs.EnvLaws.{PathLeavesStack, StackLeavesCounters, EditKeepsOthers, EditKeepsLoaded, LoadedKeepsVariables, EditsLeaveRest, LoadedLeavesRest};
@@ -11,9 +12,9 @@ pub use loadedlist::laws::{loaded_edits, loaded_orders, loaded_texts};
 pub use pathstate::laws::{counters, path_edits, path_steps, path_texts, paths};
 pub use stackstate::laws::{stack_edits, stack_orders, stack_steps, stack_texts, stacks};
 
-/// Each name stands for one thing: a variable that modulefiles may edit, the counters or the stack of one, a text of
-/// the loaded list, or something else. So the names that the tool keeps are apart from one another and from every
-/// variable that an accepted edit names, and those of two variables are two.
+/// The name of a variable has one role: modulefiles may edit the variable, it holds the counters or the stack of such a
+/// one, it is one of the four variables of the loaded modules, or it is something else. Names with different roles are
+/// different. A variable may be edited exactly where `judge_name` has no error for its name.
 pub fn names()
     ensures places { PlacesName }
     ensures variables { VariablesHavePlaces }
@@ -22,8 +23,9 @@ pub fn names()
     ensures editable { EditableHasNoReason }
 {}
 
-/// What an accepted edit may touch: of a path the variable and its counters, of a stack the variable and its stack, and
-/// of the loaded list its four texts. The variable is one that may be edited.
+/// What an accepted edit may touch. An edit of a path variable: the variable and its counters. An edit of a stack: the
+/// variable and its stack. An edit of the loaded modules: their four variables. An edited variable is one that
+/// modulefiles may edit.
 pub fn edits()
     ensures add_path { AddEditsPath }
     ensures drop_path { DropEditsPath }
@@ -34,8 +36,9 @@ pub fn edits()
     ensures drop_loaded { DropEditsLoaded }
 {}
 
-/// An edit of one variable keeps the states and orders of every other and of the loaded list, and an edit of the loaded
-/// list those of every variable. A path's edit keeps the variable's stack, and a stack's edit its counters.
+/// What an edit leaves unchanged: an edit of one variable leaves every other variable and the loaded modules as they
+/// are, in their state and in order, and an edit of the loaded modules leaves every variable so. An edit of a path
+/// variable leaves the variable's stack, and an edit of a stack the variable's counters.
 pub fn frames()
     ensures path { PathLeavesStack }
     ensures stack { StackLeavesCounters }
@@ -46,21 +49,22 @@ pub fn frames()
     ensures loaded_rest { LoadedLeavesRest }
 {}
 
-/// A stack in order has a state from which the law of stacks can be started, whose owners are loaded. What stands on a
-/// start doesn't hold an owner that is neither in the start nor live.
+/// A stack in order is a start to which the law `stacks` applies, and its owners are loaded. A start with live pushes
+/// on top has no item of an owner that has none in the start and no live push.
 pub fn starts()
     ensures start { OrderGivesStart }
     ensures absent { StrangerIsAbsent }
 {}
 
-/// What is in order and has the same state has the same texts.
+/// Where two environments are in order and have the same state, the variables that hold this state have the same texts.
 pub fn writings()
     ensures paths { PathsHaveOneWriting }
     ensures stacks { StacksHaveOneWriting }
     ensures loaded { ListsHaveOneWriting }
 {}
 
-/// The names of the loaded list after an edit; what a list in order is; and what any accepted drop leaves.
+/// The names of the loaded modules after an edit, what a list in order is read as, and the list after any accepted
+/// drop.
 pub fn lists()
     ensures add { AddNames }
     ensures drop { DropNames }

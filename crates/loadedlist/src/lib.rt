@@ -1,4 +1,6 @@
-//! The loaded modules: a list of entries in load order, which four variables of an environment say.
+//! The list of loaded modules, in load order, as four variables of an environment hold it (LOADEDMODULES and others).
+//! Takes memory; touches these four variables.
+//! Used by envstate, modulerecords, modulefile, modulerun, reversal, requests, modulesteps and modulecmd.
 #![tactic(auto)]
 
 mod entry;

@@ -1,4 +1,4 @@
-//! Edits of the loaded modules, which write their four variables anew.
+//! Adding a module to the loaded ones and dropping one, and the four texts that the list is written as.
 ghost use Rattle.std.specs.Prelude.{◌≡◌, ◌&&◌, ◌++◌, [], ◌∷◌, not, map, bytes_eq, string_bytes, OnOk, OnErr, IfOk, IfErr};
 ghost use Rattle.std.specs.List.{list_any, list_all};
 ghost use Rattle.std.specs.Option.{option_map};
@@ -18,7 +18,7 @@ use environment::{Change, EnvFault, Vars};
 use modulename::is_module_name;
 use std::alloc::{AllocError, Global};
 
-/// The text of the names.
+/// The text of `LOADEDMODULES`: the names, in load order; none for an empty list.
 fn names_text(alloc: Global, list: &[Loaded]) -> Result<Option<String>, AllocError>
     ensures { IfOk result (λ t. option_map string_bytes t ≡ names_text (map entry_of list.now)) }
 {
@@ -29,7 +29,7 @@ fn names_text(alloc: Global, list: &[Loaded]) -> Result<Option<String>, AllocErr
     text_of(alloc, names.as_slice())
 }
 
-/// The text of the paths.
+/// The text of `_LMFILES_`: the paths, in load order; none for an empty list.
 fn files_text(alloc: Global, list: &[Loaded]) -> Result<Option<String>, AllocError>
     ensures { IfOk result (λ t. option_map string_bytes t ≡ files_text (map entry_of list.now)) }
 {
@@ -40,7 +40,7 @@ fn files_text(alloc: Global, list: &[Loaded]) -> Result<Option<String>, AllocErr
     text_of(alloc, files.as_slice())
 }
 
-/// The element of a module and its words.
+/// The element that a module's name and its words are written as, with `&` between them.
 fn element(alloc: Global, name: &str, words: &[String]) -> Result<String, AllocError>
     ensures { IfOk result (λ t. string_bytes t ≡ element_of name.now (map string_bytes words.now)) }
 {
@@ -50,7 +50,7 @@ fn element(alloc: Global, name: &str, words: &[String]) -> Result<String, AllocE
     join(alloc, parts.as_slice(), '&')
 }
 
-/// Puts texts at the end, as slices.
+/// Appends the texts, borrowed.
 fn push_slices<'a>(slices: &mut Vec<&'a str>, texts: &'a [String]) -> Result<(), AllocError>
     ensures { OnOk result (shown slices.new.items
         ≡ shown slices.old.items ++ map string_bytes texts.entry.now) }
@@ -61,7 +61,7 @@ fn push_slices<'a>(slices: &mut Vec<&'a str>, texts: &'a [String]) -> Result<(),
     Ok(())
 }
 
-/// Puts the element of a module's conflicts at the end, if it has some.
+/// Appends the element of a module's conflicts, if it has some.
 fn push_conflicts(
     alloc: Global,
     elements: &mut Vec<String>,
@@ -77,7 +77,7 @@ fn push_conflicts(
     Ok(())
 }
 
-/// The text of the conflicts.
+/// The text of `__MODULES_LMCONFLICT`: an element for each module with conflicts; none where no module has one.
 fn conflicts_text(alloc: Global, list: &[Loaded]) -> Result<Option<String>, AllocError>
     ensures { IfOk result (λ t. option_map string_bytes t ≡ conflicts_text (map entry_of list.now)) }
 {
@@ -89,7 +89,7 @@ fn conflicts_text(alloc: Global, list: &[Loaded]) -> Result<Option<String>, Allo
     text_of(alloc, elements.as_slice())
 }
 
-/// The text of a group of names.
+/// The text of a group of names, with `|` between them.
 fn group_text(alloc: Global, group: &[String]) -> Result<String, AllocError>
     ensures { IfOk result (λ t. string_bytes t ≡ group_text (map string_bytes group.now)) }
 {
@@ -108,7 +108,7 @@ fn group_texts(alloc: Global, groups: &[Vec<String>]) -> Result<Vec<String>, All
     Ok(texts)
 }
 
-/// Puts the element of a module's prereqs at the end, if it has some.
+/// Appends the element of a module's prereqs, if it has some.
 fn push_prereqs(alloc: Global, elements: &mut Vec<String>, entry: &Loaded) -> Result<(), AllocError>
     ensures { OnOk result (texts_in elements.new ≡ texts_in elements.old ++ prereq_elements (entry_of entry.now ∷ [])) }
 {
@@ -120,7 +120,7 @@ fn push_prereqs(alloc: Global, elements: &mut Vec<String>, entry: &Loaded) -> Re
     Ok(())
 }
 
-/// The text of the prereqs.
+/// The text of `__MODULES_LMPREREQ`: an element for each module with prereqs; none where no module has one.
 fn prereqs_text(alloc: Global, list: &[Loaded]) -> Result<Option<String>, AllocError>
     ensures { IfOk result (λ t. option_map string_bytes t ≡ prereqs_text (map entry_of list.now)) }
 {
@@ -132,7 +132,7 @@ fn prereqs_text(alloc: Global, list: &[Loaded]) -> Result<Option<String>, AllocE
     text_of(alloc, elements.as_slice())
 }
 
-/// Puts the change of a variable at the end.
+/// Appends the change of a variable.
 fn push_change(
     alloc: Global,
     changes: &mut Vec<Change>,
@@ -147,7 +147,7 @@ fn push_change(
     Ok(())
 }
 
-/// The changes that write the list.
+/// The changes of the four variables that write the list.
 fn loaded_changes(alloc: Global, list: &[Loaded]) -> Result<Vec<Change>, AllocError>
     ensures { IfOk result (λ v. map new_value_of v.items ≡ loaded_edits (map entry_of list.now)) }
 {
@@ -159,7 +159,7 @@ fn loaded_changes(alloc: Global, list: &[Loaded]) -> Result<Vec<Change>, AllocEr
     Ok(changes)
 }
 
-/// Writes the list, or nothing for want of memory.
+/// Writes the list to its four variables; to none where memory is refused.
 fn write<V: Vars>(alloc: Global, env: &mut V, list: &[Loaded]) -> Result<(), EnvFault>
     ensures ok { OnOk result (V.vars env.new ≡ with_loaded (V.vars env.old) (map entry_of list.now)) }
     ensures err { OnErr result (V.vars env.new ≡ V.vars env.old) }
@@ -170,24 +170,28 @@ fn write<V: Vars>(alloc: Global, env: &mut V, list: &[Loaded]) -> Result<(), Env
     env.apply(changes)
 }
 
+/// Whether the path can be written in `_LMFILES_`: it isn't empty and has no colon.
 fn is_path(path: &str) -> bool
     ensures { result ≡ is_path path.now }
 {
     !path.is_empty() && !path.as_bytes().contains(&b':')
 }
 
+/// Whether each name is well spelled.
 fn are_names(names: &[String]) -> bool
     ensures { result ≡ list_all (λ name. is_module_name (string_bytes name)) names.now }
 {
     names.iter().all(|name| is_module_name(name.as_str()))
 }
 
+/// Whether the group can be written: it has names, and each is well spelled.
 fn is_group(names: &[String]) -> bool
     ensures { result ≡ is_group (map string_bytes names.now) }
 {
     !names.is_empty() && are_names(names)
 }
 
+/// Whether each group can be written.
 fn are_groups(groups: &[Vec<String>]) -> bool
     ensures { result ≡ list_all (λ group. is_group (texts_in group)) groups.now }
 {
@@ -209,7 +213,7 @@ fn can_say(entry: &Loaded) -> bool
     are_names(entry.conflicts.as_slice()) && are_groups(entry.prereqs.as_slice())
 }
 
-/// Whether the entry would be read again as it is written, but for repeated conflicts.
+/// Whether the entry would be read again as it is written, apart from repeated conflicts.
 fn is_entry(entry: &Loaded) -> bool
     ensures { result ≡ is_entry (entry_of entry.now) }
 {
@@ -223,13 +227,14 @@ fn is_loaded(list: &[Loaded], name: &str) -> bool
     list.iter().any(|entry| entry.name.as_str() == name)
 }
 
+/// Whether the entry can be written, and its module isn't loaded.
 fn can_be_added(list: &[Loaded], entry: &Loaded) -> bool
     ensures { result ≡ can_be_added (map entry_of list.now) (entry_of entry.now) }
 {
     is_entry(entry) && !is_loaded(list, entry.name.as_str())
 }
 
-/// A copy of the entry, with each conflict once.
+/// A copy of the entry, without repeated conflicts.
 fn kept_once(alloc: Global, entry: &Loaded) -> Result<Loaded, AllocError>
     ensures { IfOk result (λ x. entry_of x ≡ kept_once (entry_of entry.now)) }
 {
@@ -243,11 +248,12 @@ fn kept_once(alloc: Global, entry: &Loaded) -> Result<Loaded, AllocError>
     })
 }
 
-/// Adds a module behind the loaded ones, and writes the four variables anew. A conflict that is there twice is kept
+/// Adds a module after the loaded ones, and writes the four variables. A conflict that the entry has twice is written
 /// once.
 ///
-/// The answer is `Inconsistent` where that of `loaded` is, and where the entry could not be read again: its module is
-/// loaded, a name in it is ill spelled, its path is empty or holds a colon, or one of its groups has no names.
+/// The error is `Inconsistent` where `loaded` answers so, and where the entry can't be written: its module is loaded, a
+/// name in it is ill spelled, its path is empty or holds a colon, or one of its groups has no names; or it is
+/// `OutOfMemory`. After an error the environment is unchanged.
 pub fn add_loaded<V: Vars>(alloc: Global, env: &mut V, entry: &Loaded) -> Result<(), EnvFault>
     ensures edits { Edits result (V.vars env.old) (V.vars env.new)
         (added_loaded (V.vars env.old) (entry_of entry.now)) }
@@ -261,9 +267,10 @@ pub fn add_loaded<V: Vars>(alloc: Global, env: &mut V, entry: &Loaded) -> Result
     write(alloc, env, list.as_slice())
 }
 
-/// Takes a module out of the loaded ones, and writes the four variables anew. Where it isn't loaded nothing changes.
+/// Drops a module from the loaded ones, and writes the four variables. Where it isn't loaded, nothing changes.
 ///
-/// The answer is `Inconsistent` where that of `loaded` is.
+/// The error is `Inconsistent` where `loaded` answers so, or `OutOfMemory`. After an error the environment is
+/// unchanged.
 pub fn drop_loaded<V: Vars>(alloc: Global, env: &mut V, name: &str) -> Result<(), EnvFault>
     ensures edits { Edits result (V.vars env.old) (V.vars env.new) (dropped_loaded (V.vars env.old) name.now) }
     ensures under { V.under env.new ≡ V.under env.old }

@@ -1,4 +1,4 @@
-//! The loaded modules, which four variables list.
+//! Reading the list of loaded modules from its four variables.
 ghost use Rattle.std.specs.Prelude.{◌≡◌, ◌==◌, ◌&&◌, ◌++◌, [], ◌∷◌, not, length, map, filter, bytes_eq, string_bytes, if◌then◌else◌, OnOk, IfOk};
 ghost use Rattle.std.specs.List.{list_all};
 ghost use Rattle.std.specs.Option.{option_map, option_or};
@@ -15,18 +15,22 @@ use indexmap::IndexMap;
 use modulename::is_module_name;
 use std::alloc::{AllocError, Global};
 
+/// The variable of the loaded modules' names, in load order.
 pub(crate) const NAMES: &str = "LOADEDMODULES";
 
+/// The variable of the paths of their modulefiles, in the same order.
 pub(crate) const FILES: &str = "_LMFILES_";
 
+/// The variable of what they conflict with: an element `module&name&name` for each that conflicts with some.
 pub(crate) const CONFLICTS: &str = "__MODULES_LMCONFLICT";
 
+/// The variable of what they need: an element `module&group&group` for each that needs some, a group being `name|name`.
 pub(crate) const PREREQS: &str = "__MODULES_LMPREREQ";
 
-/// The first element of each module.
+/// The first element that a text has for each module. Later ones don't count.
 type FirstElements<'a> = IndexMap<&'a str, &'a str>;
 
-/// The words that are well spelled as names of modules.
+/// The words that are well spelled as names of modules; the others are passed over.
 fn names_among<'a>(alloc: Global, words: &[&'a str]) -> Result<Vec<&'a str>, AllocError>
     ensures { IfOk result (λ v. v.items ≡ filter (λ word. is_module_name word.now) words.now) }
 {
@@ -37,19 +41,21 @@ fn names_among<'a>(alloc: Global, words: &[&'a str]) -> Result<Vec<&'a str>, All
         .collect(alloc)
 }
 
+/// Whether each name is well spelled.
 fn are_names(names: &[&str]) -> bool
     ensures { result ≡ list_all (λ name. is_module_name name.now) names.now }
 {
     names.iter().all(|name| is_module_name(name))
 }
 
+/// Whether no path is empty.
 fn are_paths(files: &[&str]) -> bool
     ensures { result ≡ list_all (λ file. not (length file.now == 0)) files.now }
 {
     files.iter().all(|file| !file.is_empty())
 }
 
-/// Whether the names and the files are as many, and spelled as they must be.
+/// Whether there are as many names as paths, each name is well spelled, and no path is empty.
 fn fit_together(names: &[&str], files: &[&str]) -> bool
     ensures { result ≡ (length names.now == length files.now && list_all (λ name. is_module_name name.now) names.now
         && list_all (λ file. not (length file.now == 0)) files.now) }
@@ -57,7 +63,8 @@ fn fit_together(names: &[&str], files: &[&str]) -> bool
     names.len() == files.len() && are_names(names) && are_paths(files)
 }
 
-/// Whether the names and the files are those of one list.
+/// Whether the names and the paths are those of one list: there are as many, each is well spelled, and no name is there
+/// twice.
 fn are_consistent(alloc: Global, names: &[&str], files: &[&str]) -> Result<bool, AllocError>
     ensures { IfOk result (λ b. b ≡ are_consistent (shown names.now) (shown files.now)) }
 {
@@ -67,7 +74,7 @@ fn are_consistent(alloc: Global, names: &[&str], files: &[&str]) -> Result<bool,
     are_distinct(alloc, names)
 }
 
-/// Notes the element of a module, unless an earlier one is noted.
+/// Enters the element of a module, unless the module has an earlier one.
 fn note_first<'a>(
     firsts: &mut FirstElements<'a>,
     module_name: &'a str,
@@ -82,7 +89,8 @@ fn note_first<'a>(
     Ok(())
 }
 
-/// Notes an element, unless it names no module or an earlier one is of the same module.
+/// Enters an element for the module that it names before its `&`, unless the module has an earlier one. An element
+/// without `&` is passed over.
 fn note<'a>(firsts: &mut FirstElements<'a>, element: &'a str) -> Result<(), AllocError>
     ensures { OnOk result ((name : Text) → element_in firsts.new name ≡ option_or (element_in firsts.old name)
         (if is_of name (parts_of element.entry.now) then Some element.entry.now else None)) }
@@ -93,7 +101,7 @@ fn note<'a>(firsts: &mut FirstElements<'a>, element: &'a str) -> Result<(), Allo
     note_first(firsts, module, element)
 }
 
-/// The first element of each module among these.
+/// The first element of each module.
 fn first_elements<'a>(alloc: Global, elements: &[&'a str]) -> Result<FirstElements<'a>, AllocError>
     ensures { IfOk result (λ m. (name : Text) → element_in m name ≡ first_element name (shown elements.now)) }
 {
@@ -106,7 +114,7 @@ fn first_elements<'a>(alloc: Global, elements: &[&'a str]) -> Result<FirstElemen
     Ok(firsts)
 }
 
-/// The words of an element, which stand behind its first `&`.
+/// The words of an element, which follow its first `&`.
 fn words(alloc: Global, element: Option<&str>) -> Result<Vec<&str>, AllocError>
     ensures { IfOk result (λ v. shown v.items ≡ words_in (option_map (λ t. t.now) element.entry)) }
 {
@@ -119,7 +127,7 @@ fn words(alloc: Global, element: Option<&str>) -> Result<Vec<&str>, AllocError>
     }
 }
 
-/// The conflicts that an element says.
+/// The conflicts in an element, without repetitions.
 fn conflict_names(alloc: Global, element: Option<&str>) -> Result<Vec<String>, AllocError>
     ensures { IfOk result (λ v. texts_in v ≡ conflicts_among (words_in (option_map (λ t. t.now) element.entry))) }
 {
@@ -129,7 +137,7 @@ fn conflict_names(alloc: Global, element: Option<&str>) -> Result<Vec<String>, A
     copies(alloc, names.as_slice())
 }
 
-/// Puts a group at the end, if it has names.
+/// Appends the group in a word, if it has names.
 fn push_group(alloc: Global, groups: &mut Vec<Vec<String>>, word: &str) -> Result<(), AllocError>
     ensures { OnOk result (groups_in groups.new
         ≡ groups_in groups.old ++ filter has_names (names_of_group word.now ∷ [])) }
@@ -143,7 +151,7 @@ fn push_group(alloc: Global, groups: &mut Vec<Vec<String>>, word: &str) -> Resul
     Ok(())
 }
 
-/// The groups of names that the words say.
+/// The groups of names in the words.
 fn groups_among(alloc: Global, words: &[&str]) -> Result<Vec<Vec<String>>, AllocError>
     ensures { IfOk result (λ v. groups_in v ≡ prereqs_among (shown words.now)) }
 {
@@ -156,7 +164,7 @@ fn groups_among(alloc: Global, words: &[&str]) -> Result<Vec<Vec<String>>, Alloc
     Ok(groups)
 }
 
-/// The prereqs that an element says.
+/// The prereqs in an element.
 fn prereq_groups(alloc: Global, element: Option<&str>) -> Result<Vec<Vec<String>>, AllocError>
     ensures { IfOk result (λ v. groups_in v ≡ prereqs_among (words_in (option_map (λ t. t.now) element.entry))) }
 {
@@ -164,7 +172,7 @@ fn prereq_groups(alloc: Global, element: Option<&str>) -> Result<Vec<Vec<String>
     groups_among(alloc, words.as_slice())
 }
 
-/// An entry, with what its elements say.
+/// The entry of a module with its path, and with the conflicts and prereqs in its elements.
 fn entry(
     alloc: Global,
     name: &str,
@@ -183,7 +191,7 @@ fn entry(
     })
 }
 
-/// An entry for each name with its file.
+/// An entry for each name with its path, and with the first elements of the module.
 fn entries(
     alloc: Global,
     names: &[&str],
@@ -210,7 +218,7 @@ fn entries(
     Ok(entries)
 }
 
-/// An entry for each name with its file, and with what the first elements of its module say.
+/// An entry for each name with its path, where `conflicts` and `prereqs` are all the elements of these two variables.
 fn entries_said(
     alloc: Global,
     names: &[&str],
@@ -226,12 +234,12 @@ fn entries_said(
     entries(alloc, names, files, &conflicts, &prereqs)
 }
 
-/// The loaded modules in load order, as `LOADEDMODULES`, `_LMFILES_`, `__MODULES_LMCONFLICT` and `__MODULES_LMPREREQ`
-/// say them (modulefile(5)).
+/// The loaded modules in load order, read from `LOADEDMODULES`, `_LMFILES_`, `__MODULES_LMCONFLICT` and
+/// `__MODULES_LMPREREQ` (module(1), ENVIRONMENT).
 ///
-/// The answer is `Inconsistent` where the names and the files are not as many, a path is empty, or a name is empty,
-/// ill spelled or there twice. The other two texts are never a reason: what is ill spelled in them is passed
-/// over.
+/// The error is `Inconsistent` where there aren't as many names as paths, a path is empty, or a name is empty, ill
+/// spelled or there twice; or it is `OutOfMemory`. The texts of conflicts and prereqs are never a reason: what is ill
+/// spelled in them is passed over.
 pub fn loaded<V: Vars>(alloc: Global, env: &V) -> Result<Vec<Loaded>, EnvFault>
     ensures { GivesList result (loaded_in (V.vars env.now)) }
 {
@@ -252,7 +260,7 @@ pub fn loaded<V: Vars>(alloc: Global, env: &V) -> Result<Vec<Loaded>, EnvFault>
     Ok(entries)
 }
 
-/// The entry of a module.
+/// The entry of a module; none where it isn't in the list.
 pub(crate) fn find<'a>(list: &'a [Loaded], name: &str) -> Option<&'a Loaded>
     ensures { option_map (λ x. entry_of x.now) result ≡ entry_named name.now (map entry_of list.entry.now) }
 {
@@ -266,7 +274,7 @@ pub(crate) fn find<'a>(list: &'a [Loaded], name: &str) -> Option<&'a Loaded>
     None
 }
 
-/// Names, copied.
+/// Copies of the names.
 fn copy_names(alloc: Global, names: &[String]) -> Result<Vec<String>, AllocError>
     ensures { IfOk result (λ v. texts_in v ≡ map string_bytes names.now) }
 {
@@ -274,7 +282,7 @@ fn copy_names(alloc: Global, names: &[String]) -> Result<Vec<String>, AllocError
     copies(alloc, names.as_slice())
 }
 
-/// Groups of names, copied.
+/// Copies of the groups of names.
 pub(crate) fn copy_groups(
     alloc: Global,
     groups: &[Vec<String>],
@@ -290,7 +298,7 @@ pub(crate) fn copy_groups(
 
 /// The names that a loaded module conflicts with, each once; none where it isn't loaded.
 ///
-/// The answer is `Inconsistent` where that of `loaded` is.
+/// The error is `Inconsistent` where `loaded` answers so, or `OutOfMemory`.
 pub fn conflicts_of<V: Vars>(alloc: Global, env: &V, name: &str) -> Result<Vec<String>, EnvFault>
     ensures { GivesOrInconsistent texts_in result (conflicts_in (V.vars env.now) name.now) }
 {
@@ -304,7 +312,7 @@ pub fn conflicts_of<V: Vars>(alloc: Global, env: &V, name: &str) -> Result<Vec<S
 
 /// The groups of names of which a loaded module needs one each; none where it isn't loaded.
 ///
-/// The answer is `Inconsistent` where that of `loaded` is.
+/// The error is `Inconsistent` where `loaded` answers so, or `OutOfMemory`.
 pub fn prereqs_of<V: Vars>(alloc: Global, env: &V, name: &str) -> Result<Vec<Vec<String>>, EnvFault>
     ensures { GivesOrInconsistent groups_in result (prereqs_in (V.vars env.now) name.now) }
 {

@@ -21,8 +21,8 @@ pub fn paths()
         → ((x : Text) → live edits x ≡ 0) → after edits start ≡ start }
 {}
 
-/// The law `paths`, step by step: it holds of a start with no live add, it still holds after an add, and after a drop of
-/// elements that are live. Where no add is live, the state is the start.
+/// The law `paths`, step by step: it holds of a start with no live add, and still holds after an add, and after a drop
+/// of elements that are live. Where no add is live, the state is the start.
 pub fn path_steps()
     ensures start { (start : PathState) → IsPathState start → PathStands start none start }
     ensures add { (start now : PathState) (live : Text → ℕ) (xs : List Text) (end : End)

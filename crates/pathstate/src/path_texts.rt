@@ -200,8 +200,8 @@ fn unless_empty(text: String) -> Option<String>
     Some(text)
 }
 
-/// The text of the counters of two or more, in the order of the elements. An element that is there twice is written once,
-/// since the counter of each element becomes 1 when it is written.
+/// The text of the counters of two or more, in the order of the elements. An element that is there twice is written
+/// once, since the counter of each element becomes 1 when it is written.
 fn counts_text<'a>(
     alloc: Global,
     elements: &[&'a str],

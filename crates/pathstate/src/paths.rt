@@ -61,8 +61,8 @@ fn are_elements(delim: char, texts: &[&str]) -> bool
     true
 }
 
-/// Accepts an edit by its words alone. The errors: those of the variable's name, then `BadValue` for the delimiter or an
-/// element.
+/// Accepts an edit by its words alone. The errors are those of the variable's name, then `BadValue` for the delimiter
+/// or an element.
 fn judge_path(alloc: Global, var: &str, delim: char, elements: &[&str]) -> Result<(), EnvFault>
     ensures judged { Judges result (path_reason var.now delim (shown elements.now)) }
     ensures delimiter { OnOk result (delim < 128) }
@@ -203,8 +203,8 @@ fn added(
 ///
 /// The errors, in this order: `BadVariable` where `var` isn't spelled as a variable's name; `Protected` where the
 /// variable holds the tool's own state; `BadValue` where the delimiter isn't a character from the space to the tilde,
-/// or an element holds the delimiter or NUL; `CounterFull` where a counter would pass 4294967295. `OutOfMemory` can come
-/// at any point. After each of these the environment is unchanged.
+/// or an element holds the delimiter or NUL; `CounterFull` where a counter would pass 4294967295. `OutOfMemory` can
+/// come at any point. After each of these the environment is unchanged.
 pub fn add_path<V: Vars>(
     alloc: Global,
     env: &mut V,

@@ -1,4 +1,6 @@
-//! Stacks: a variable's values, each with the module that pushed it, in two variables of an environment.
+//! Stacks of values (modulefile(5), pushenv): a variable's values, each with the module that pushed it.
+//! Takes memory; touches the variable that a call names and the variable of its stack.
+//! Used by envstate, modulerecords, modulefile, modulerun, reversal and modulecmd.
 #![tactic(auto)]
 
 pub mod laws;

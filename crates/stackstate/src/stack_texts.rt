@@ -1,4 +1,4 @@
-//! Reading and writing the text of a stack.
+//! Reading and writing the text of a stack: elements `module&value`, the newest first, separated by colons.
 ghost use Rattle.std.specs.Prelude.{◌≡◌, ◌++◌, [], ◌∷◌, map, string_bytes, IfOk, OnOk};
 ghost use Rattle.std.specs.Option.{option_map};
 ghost use Rattle.environment.specs.Escapes.{escaped};
@@ -9,14 +9,15 @@ use environment::escapes::{push_escaped, unescaped_fields};
 use environment::fields::{are_distinct, slices, text_of};
 use std::alloc::{AllocError, Global};
 
-/// A value on a stack, with the module that pushed it or, at the bottom, none.
+/// A value on a stack, with its owner: the module that pushed it, or none for the bottom, the value from before the
+/// first push.
 #[derive(Drop)]
 pub(crate) struct StackItem {
     pub owner: Option<String>,
     pub value: String,
 }
 
-/// The owner that the front of an element names.
+/// The owner that is written before the `&` of an element; none where nothing is.
 fn owner_of(alloc: Global, front: &str) -> Result<Option<String>, AllocError>
     ensures { IfOk result (λ owner. option_map string_bytes owner ≡ owner_of front.now) }
 {
@@ -26,7 +27,7 @@ fn owner_of(alloc: Global, front: &str) -> Result<Option<String>, AllocError>
     Ok(Some(String::from_str(alloc, front)?))
 }
 
-/// The item that an element says, if it says one.
+/// The item that an element is read as; none where it has no `&`.
 fn item_of(alloc: Global, element: &str) -> Result<Option<StackItem>, AllocError>
     ensures { IfOk result (λ item. option_map item_in item ≡ item_of element.now) }
 {
@@ -38,7 +39,7 @@ fn item_of(alloc: Global, element: &str) -> Result<Option<StackItem>, AllocError
     Ok(Some(StackItem { owner, value }))
 }
 
-/// The items that the elements say, if each says one.
+/// The items that the elements are read as; none where an element has no `&`.
 fn items_of(alloc: Global, elements: &[String]) -> Result<Option<Vec<StackItem>>, AllocError>
     ensures { IfOk result (λ items. option_map items_seen items ≡ items_of_elements (map string_bytes elements.now)) }
 {
@@ -54,7 +55,7 @@ fn items_of(alloc: Global, elements: &[String]) -> Result<Option<Vec<StackItem>>
     Ok(Some(items))
 }
 
-/// Whether an item without an owner stands last only.
+/// Whether no item but the last is without an owner.
 fn bottoms_last(items: &[StackItem]) -> bool
     ensures { result ≡ bottoms_last (map item_in items.now) }
 {
@@ -68,7 +69,7 @@ fn bottoms_last(items: &[StackItem]) -> bool
     true
 }
 
-/// Puts the owner of an item at the end, if it has one.
+/// Appends the owner of an item, if it has one.
 fn push_owner<'a>(owners: &mut Vec<&'a str>, item: &'a StackItem) -> Result<(), AllocError>
     ensures { OnOk result (map (λ x. x.now) owners.new.items
         ≡ map (λ x. x.now) owners.old.items ++ owners_of (item_in item.entry.now ∷ [])) }
@@ -93,7 +94,7 @@ fn owners_of(alloc: Global, items: &[StackItem]) -> Result<Vec<&str>, AllocError
     Ok(owners)
 }
 
-/// Whether the items are those of a stack.
+/// Whether the items are those of a stack: no item but the last is without an owner, and no owner has two.
 fn is_stack(alloc: Global, items: &[StackItem]) -> Result<bool, AllocError>
     ensures { IfOk result (λ b. b ≡ is_stack (map item_in items.now)) }
 {
@@ -104,7 +105,8 @@ fn is_stack(alloc: Global, items: &[StackItem]) -> Result<bool, AllocError>
     are_distinct(alloc, owners.as_slice())
 }
 
-/// The items that a stack's text says, newest first; none where it is no stack.
+/// The items that a stack's text is read as, the newest first. An unset text has no item; none is the answer where the
+/// text is no stack.
 pub(crate) fn read_stack(
     alloc: Global,
     text: Option<&str>,
@@ -125,7 +127,7 @@ pub(crate) fn read_stack(
     }
 }
 
-/// What stands before the `&` of an element, with escapes.
+/// What is written before the `&` of an element, with escapes: the owner, or nothing.
 fn owner_text(alloc: Global, owner: &Option<String>) -> Result<String, AllocError>
     ensures { IfOk result (λ t. string_bytes t ≡ escaped (owner_text (option_map string_bytes owner.now))) }
 {
@@ -149,7 +151,7 @@ fn element_text(alloc: Global, item: &StackItem) -> Result<String, AllocError>
     Ok(text)
 }
 
-/// The text of a stack; none where it has no item.
+/// The text of a stack; none, which unsets its variable, where it has no item.
 pub(crate) fn stack_text(alloc: Global, items: &[StackItem]) -> Result<Option<String>, AllocError>
     ensures { IfOk result (λ t. option_map string_bytes t ≡ stack_text (map item_in items.now)) }
 {

@@ -1,4 +1,4 @@
-//! Stacks: a variable's values, each with the module that pushed it, in two variables.
+//! Pushing a module's value on the stack of a variable, and popping it.
 ghost use Rattle.std.specs.Prelude.{◌≡◌, ◌&&◌, map, string_bytes, is_some, if◌then◌else◌, OnOk, OnErr, IfOk, IfErr};
 ghost use Rattle.std.specs.List.{list_any};
 ghost use Rattle.std.specs.Option.{option_map};
@@ -16,13 +16,15 @@ use environment::{Change, EnvFault, Vars, is_plain_value, judge_name, stack_name
 use modulename::is_module_name;
 use std::alloc::{AllocError, Global};
 
+/// Whether a module of this name can push the value.
 fn can_push(owner: &str, value: &str) -> bool
     ensures { result ≡ (is_module_name owner.now && is_plain_value value.now) }
 {
     is_module_name(owner) && is_plain_value(value)
 }
 
-/// Refuses variables, modules and values that can't be pushed.
+/// Accepts a push by its words alone. The errors are those of the variable's name, then `BadValue` for the module's
+/// name or the value.
 fn judge_push(alloc: Global, var: &str, owner: &str, value: &str) -> Result<(), EnvFault>
     ensures { Judges result (push_reason var.now owner.now value.now) }
 {
@@ -33,7 +35,8 @@ fn judge_push(alloc: Global, var: &str, owner: &str, value: &str) -> Result<(), 
     Ok(())
 }
 
-/// Refuses variables and modules that can't be popped.
+/// Accepts a pop by its words alone. The errors are those of the variable's name, then `BadValue` for the module's
+/// name.
 fn judge_pop(alloc: Global, var: &str, owner: &str) -> Result<(), EnvFault>
     ensures { Judges result (pop_reason var.now owner.now) }
 {
@@ -44,6 +47,7 @@ fn judge_pop(alloc: Global, var: &str, owner: &str) -> Result<(), EnvFault>
     Ok(())
 }
 
+/// Whether the module pushed the item.
 fn is_owned(item: &StackItem, owner: &str) -> bool
     ensures { result ≡ is_owner owner.now (option_map string_bytes item.now.owner) }
 {
@@ -53,13 +57,14 @@ fn is_owned(item: &StackItem, owner: &str) -> bool
     }
 }
 
-/// Whether the module has an item.
+/// Whether the module pushed one of the items.
 fn holds(items: &[StackItem], owner: &str) -> bool
     ensures { result ≡ list_any (λ item. is_owner owner.now (option_map string_bytes item.owner)) items.now }
 {
     items.iter().any(|item| is_owned(item, owner))
 }
 
+/// Whether the module pushed the first item.
 fn is_on_top(items: &[StackItem], owner: &str) -> bool
     ensures { result ≡ on_top owner.now (map item_in items.now) }
 {
@@ -69,7 +74,7 @@ fn is_on_top(items: &[StackItem], owner: &str) -> bool
     }
 }
 
-/// Makes a bottom of the variable's value, where there is no stack yet.
+/// Puts the variable's value on the stack as its bottom, where there is no stack yet and the variable is set.
 fn make_bottom(
     alloc: Global,
     items: &mut Vec<StackItem>,
@@ -88,14 +93,14 @@ fn make_bottom(
     Ok(())
 }
 
-/// Takes the module's item out.
+/// Removes the module's item.
 fn take_out(items: &mut Vec<StackItem>, owner: &str)
     ensures { items_seen items.new ≡ without_owner owner.now (items_seen items.old) }
 {
     items.retain(|item| !is_owned(item, owner));
 }
 
-/// The items after a push.
+/// The items after a push, where `current` is the variable's value before it.
 fn pushed(
     alloc: Global,
     items: Vec<StackItem>,
@@ -115,7 +120,8 @@ fn pushed(
     Ok(stack)
 }
 
-/// The variable's value after a pop: that of the item which is first now, if the one that was popped was on top.
+/// The variable's value after a pop: that of the item which is now first where the popped one was on top, else
+/// `current`.
 fn value_after(
     alloc: Global,
     was_top: bool,
@@ -134,13 +140,14 @@ fn value_after(
     }
 }
 
+/// Whether a module pushed one of the items.
 fn has_owner(items: &[StackItem]) -> bool
     ensures { result ≡ list_any (λ item. is_some item.owner) items.now }
 {
     items.iter().any(|item| item.owner.is_some())
 }
 
-/// Drops items among which none has an owner: they are no stack.
+/// Drops all items where no module pushed one of them: a bottom alone is no stack.
 fn settle(items: &mut Vec<StackItem>)
     ensures { items_seen items.new ≡ settled (items_seen items.old) }
 {
@@ -149,7 +156,7 @@ fn settle(items: &mut Vec<StackItem>)
     }
 }
 
-/// Writes a variable and its stack, or neither.
+/// Writes a variable and the variable of its stack; neither where memory is refused.
 fn write_stack<V: Vars>(
     alloc: Global,
     env: &mut V,
@@ -174,12 +181,13 @@ fn write_stack<V: Vars>(
     env.apply(changes)
 }
 
-/// Pushes a module's value: the variable takes it, and the module's older value leaves the stack (modulefile(5),
-/// pushenv). Where there is no stack yet, the variable's value goes to its bottom.
+/// Pushes a value for the module `owner`: the variable takes the value, and an older value of the module leaves the
+/// stack (modulefile(5), pushenv). Where there is no stack yet, the variable's value becomes the bottom of the stack.
 ///
-/// It is refused, in this order, by `BadVariable` where `var` isn't spelled as a variable's name, by `Protected` where
-/// the variable holds the tool's own state, by `BadValue` where the module's name is ill spelled or the value holds
-/// NUL, and by `BadStack` where the text in `__MODULES_PUSHENV_` and `var` is no stack.
+/// The errors, in this order: `BadVariable` where `var` isn't spelled as a variable's name; `Protected` where the
+/// variable holds the tool's own state; `BadValue` where the module's name is ill spelled or the value holds NUL;
+/// `BadStack` where the text in the variable of the stack, `__MODULES_PUSHENV_` and `var`, can't be read as a stack.
+/// `OutOfMemory` can come at any point. After each of these the environment is unchanged.
 pub fn push_value<V: Vars>(
     alloc: Global,
     env: &mut V,
@@ -201,10 +209,10 @@ pub fn push_value<V: Vars>(
     write_stack(alloc, env, var, value, name, stack.as_slice())
 }
 
-/// Pops a module's value: where it was on top, the variable takes the value that is now first, or is unset. A module
-/// without a value changes nothing.
+/// Pops the value of the module `owner`: where it was on top, the variable takes the value that is now first, or is
+/// unset. Where the module has no value on the stack, nothing changes.
 ///
-/// It is refused as a push is.
+/// The errors are those of `push_value`, in the same order.
 pub fn pop_value<V: Vars>(
     alloc: Global,
     env: &mut V,
