@@ -3,11 +3,11 @@
 //! Used by envstate, modulerecords, modulefile, modulerun, reversal, requests, modulesteps and modulecmd.
 #![tactic(auto)]
 
+mod edits;
 mod entry;
 pub mod laws;
-mod loaded_edits;
-mod loaded_list;
+mod list;
 
+pub use edits::{add_loaded, drop_loaded};
 pub use entry::Loaded;
-pub use loaded_edits::{add_loaded, drop_loaded};
-pub use loaded_list::{conflicts_of, loaded, prereqs_of};
+pub use list::{conflicts_of, loaded, prereqs_of};

@@ -7,7 +7,7 @@ use Rattle.environment.specs.declared.fault.EnvFault.{EnvFault}
 use Rattle.pathstate.specs.Paths.{PathState}
 use Rattle.pathstate.specs.PathTexts.{elements_text, pairs_text}
 use Rattle.pathstate.specs.PathVariables.{counters_fit}
-use Rattle.pathstate.specs.declared.path_texts.PathTexts.{PathTexts}
+use Rattle.pathstate.specs.declared.texts.PathTexts.{PathTexts}
 
 -- the texts of the variable, with this delimiter, and of its counters are those that the state is written as
 pub record AreTexts (texts : PathTexts) (delim : ℕ) (s : PathState) : Type 0 where

@@ -2,7 +2,7 @@
 use Rattle.std.specs.Prelude.{◌≡◌, ℕ, ◌+◌, ◌-◌, ◌≤◌, ◌||◌, List, [], ◌∷◌, ◌++◌, filter, count_by, bytes_eq, nat_lt}
 use Rattle.environment.specs.Texts.{Text, has}
 use Rattle.pathstate.specs.Paths.{PathState, add_all, drop_all}
-use Rattle.pathstate.specs.declared.paths.End.{End}
+use Rattle.pathstate.specs.declared.edits.End.{End}
 
 -- an edit of a path variable: adding elements at an end, or dropping elements
 pub data StateEdit : Type 0 where

@@ -8,7 +8,7 @@ use Rattle.environment.specs.Environment.{Environment, lookup, with_value}
 use Rattle.environment.specs.Reasons.{EnvReason, bad_value, counter_full, unless}
 use Rattle.pathstate.specs.Paths.{PathState, most, add_all, drop_all}
 use Rattle.pathstate.specs.PathTexts.{is_delimiter, state_of, elements_text, pairs_text}
-use Rattle.pathstate.specs.declared.paths.End.{End}
+use Rattle.pathstate.specs.declared.edits.End.{End}
 
 -- the state of a path variable with this delimiter, read from the variable and that of its counters
 abbrev pub path_in : Environment → Text → ℕ → PathState

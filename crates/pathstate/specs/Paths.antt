@@ -3,8 +3,8 @@
 use Rattle.std.specs.Prelude.{◌≡◌, ℕ, ◌+◌, ◌-◌, ◌≤◌, List, [], ◌∷◌, ◌++◌, bytes_eq, nat_lt, nat_le, if◌then◌else◌}
 use Rattle.environment.specs.Texts.{Text, has}
 use Rattle.environment.specs.Fields.{without}
-use Rattle.pathstate.specs.declared.paths.End.{End}
-use Rattle.pathstate.specs.declared.paths.End.TheVariants.{Front, Back}
+use Rattle.pathstate.specs.declared.edits.End.{End}
+use Rattle.pathstate.specs.declared.edits.End.TheVariants.{Front, Back}
 
 -- the elements in order, and the counter of each element (0 where it isn't in the list)
 pub record PathState : Type 0 where

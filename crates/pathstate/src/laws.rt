@@ -10,7 +10,7 @@ ghost use Rattle.pathstate.specs.PathRuns.{StateEdit, after, live, none, more, f
 ghost use Rattle.pathstate.specs.PathTexts.{IsWritable, state_of, elements_text, pairs_text};
 ghost use Rattle.pathstate.specs.PathVariables.{path_in, added_path, dropped_path, is_element, counters_fit};
 ghost use Rattle.pathstate.specs.PathOrder.{LeavesPath};
-ghost use Rattle.pathstate.specs.declared.paths.End.{End};
+ghost use Rattle.pathstate.specs.declared.edits.End.{End};
 
 /// After any adds, and drops that each undo one of them, the elements of the start are there in their order, and the
 /// live adds, those that no drop has undone, are counted on top of them. Where no add is live, it is the start.

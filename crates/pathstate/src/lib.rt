@@ -4,8 +4,8 @@
 #![tactic(auto)]
 
 mod counters;
+mod edits;
 pub mod laws;
-mod path_texts;
-mod paths;
+mod texts;
 
-pub use paths::{End, add_path, drop_path};
+pub use edits::{End, add_path, drop_path};

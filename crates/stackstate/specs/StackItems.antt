@@ -6,7 +6,7 @@ use Rattle.std.specs.declared.vec.Vec.{Vec}
 use Rattle.std.specs.declared.string.String.{String}
 use Rattle.std.specs.declared.alloc.Global.{Global}
 use Rattle.environment.specs.Texts.{Text}
-use Rattle.stackstate.specs.declared.stack_texts.StackItem.{StackItem}
+use Rattle.stackstate.specs.declared.texts.StackItem.{StackItem}
 use Rattle.stackstate.specs.Stacks.{OwnedValue, StackState}
 
 -- an item of the code as an item of the definitions

@@ -3,8 +3,8 @@
 //! Used by envstate, modulerecords, modulefile, modulerun, reversal and modulecmd.
 #![tactic(auto)]
 
+mod edits;
 pub mod laws;
-mod stack_texts;
-mod stacks;
+mod texts;
 
-pub use stacks::{pop_value, push_value};
+pub use edits::{pop_value, push_value};
