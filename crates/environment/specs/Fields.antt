@@ -20,9 +20,9 @@ abbrev pub joined : List Text → Text
 joined xs = join_with_byte colon xs
 
 -- the text of a list of elements; the empty list unsets the variable
-abbrev pub text_of : List Text → Option Text
-text_of [] = None
-text_of (x ∷ xs) = Some (joined (x ∷ xs))
+abbrev pub text_of_elements : List Text → Option Text
+text_of_elements [] = None
+text_of_elements (x ∷ xs) = Some (joined (x ∷ xs))
 
 -- the elements of a variable's text; an unset or empty text has none
 abbrev pub elements_in : Option Text → List Text

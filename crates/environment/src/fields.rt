@@ -6,7 +6,7 @@ ghost use Rattle.std.specs.Cmp.Lexicographic.{slice_cmp};
 ghost use Rattle.std.specs.Ordering.{nat_cmp};
 ghost use Rattle.std.specs.Option.{option_map};
 ghost use Rattle.environment.specs.Texts.{Text, has, shown, texts_in};
-ghost use Rattle.environment.specs.Fields.{elements_in, text_of, firsts, are_distinct};
+ghost use Rattle.environment.specs.Fields.{elements_in, text_of_elements, firsts, are_distinct};
 
 use indexmap::IndexSet;
 use std::alloc::{AllocError, Global};
@@ -54,8 +54,8 @@ pub fn elements(alloc: Global, text: Option<&str>) -> Result<Vec<&str>, AllocErr
 }
 
 /// The elements with colons between them; where there is no element, no text, which unsets the variable.
-pub fn text_of(alloc: Global, elements: &[&str]) -> Result<Option<String>, AllocError>
-    ensures { IfOk result (λ t. option_map string_bytes t ≡ text_of (shown elements.now)) }
+pub fn text_of_elements(alloc: Global, elements: &[&str]) -> Result<Option<String>, AllocError>
+    ensures { IfOk result (λ t. option_map string_bytes t ≡ text_of_elements (shown elements.now)) }
 {
     if elements.is_empty() {
         return Ok(None);

@@ -5,7 +5,7 @@ use Rattle.std.specs.Prelude.{◌≡◌, Bool, true, false, not, ◌&&◌, ◌==
 use Rattle.std.specs.List.{list_any, list_all}
 use Rattle.modulename.specs.ModuleName.{is_module_name}
 use Rattle.environment.specs.Texts.{Text, has}
-use Rattle.environment.specs.Fields.{colon, text_of, firsts, elements_in, are_distinct}
+use Rattle.environment.specs.Fields.{colon, text_of_elements, firsts, elements_in, are_distinct}
 use Rattle.loadedlist.specs.LoadedTexts.{names_variable, files_variable, conflicts_variable, prereqs_variable, is_empty, are_consistent, first_element, words_in, conflicts_among, prereqs_among, has_names, element_of, group_text}
 use Rattle.environment.specs.Environment.{Environment, lookup}
 use Rattle.environment.specs.Changes.{NewValue, applied}
@@ -59,11 +59,11 @@ loaded_in e =
 
 -- Writing: the text of the names. A list without elements unsets its variable.
 abbrev pub names_text : List Entry → Option Text
-names_text entries = text_of (names_of entries)
+names_text entries = text_of_elements (names_of entries)
 
 -- the text of the paths, in the same order
 abbrev pub files_text : List Entry → Option Text
-files_text entries = text_of (map (λ x. x.path) entries)
+files_text entries = text_of_elements (map (λ x. x.path) entries)
 
 -- an element for each module that has conflicts
 abbrev pub conflict_elements : List Entry → List Text
@@ -73,7 +73,7 @@ conflict_elements (x ∷ xs) =
 
 -- the text of the conflicts
 abbrev pub conflicts_text : List Entry → Option Text
-conflicts_text entries = text_of (conflict_elements entries)
+conflicts_text entries = text_of_elements (conflict_elements entries)
 
 -- whether there is a group
 abbrev pub has_groups : List (List Text) → Bool
@@ -90,17 +90,17 @@ prereq_elements (x ∷ xs) =
 
 -- the text of the prereqs
 abbrev pub prereqs_text : List Entry → Option Text
-prereqs_text entries = text_of (prereq_elements entries)
+prereqs_text entries = text_of_elements (prereq_elements entries)
 
 -- the new values of the four variables that write the list
-abbrev pub loaded_edits : List Entry → List NewValue
-loaded_edits entries =
+abbrev pub loaded_changes : List Entry → List NewValue
+loaded_changes entries =
     (names_variable, names_text entries) ∷ (files_variable, files_text entries)
     ∷ (conflicts_variable, conflicts_text entries) ∷ (prereqs_variable, prereqs_text entries) ∷ []
 
 -- the environment with this list written to the four variables
 abbrev pub with_loaded : Environment → List Entry → Environment
-with_loaded e entries = applied (loaded_edits entries) e
+with_loaded e entries = applied (loaded_changes entries) e
 
 -- a path that can be written: it isn't empty and has no colon
 abbrev pub is_path : Text → Bool

@@ -5,7 +5,7 @@ ghost use Rattle.std.specs.Option.{option_map};
 ghost use Rattle.modulename.specs.ModuleName.{is_module_name};
 ghost use Rattle.environment.specs.Changes.{new_value_of};
 ghost use Rattle.loadedlist.specs.LoadedTexts.{element_of, group_text};
-ghost use Rattle.loadedlist.specs.Loaded.{names_text, files_text, conflict_elements, conflicts_text, prereq_elements, prereqs_text, loaded_edits, with_loaded, is_path, is_group, is_entry, can_be_added, kept_once, added_loaded, dropped_loaded};
+ghost use Rattle.loadedlist.specs.Loaded.{names_text, files_text, conflict_elements, conflicts_text, prereq_elements, prereqs_text, loaded_changes, with_loaded, is_path, is_group, is_entry, can_be_added, kept_once, added_loaded, dropped_loaded};
 ghost use Rattle.loadedlist.specs.LoadedEntries.{entry_of};
 ghost use Rattle.environment.specs.Texts.{shown, texts_in};
 ghost use Rattle.environment.specs.Reasons.{Edits};
@@ -13,7 +13,7 @@ ghost use Rattle.environment.specs.declared.fault.EnvFault.TheVariants.{OutOfMem
 
 use crate::entry::Loaded;
 use crate::list::{CONFLICTS, FILES, NAMES, PREREQS, copy_groups, loaded};
-use environment::fields::{copies, join, once, slices, text_of};
+use environment::fields::{copies, join, once, slices, text_of_elements};
 use environment::{Change, EnvFault, Vars};
 use modulename::is_module_name;
 use std::alloc::{AllocError, Global};
@@ -26,7 +26,7 @@ fn names_text(alloc: Global, list: &[Loaded]) -> Result<Option<String>, AllocErr
     for entry in list {
         names.push(entry.name.as_str())?;
     }
-    text_of(alloc, names.as_slice())
+    text_of_elements(alloc, names.as_slice())
 }
 
 /// The text of `_LMFILES_`: the paths, in load order; none for an empty list.
@@ -37,7 +37,7 @@ fn files_text(alloc: Global, list: &[Loaded]) -> Result<Option<String>, AllocErr
     for entry in list {
         files.push(entry.path.as_str())?;
     }
-    text_of(alloc, files.as_slice())
+    text_of_elements(alloc, files.as_slice())
 }
 
 /// The element that a module's name and its words are written as, with `&` between them.
@@ -86,7 +86,7 @@ fn conflicts_text(alloc: Global, list: &[Loaded]) -> Result<Option<String>, Allo
         push_conflicts(alloc, &mut elements, entry)?;
     }
     let elements = slices(alloc, elements.as_slice())?;
-    text_of(alloc, elements.as_slice())
+    text_of_elements(alloc, elements.as_slice())
 }
 
 /// The text of a group of names, with `|` between them.
@@ -129,7 +129,7 @@ fn prereqs_text(alloc: Global, list: &[Loaded]) -> Result<Option<String>, AllocE
         push_prereqs(alloc, &mut elements, entry)?;
     }
     let elements = slices(alloc, elements.as_slice())?;
-    text_of(alloc, elements.as_slice())
+    text_of_elements(alloc, elements.as_slice())
 }
 
 /// Appends the change of a variable.
@@ -149,7 +149,7 @@ fn push_change(
 
 /// The changes of the four variables that write the list.
 fn loaded_changes(alloc: Global, list: &[Loaded]) -> Result<Vec<Change>, AllocError>
-    ensures { IfOk result (λ v. map new_value_of v.items ≡ loaded_edits (map entry_of list.now)) }
+    ensures { IfOk result (λ v. map new_value_of v.items ≡ loaded_changes (map entry_of list.now)) }
 {
     let mut changes = Vec::new(alloc);
     push_change(alloc, &mut changes, NAMES, names_text(alloc, list)?)?;

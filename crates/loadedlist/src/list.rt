@@ -76,42 +76,42 @@ fn are_consistent(alloc: Global, names: &[&str], files: &[&str]) -> Result<bool,
 
 /// Enters the element of a module, unless the module has an earlier one.
 fn note_first<'a>(
-    firsts: &mut FirstElements<'a>,
+    table: &mut FirstElements<'a>,
     module_name: &'a str,
     element: &'a str,
 ) -> Result<(), AllocError>
-    ensures { OnOk result ((name : Text) → element_in firsts.new name ≡ option_or (element_in firsts.old name)
+    ensures { OnOk result ((name : Text) → element_in table.new name ≡ option_or (element_in table.old name)
         (if bytes_eq name module_name.entry.now then Some element.entry.now else None)) }
 {
-    if firsts.get(module_name).is_none() {
-        firsts.insert(module_name, element)?;
+    if table.get(module_name).is_none() {
+        table.insert(module_name, element)?;
     }
     Ok(())
 }
 
 /// Enters an element for the module that it names before its `&`, unless the module has an earlier one. An element
 /// without `&` is passed over.
-fn note<'a>(firsts: &mut FirstElements<'a>, element: &'a str) -> Result<(), AllocError>
-    ensures { OnOk result ((name : Text) → element_in firsts.new name ≡ option_or (element_in firsts.old name)
+fn note<'a>(table: &mut FirstElements<'a>, element: &'a str) -> Result<(), AllocError>
+    ensures { OnOk result ((name : Text) → element_in table.new name ≡ option_or (element_in table.old name)
         (if is_of name (parts_of element.entry.now) then Some element.entry.now else None)) }
 {
     let Some((module, _)) = element.split_once('&') else {
         return Ok(());
     };
-    note_first(firsts, module, element)
+    note_first(table, module, element)
 }
 
 /// The first element of each module.
 fn first_elements<'a>(alloc: Global, elements: &[&'a str]) -> Result<FirstElements<'a>, AllocError>
     ensures { IfOk result (λ m. (name : Text) → element_in m name ≡ first_element name (shown elements.now)) }
 {
-    let mut firsts = IndexMap::new(alloc);
+    let mut table = IndexMap::new(alloc);
     let mut rest = elements;
     while let [element, after @ ..] = rest {
-        note(&mut firsts, element)?;
+        note(&mut table, element)?;
         rest = after;
     }
-    Ok(firsts)
+    Ok(table)
 }
 
 /// The words of an element, which follow its first `&`.

@@ -44,16 +44,16 @@ pub record PathStands (start : PathState) (live : Text → ℕ) (now : PathState
   pub counters : (x : Text) → now.counter x ≡ start.counter x + live x
 
 -- no element has a live add
-abbrev pub none : Text → ℕ
-none x = 0
+abbrev pub none_live : Text → ℕ
+none_live x = 0
 
 -- the live adds after these elements are added too
-abbrev pub more : (Text → ℕ) → List Text → Text → ℕ
-more live xs x = live x + count_by (bytes_eq x) xs
+abbrev pub more_live : (Text → ℕ) → List Text → Text → ℕ
+more_live live xs x = live x + count_by (bytes_eq x) xs
 
 -- the live adds after these elements are dropped
-abbrev pub fewer : (Text → ℕ) → List Text → Text → ℕ
-fewer live xs x = live x - count_by (bytes_eq x) xs
+abbrev pub fewer_live : (Text → ℕ) → List Text → Text → ℕ
+fewer_live live xs x = live x - count_by (bytes_eq x) xs
 
 -- each of these elements has at least as many live adds as it occurs here
 abbrev pub AreLive : (Text → ℕ) → List Text → Type 0

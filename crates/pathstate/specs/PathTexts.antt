@@ -4,7 +4,7 @@ use Rattle.std.specs.Prelude.{◌≡◌, ℕ, Bool, false, ◌&&◌, ◌||◌, L
 use Rattle.std.specs.List.{slice_split, join_with_byte, list_any, AllByRecursion}
 use Rattle.std.specs.Option.{option_or}
 use Rattle.environment.specs.Texts.{Text, has}
-use Rattle.environment.specs.Fields.{text_of, firsts}
+use Rattle.environment.specs.Fields.{text_of_elements, firsts}
 use Rattle.environment.specs.Escapes.{escaped, unescaped_fields}
 use Rattle.pathstate.specs.Paths.{PathState, IsPathState, CountersFit}
 use Rattle.pathstate.specs.Counters.{counter_of}
@@ -72,7 +72,7 @@ counter_fields s xs = flat_map (λ x. escaped x ∷ decimal (s.counter x) ∷ []
 
 -- the text of the counters; none, which unsets its variable, where no counter is written
 abbrev pub pairs_text : PathState → Option Text
-pairs_text s = text_of (counter_fields s (written s))
+pairs_text s = text_of_elements (counter_fields s (written s))
 
 -- a text without the delimiter
 abbrev pub IsUnparted : ℕ → Text → Type 0

@@ -6,7 +6,7 @@ ghost use Rattle.environment.specs.Texts.{Text};
 ghost use Rattle.environment.specs.Environment.{Environment};
 ghost use Rattle.pathstate.specs.Counters.{counter_of, SpellsCounter};
 ghost use Rattle.pathstate.specs.Paths.{PathState, IsPathState, add_all, drop_all};
-ghost use Rattle.pathstate.specs.PathRuns.{StateEdit, after, live, none, more, fewer, AreLive, EachDropUndoes, PathStands};
+ghost use Rattle.pathstate.specs.PathRuns.{StateEdit, after, live, none_live, more_live, fewer_live, AreLive, EachDropUndoes, PathStands};
 ghost use Rattle.pathstate.specs.PathTexts.{IsWritable, state_of, elements_text, pairs_text};
 ghost use Rattle.pathstate.specs.PathVariables.{path_in, added_path, dropped_path, is_element, counters_fit};
 ghost use Rattle.pathstate.specs.PathOrder.{LeavesPath};
@@ -24,12 +24,12 @@ pub fn paths()
 /// The law `paths`, step by step: it holds of a start with no live add, and still holds after an add, and after a drop
 /// of elements that are live. Where no add is live, the state is the start.
 pub fn path_steps()
-    ensures start { (start : PathState) → IsPathState start → PathStands start none start }
+    ensures start { (start : PathState) → IsPathState start → PathStands start none_live start }
     ensures add { (start now : PathState) (live : Text → ℕ) (xs : List Text) (end : End)
-        → IsPathState start → PathStands start live now → PathStands start (more live xs) (add_all now xs end) }
+        → IsPathState start → PathStands start live now → PathStands start (more_live live xs) (add_all now xs end) }
     ensures drop { (start now : PathState) (live : Text → ℕ) (xs : List Text)
         → IsPathState start → PathStands start live now → AreLive live xs
-        → PathStands start (fewer live xs) (drop_all now xs) }
+        → PathStands start (fewer_live live xs) (drop_all now xs) }
     ensures restored { (start now : PathState) (live : Text → ℕ)
         → PathStands start live now → ((x : Text) → live x ≡ 0) → now ≡ start }
 {}

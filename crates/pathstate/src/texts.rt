@@ -4,7 +4,7 @@ ghost use Rattle.std.specs.List.{slice_split, join_with_byte, list_any};
 ghost use Rattle.std.specs.Option.{option_or, option_map};
 ghost use Rattle.indexmap.specs.IndexMap.{values};
 ghost use Rattle.environment.specs.Texts.{Text, has, shown};
-ghost use Rattle.environment.specs.Fields.{text_of, firsts};
+ghost use Rattle.environment.specs.Fields.{text_of_elements, firsts};
 ghost use Rattle.environment.specs.Escapes.{escaped};
 ghost use Rattle.pathstate.specs.Paths.{most};
 ghost use Rattle.pathstate.specs.Counters.{counter_of};
@@ -180,8 +180,8 @@ fn push_pair(text: &mut String, element: &str, count: u32) -> Result<(), AllocEr
 
 /// Appends the pair of an element and its counter to the pairs of a text, where the counter is two or more.
 fn push_count(text: &mut String, element: &str, count: u32) -> Result<(), AllocError>
-    ensures { OnOk result ((fs : List Text) → unless_empty (string_bytes text.old) ≡ text_of fs
-        → unless_empty (string_bytes text.new) ≡ text_of (fs ++ pair_fields (λ x. count) element.now)) }
+    ensures { OnOk result ((fs : List Text) → unless_empty (string_bytes text.old) ≡ text_of_elements fs
+        → unless_empty (string_bytes text.new) ≡ text_of_elements (fs ++ pair_fields (λ x. count) element.now)) }
 {
     if count < WRITTEN {
         return Ok(());
@@ -208,7 +208,7 @@ fn counts_text<'a>(
     counters: &mut Counters<'a>,
 ) -> Result<Option<String>, AllocError>
     ensures { IfOk result (λ t. option_map string_bytes t
-        ≡ text_of (flat_map (pair_fields (count_in (counter_in counters.old))) (firsts (shown elements.now)))) }
+        ≡ text_of_elements (flat_map (pair_fields (count_in (counter_in counters.old))) (firsts (shown elements.now)))) }
 {
     let mut text = String::new(alloc);
     let mut rest = elements;
@@ -223,7 +223,7 @@ fn counts_text<'a>(
 /// The text of the counters where the empty element is the only one, whose counter is always written.
 fn lone_text(alloc: Global, counters: &Counters<'_>) -> Result<Option<String>, AllocError>
     ensures { IfOk result (λ t. option_map string_bytes t
-        ≡ text_of ([] ∷ decimal (count_in (counter_in counters.now) []) ∷ [])) }
+        ≡ text_of_elements ([] ∷ decimal (count_in (counter_in counters.now) []) ∷ [])) }
 {
     let count = counters.get("").copied().unwrap_or(0);
     let mut text = String::new(alloc);

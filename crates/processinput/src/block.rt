@@ -3,8 +3,8 @@ ghost use Rattle.std.specs.Prelude.{◌≡◌, map, length, Some, None, IfOk, If
 ghost use Rattle.std.specs.List.{position_or_len};
 ghost use Rattle.environment.specs.Environment.{with_value};
 ghost use Rattle.environment.specs.declared.fault.EnvFault.TheVariants.{OutOfMemory};
-ghost use Rattle.processinput.specs.Given as given;
-ghost use Rattle.processinput.specs.Given.{with_entry, entries_of, is_equals, readable};
+ghost use Rattle.processinput.specs.EnvironmentBlock as block_specs;
+ghost use Rattle.processinput.specs.EnvironmentBlock.{with_entry, entries_of, is_equals, readable};
 
 use environment::{Env, EnvFault};
 use std::alloc::{AllocError, Global};
@@ -16,7 +16,7 @@ use std::str;
 ///
 /// The only error is `OutOfMemory`.
 pub fn environment_of(alloc: Global, block: &[u8]) -> Result<Env, EnvFault>
-    ensures said { IfOk result (λ env. env ≡ given.environment_of block.now) }
+    ensures ok { IfOk result (λ env. env ≡ block_specs.environment_of block.now) }
     ensures only { IfErr result (λ e. e ≡ OutOfMemory) }
 {
     let mut entries = entries_of(alloc, block)?;

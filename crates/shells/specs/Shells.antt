@@ -18,12 +18,12 @@ shell_name Tcsh = codes "tcsh"
 shell_name Fish = codes "fish"
 
 -- all shells
-abbrev pub shells : List Shell
-shells = Sh ∷ Bash ∷ Ksh ∷ Zsh ∷ Csh ∷ Tcsh ∷ Fish ∷ []
+abbrev pub all_shells : List Shell
+all_shells = Sh ∷ Bash ∷ Ksh ∷ Zsh ∷ Csh ∷ Tcsh ∷ Fish ∷ []
 
 -- the shell of this name, if there is one
 abbrev pub shell_named : Text → Option Shell
-shell_named word = find (λ shell. bytes_eq word (shell_name shell)) shells
+shell_named word = find (λ shell. bytes_eq word (shell_name shell)) all_shells
 
 -- the family of a shell: the shells that read the same text as it
 abbrev pub family_of : Shell → Family

@@ -26,17 +26,17 @@ is_unsayable Csh b = b == 0 || b == 10
 is_unsayable Fish b = b == 0
 
 -- a byte that stands for itself inside quotes
-abbrev pub is_plain : Family → ℕ → Bool
-is_plain family b = not (is_mark family b || is_unsayable family b)
+abbrev pub is_literal : Family → ℕ → Bool
+is_literal family b = not (is_mark family b || is_unsayable family b)
 
 -- a part of a value's text: literal bytes, or a byte with a backslash before it
 pub data ValuePart : Type 0 where
-  plain : Text → ValuePart
+  literal : Text → ValuePart
   mark : ℕ → ValuePart
 
 -- the part is one of the family's texts
 abbrev pub IsPart : Family → ValuePart → Type 0
-IsPart family (plain bytes) = list_all (is_plain family) bytes ≡ true
+IsPart family (literal bytes) = list_all (is_literal family) bytes ≡ true
 IsPart family (mark b) = is_mark family b ≡ true
 
 -- so is each of these parts
@@ -46,18 +46,18 @@ AreParts family (part ∷ parts) = IsPart family part × AreParts family parts
 
 -- the value of a part
 abbrev pub part_value : ValuePart → Text
-part_value (plain bytes) = bytes
+part_value (literal bytes) = bytes
 part_value (mark b) = b ∷ []
 
 -- how a part is written in sh and csh: literal bytes between single quotes, another byte after a backslash and outside
 -- of quotes
 abbrev pub part_text : ValuePart → Text
-part_text (plain bytes) = 39 ∷ (bytes ++ 39 ∷ [])
+part_text (literal bytes) = 39 ∷ (bytes ++ 39 ∷ [])
 part_text (mark b) = 92 ∷ b ∷ []
 
 -- how a part is written inside the quotes of a value in fish: literal bytes as they are, another byte after a backslash
 abbrev pub inner_text : ValuePart → Text
-inner_text (plain bytes) = bytes
+inner_text (literal bytes) = bytes
 inner_text (mark b) = 92 ∷ b ∷ []
 
 -- the text of a value that consists of these parts, one after the other; in fish all are in one pair of single quotes

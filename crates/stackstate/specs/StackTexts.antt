@@ -4,7 +4,7 @@ use Rattle.std.specs.Prelude.{ℕ, Bool, true, false, not, ◌&&◌, ◌||◌, �
 use Rattle.std.specs.List.{list_all, list_any}
 use Rattle.std.specs.Option.{option_map, option_and_then}
 use Rattle.environment.specs.Texts.{Text}
-use Rattle.environment.specs.Fields.{are_distinct, text_of, ampersand}
+use Rattle.environment.specs.Fields.{are_distinct, text_of_elements, ampersand}
 use Rattle.stackstate.specs.Stacks.{OwnedValue, has_owner}
 use Rattle.environment.specs.Escapes.{escaped, unescaped_fields}
 
@@ -19,7 +19,7 @@ element_text item = owner_text item.0 ++ ampersand ∷ item.1
 
 -- the text of the items; the empty list unsets its variable
 abbrev pub stack_text : List OwnedValue → Option Text
-stack_text items = text_of (map (λ item. escaped (element_text item)) items)
+stack_text items = text_of_elements (map (λ item. escaped (element_text item)) items)
 
 -- Reading: a pair with this byte before its first text.
 abbrev pub with_first : ℕ → Text × Text → Text × Text

@@ -6,7 +6,7 @@ ghost use Rattle.stackstate.specs.StackTexts.{owner_of, item_of, items_of_elemen
 ghost use Rattle.stackstate.specs.StackItems.{item_in, items_seen};
 
 use environment::escapes::{push_escaped, unescaped_fields};
-use environment::fields::{are_distinct, slices, text_of};
+use environment::fields::{are_distinct, slices, text_of_elements};
 use std::alloc::{AllocError, Global};
 
 /// A value on a stack, with its owner: the module that pushed it, or none for the bottom, the value from before the
@@ -160,5 +160,5 @@ pub(crate) fn stack_text(alloc: Global, items: &[StackItem]) -> Result<Option<St
         elements.push(element_text(alloc, item)?)?;
     }
     let elements = slices(alloc, elements.as_slice())?;
-    text_of(alloc, elements.as_slice())
+    text_of_elements(alloc, elements.as_slice())
 }
