@@ -62,9 +62,9 @@ parted-text (b ∷ bs) h = ap (λ (l : Text). (b ∷ bs) ++ l) (encode_ascii 58 
 -- one element after another
 
 -- an element that is written once has the counter 1 from then on
-left : (b : Bool) (o : Option ℕ) → b ≡ true → unwrap_or (cond b (Some 1) o) 0 ≡ 1
-left true o e = refl
-left false o e = absurd (false≢true e)
+one_or_none : (b : Bool) (o : Option ℕ) → b ≡ true → unwrap_or (cond b (Some 1) o) 0 ≡ 1
+one_or_none true o e = refl
+one_or_none false o e = absurd (false≢true e)
 
 other : (b : Bool) (o : Option ℕ) → b ≡ false → unwrap_or (cond b (Some 1) o) 0 ≡ unwrap_or o 0
 other true o e = absurd (false≢true (sym e))
@@ -73,7 +73,7 @@ other false o e = refl
 pairs_at : (m n : Table) (x y : Text) (ys : List Text) (b : Bool) → bytes_eq y x ≡ b → ((z : Text) → n z ≡ cond (bytes_eq z x) (Some 1) (m z)) → flat_map (pair_fields (count_in n)) ys ≡ flat_map (pair_fields (count_in m)) (without x ys)
     → pair_fields (count_in n) y ++ flat_map (pair_fields (count_in n)) ys ≡ flat_map (pair_fields (count_in m)) (cond (not b) (y ∷ without x ys) (without x ys))
 pairs_at m n x y ys true e f h =
-    let one : count_in n y ≡ 1 = ap (λ (o : Option ℕ). unwrap_or o 0) (f y) ∙ left (bytes_eq y x) (m y) e in
+    let one : count_in n y ≡ 1 = ap (λ (o : Option ℕ). unwrap_or o 0) (f y) ∙ one_or_none (bytes_eq y x) (m y) e in
     ap (λ (c : ℕ). cond (leb 2 c) (escaped y ∷ decimal c ∷ []) [] ++ flat_map (pair_fields (count_in n)) ys) one ∙ h
 pairs_at m n x y ys false e f h =
     let same : count_in n y ≡ count_in m y = ap (λ (o : Option ℕ). unwrap_or o 0) (f y) ∙ other (bytes_eq y x) (m y) e in
