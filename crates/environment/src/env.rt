@@ -18,7 +18,7 @@ use std::marker::Model;
 
 /// The variables that are set, with their values (environ(7)): a finite map from names to texts.
 pub struct Env {
-    /// Every name that was ever set; a name that is unset now is absent, or present without a value.
+    /// The variables that are set, with their values. A name without a value is unset, as is one that isn't here.
     vars: Table,
     /// Where the table and all copies take their memory.
     alloc: Global,
