@@ -1,4 +1,4 @@
--- The difference of two environments.
+-- Changes of variables, what they make of an environment, and the difference of two environments (own).
 use Rattle.std.specs.Prelude.{◌≡◌, Bool, true, false, List, [], ◌∷◌, map, bytes_eq, string_bytes, Option, Some, None, if◌then◌else◌}
 use Rattle.std.specs.Ordering.{nat_cmp}
 use Rattle.std.specs.Cmp.Lexicographic.{slice_cmp}
@@ -10,7 +10,7 @@ use Rattle.environment.specs.Texts.{Text}
 use Rattle.environment.specs.Environment.{Environment, lookup, with_value}
 use Rattle.environment.specs.declared.change.Change.{Change}
 
--- a name, and its new value or none
+-- a name and its new value, or none where it is unset
 abbrev pub NewValue : Type 0
 NewValue = Text × Option Text
 
@@ -21,16 +21,16 @@ same_value None (Some y) = false
 same_value (Some x) None = false
 same_value (Some x) (Some y) = bytes_eq x y
 
--- what the changes make of a name, if they name it
+-- the new value that the first change of a name gives it, if a change names it
 abbrev pub new_value_at : List NewValue → Text → Option (Option Text)
 new_value_at [] q = None
 new_value_at (c ∷ cs) q = if bytes_eq q c.0 then Some c.1 else new_value_at cs q
 
--- the new value, where it is another than the old one
+-- the new value, where it differs from the old one
 abbrev pub difference : Option Text → Option Text → Option (Option Text)
 difference old new = if same_value old new then None else Some new
 
--- each name whose value differs, once, in the order of bytes, with its new value or none
+-- the changes are the difference: each name whose value differs, once, in the order of bytes, with its new value
 pub record AreChanges (old new : Environment) (cs : List NewValue) : Type 0 where
   pub ordered : IsStrictlySortedBy (slice_cmp nat_cmp) (map (λ c. c.0) cs)
   pub each : (q : Text) → new_value_at cs q ≡ difference (lookup old q) (lookup new q)
@@ -40,10 +40,10 @@ abbrev pub applied : List NewValue → Environment → Environment
 applied [] e = e
 applied (c ∷ cs) e = applied cs (with_value e c.0 c.1)
 
--- what a change of the code says
+-- the name and the new value of a change of the code
 abbrev pub new_value_of : Change → NewValue
 new_value_of c = (string_bytes c.name, option_map string_bytes c.value)
 
--- what the changes of a vector say
+-- the names and the new values of a vector of changes
 abbrev pub new_values_in : Vec Change Global → List NewValue
 new_values_in v = map new_value_of v.items

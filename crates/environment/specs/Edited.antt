@@ -1,9 +1,9 @@
--- An environment that is edited.
+-- A working environment as contracts see it: the environment below, and the one that its edits make of it (own).
 use Rattle.std.specs.Prelude.{refl}
 use Rattle.std.specs.Coded.{Coded, code_by, coded×}
 use Rattle.environment.specs.Environment.{Environment, environment_code}
 
--- as it was, and as it is now
+-- the environment below, and the edited one
 pub record Edited : Type 0 where
   pub old : Environment
   pub new : Environment

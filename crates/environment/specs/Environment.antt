@@ -1,4 +1,4 @@
--- The environment: a finite map from names to texts, with the names in the order of their bytes.
+-- The environment (environ(7)): a finite map from names to texts, with the names in the order of their bytes.
 use Rattle.std.specs.Prelude.{Option, Some, None}
 use Rattle.std.specs.Ordering.{nat_cmp}
 use Rattle.std.specs.Cmp.Lexicographic.{slice_cmp}
@@ -7,7 +7,7 @@ use Rattle.std.specs.FinMap.{FinMap}
 use Rattle.std.specs.Coded.{Coded, coded_list, coded_ℕ}
 use Rattle.environment.specs.Texts.{Text}
 
--- a finite map from names to texts (environ(7))
+-- a finite map from names to texts
 abbrev pub Environment : Type 0
 Environment = FinMap (slice_cmp nat_cmp) Text
 
@@ -15,7 +15,7 @@ Environment = FinMap (slice_cmp nat_cmp) Text
 abbrev pub environment_code : Coded Environment
 environment_code = finite.code (coded_list coded_ℕ) (coded_list coded_ℕ)
 
--- a text or unset
+-- the value of a variable, none where it is unset
 abbrev pub lookup : Environment → Text → Option Text
 lookup e name = finite.get e name
 

@@ -1,4 +1,4 @@
--- Fields that may hold colons: a backslash stands before a colon or backslash that is part of a field.
+-- Fields that may hold colons: a colon or a backslash that is part of a field has a backslash before it (own).
 use Rattle.std.specs.Prelude.{ℕ, Bool, ◌&&◌, ◌||◌, ◌==◌, List, [], ◌∷◌, if◌then◌else◌}
 use Rattle.std.specs.List.{onto_first}
 use Rattle.environment.specs.Texts.{Text}
@@ -8,7 +8,7 @@ use Rattle.environment.specs.Fields.{colon}
 abbrev pub backslash : ℕ
 backslash = 92
 
--- a backslash or a colon, which stand in a field with a backslash before them
+-- a backslash or a colon, which a field has with a backslash before it
 abbrev pub is_special : ℕ → Bool
 is_special c = c == backslash || c == colon
 
@@ -17,8 +17,8 @@ abbrev pub escaped : Text → Text
 escaped [] = []
 escaped (c ∷ cs) = if is_special c then backslash ∷ c ∷ escaped cs else c ∷ escaped cs
 
--- The fields, without their escapes. They are parted by the colons that no backslash escapes. A backslash before
--- another character, or at the end, is itself.
+-- The fields, without their escapes. They are separated by the colons that no backslash escapes. A backslash before
+-- another character, or at the end, stands for itself.
 abbrev pub unescaped_fields : Text → List Text
 unescaped_fields [] = [] ∷ []
 unescaped_fields (c ∷ []) = if c == colon then [] ∷ [] ∷ [] else (c ∷ []) ∷ []

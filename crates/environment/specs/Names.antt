@@ -1,4 +1,5 @@
--- The names of variables (POSIX XBD 3.235, Name), those that the tool keeps for itself, and plain values.
+-- The names of variables (POSIX XBD 3.235, Name), the protected ones (module(1), ENVIRONMENT), and which values a
+-- variable can have (environ(7)).
 use Rattle.std.specs.Prelude.{ℕ, Bool, false, not, ◌&&◌, ◌||◌, ◌==◌, [], ◌∷◌, ◌++◌, nat_le, nat_eq, bytes_eq, codes, Option, Some, None, if◌then◌else◌}
 use Rattle.std.specs.List.{list_all, starts_with}
 use Rattle.environment.specs.Texts.{Text}
@@ -17,7 +18,7 @@ abbrev pub is_variable_name : Text → Bool
 is_variable_name [] = false
 is_variable_name (b ∷ bs) = is_name_start b && list_all is_name_byte bs
 
--- the variables that hold the tool's own state
+-- the variables that hold the tool's own state, which no modulefile may edit
 abbrev pub is_protected : Text → Bool
 is_protected name =
     bytes_eq name (codes "LOADEDMODULES") || bytes_eq name (codes "_LMFILES_")
@@ -31,11 +32,11 @@ share_name name = codes "__MODULES_SHARE_" ++ name
 abbrev pub stack_name : Text → Text
 stack_name name = codes "__MODULES_PUSHENV_" ++ name
 
--- no value of a variable holds NUL
+-- a value that a variable can have: one without NUL
 abbrev pub is_plain_value : Text → Bool
 is_plain_value value = list_all (λ b. not (b == 0)) value
 
--- why a variable of this name can't be edited, if it can't
+-- the error where a modulefile may not edit a variable of this name, none where it may
 abbrev pub name_reason : Text → Option EnvReason
 name_reason name =
     if is_variable_name name

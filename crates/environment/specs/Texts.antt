@@ -1,4 +1,4 @@
--- Texts, as contracts see them.
+-- Texts of the code as contracts see them: lists of bytes (own).
 use Rattle.std.specs.Prelude.{ℕ, Bool, List, map, bytes_eq, string_bytes}
 use Rattle.std.specs.List.{list_any}
 use Rattle.std.specs.Borrow.{Bor}
@@ -14,10 +14,10 @@ Text = List ℕ
 abbrev pub has : Text → List Text → Bool
 has x xs = list_any (bytes_eq x) xs
 
--- the texts that slices show
+-- the texts of borrowed slices
 abbrev pub shown : List (Bor Text) → List Text
 shown xs = map (λ x. x.now) xs
 
--- the texts that a vector holds
+-- the texts of a vector of strings
 abbrev pub texts_in : Vec (String Global) Global → List Text
 texts_in v = map string_bytes v.items

@@ -1,4 +1,4 @@
-//! The difference of two environments.
+//! The difference of two environments, as a list of changes that turns the first into the second.
 ghost use Rattle.std.specs.Prelude.{◌≡◌, ◌++◌, not, false, map, filter, IfOk, IfErr};
 ghost use Rattle.environment.specs.Texts.{Text, has, shown};
 ghost use Rattle.environment.specs.Environment.{lookup};
@@ -12,14 +12,14 @@ use crate::fields::{copy, sorted_once};
 use crate::vars::Vars;
 use std::alloc::{AllocError, Global};
 
-/// Whether the variable has another value, or is set in one of the two alone.
+/// Whether the variable has different values in the two, or is set in only one of them.
 fn differs<B: Vars, V: Vars>(old: &B, new: &V, name: &str) -> bool
     ensures { result ≡ not (same_value (lookup (B.vars old.now) name.now) (lookup (V.vars new.now) name.now)) }
 {
     old.get(name) != new.get(name)
 }
 
-/// Leaves the names whose values differ.
+/// Retains the names whose values differ.
 fn keep_differing<B: Vars, V: Vars>(names: &mut Vec<&str>, old: &B, new: &V)
     ensures { shown names.new.items
         ≡ filter (λ n. not (same_value (lookup (B.vars old.now) n) (lookup (V.vars new.now) n)))
@@ -28,7 +28,7 @@ fn keep_differing<B: Vars, V: Vars>(names: &mut Vec<&str>, old: &B, new: &V)
     names.retain(|name| differs(old, new, *name));
 }
 
-/// The change of a variable to its value now.
+/// The change of one variable to its value in `new`.
 fn change_to<V: Vars>(alloc: Global, new: &V, name: &str) -> Result<Change, AllocError>
     ensures { IfOk result (λ c. new_value_of c ≡ (name.now, lookup (V.vars new.now) name.now)) }
 {
@@ -37,7 +37,7 @@ fn change_to<V: Vars>(alloc: Global, new: &V, name: &str) -> Result<Change, Allo
     Ok(Change { name, value })
 }
 
-/// The change of each variable to its value now.
+/// The change of each of these variables to its value in `new`, in the same order.
 fn changes_to<V: Vars>(alloc: Global, new: &V, names: &[&str]) -> Result<Vec<Change>, AllocError>
     ensures { IfOk result (λ v. new_values_in v ≡ map (λ n. (n, lookup (V.vars new.now) n)) (shown names.now)) }
 {
@@ -65,7 +65,7 @@ pub(crate) fn changes_among<B: Vars, V: Vars>(
     changes_to(alloc, new, names.as_slice())
 }
 
-/// The names of both environments.
+/// The names that either environment has, of which some may come twice.
 fn names_of_both<'a>(alloc: Global, old: &'a Env, new: &'a Env) -> Result<Vec<&'a str>, AllocError>
     ensures { IfOk result (λ v. (n : Text) → has n (shown v.items) ≡ false
         → lookup old.entry.now n ≡ lookup new.entry.now n) }
@@ -76,9 +76,8 @@ fn names_of_both<'a>(alloc: Global, old: &'a Env, new: &'a Env) -> Result<Vec<&'
     Ok(names)
 }
 
-/// Each name whose value differs, once, in the order of bytes.
-///
-/// It is refused for want of memory alone.
+/// The difference of two environments: each name whose value differs, once, in the order of bytes, with its value in
+/// `new`. The only error is `OutOfMemory`.
 pub fn changes(alloc: Global, old: &Env, new: &Env) -> Result<Vec<Change>, EnvFault>
     ensures ok { IfOk result (λ v. AreChanges old.now new.now (new_values_in v)) }
     ensures only { IfErr result (λ e. e ≡ OutOfMemory) }

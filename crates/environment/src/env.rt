@@ -1,4 +1,4 @@
-//! The environment.
+//! An environment that owns its variables.
 ghost use Rattle.std.specs.Prelude.{◌≡◌, false, None, map, filter, is_some, string_bytes, OnOk, OnErr, IfOk, IfErr};
 ghost use Rattle.std.specs.Option.{option_map};
 ghost use Rattle.std.specs.FinMap as finite;
@@ -18,12 +18,13 @@ use std::marker::Model;
 
 /// The variables that are set, with their values (environ(7)): a finite map from names to texts.
 pub struct Env {
-    /// The names that were ever set, where a name that is unset now may have no value.
+    /// The variables that are set, with their values. A name without a value is unset, as is one that isn't here.
     vars: Table,
+    /// Where the table and all copies take their memory.
     alloc: Global,
 }
 
-// Not derived, so that an environment is dropped by one call, and no caller's proof opens its table there.
+// Not derived: an environment is dropped by one call, so the proof of a caller needn't look into its table.
 impl Drop for Env {
     fn drop(self) {
         let Env {
@@ -46,7 +47,7 @@ impl Model for Env {
 }
 
 impl Env {
-    /// No variable is set.
+    /// An environment in which no variable is set.
     pub fn new(alloc: Global) -> Self
         ensures { result ≡ finite.empty }
     {
@@ -56,12 +57,12 @@ impl Env {
         }
     }
 
-    /// Where the environment takes its memory.
+    /// The allocator of the environment.
     pub(crate) fn alloc(&self) -> Global {
         self.alloc
     }
 
-    /// The value of a variable, or none where it is unset.
+    /// The value of a variable; none where it is unset.
     pub fn get(&self, name: &str) -> Option<&str>
         ensures { option_map (λ x. x.now) result ≡ lookup self.now name.now }
     {
@@ -71,8 +72,8 @@ impl Env {
         }
     }
 
-    /// Sets a variable. Any name and any value will do. It is refused for want of memory alone, and nothing has
-    /// changed then.
+    /// Sets a variable. Any name and any value are accepted. The only error is `OutOfMemory`, which leaves the
+    /// environment unchanged.
     pub fn set(&mut self, name: &str, value: &str) -> Result<(), EnvFault>
         ensures ok { OnOk result (self.new ≡ finite.insert self.old name.now value.now) }
         ensures err { OnErr result (self.new ≡ self.old) }
@@ -82,14 +83,14 @@ impl Env {
         Ok(())
     }
 
-    /// Unsets a variable. It takes no memory.
+    /// Unsets a variable. It takes no memory, and an unset variable stays as it is.
     pub fn unset(&mut self, name: &str)
         ensures { self.new ≡ finite.remove self.old name.now }
     {
         let _ = self.vars.swap_remove(name);
     }
 
-    /// The same variables and values once more. It is refused for want of memory alone.
+    /// A copy of the environment. The only error is `OutOfMemory`.
     pub fn copy(&self) -> Result<Env, EnvFault>
         ensures ok { IfOk result (λ copy. copy ≡ self.now) }
         ensures only { IfErr result (λ e. e ≡ OutOfMemory) }
@@ -100,7 +101,7 @@ impl Env {
         })
     }
 
-    /// The names of the variables that are set, in the order of their bytes. It is refused for want of memory alone.
+    /// The names of the variables that are set, in the order of their bytes. The only error is `OutOfMemory`.
     pub fn names(&self) -> Result<Vec<String>, EnvFault>
         ensures ok { IfOk result (λ names. map string_bytes names.items ≡ finite.keys self.now) }
         ensures only { IfErr result (λ e. e ≡ OutOfMemory) }
@@ -111,7 +112,7 @@ impl Env {
         Ok(copies(self.alloc, names.as_slice())?)
     }
 
-    /// The names that were ever set: every variable that is set is among them.
+    /// The names in the table: every variable that is set, and perhaps some that are unset.
     pub(crate) fn names_given(&self, alloc: Global) -> Result<Vec<&str>, AllocError>
         ensures { IfOk result (λ v. (n : Text) → has n (shown v.items) ≡ false → lookup self.now n ≡ None) }
     {
@@ -145,7 +146,7 @@ impl Vars for Env {
     }
 }
 
-/// Leaves the names that are set.
+/// Retains the names of variables that are set.
 fn keep_set(names: &mut Vec<&str>, env: &Env)
     ensures { shown names.new.items ≡ filter (λ n. is_some (lookup env.now n)) (shown names.old.items) }
 {

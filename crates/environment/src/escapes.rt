@@ -1,4 +1,5 @@
-//! Fields that may hold colons: a backslash stands before a colon or backslash that is part of a field.
+//! Fields that may hold colons: a colon or a backslash that is part of a field has a backslash before it. Stacks and
+//! the counters of path variables are written so.
 ghost use Rattle.std.specs.Prelude.{◌≡◌, ◌++◌, [], ◌∷◌, encode_utf8, string_bytes, true, false, IfOk, OnOk};
 ghost use Rattle.std.specs.List.{list_any};
 ghost use Rattle.environment.specs.Texts.{Text, texts_in};
@@ -7,17 +8,18 @@ ghost use Rattle.environment.specs.Escapes.{is_special, escaped, unescaped_field
 use std::alloc::{AllocError, Global};
 use std::mem;
 
-/// What has been read of a text.
+/// A text that is being read, character by character.
 #[derive(Drop)]
 struct Reading {
-    /// The fields that have ended.
+    /// The fields that are complete.
     fields: Vec<String>,
-    /// The field that has begun.
+    /// The field that is being read.
     field: String,
-    /// Whether a backslash was last that may escape what follows.
+    /// Whether the last character was a backslash that escapes the next one.
     escapes: bool,
 }
 
+/// Whether a field has this character with a backslash before it.
 fn is_special(c: char) -> bool
     ensures { result ≡ is_special c }
 {
@@ -27,7 +29,7 @@ fn is_special(c: char) -> bool
 impl Reading {
     ghost use Rattle.environment.specs.EscapeReading.{read_on};
 
-    /// Reads the character behind a backslash.
+    /// Reads the character after a backslash.
     fn read_escaped(&mut self, c: char) -> Result<(), AllocError>
         requires { self.old.escapes ≡ true }
         ensures { OnOk result ((rest : Text) → read_on self.new rest ≡ read_on self.old (encode_utf8 c ++ rest)) }
@@ -40,7 +42,7 @@ impl Reading {
         self.field.push(c)
     }
 
-    /// Ends the field that has begun.
+    /// Completes the field that is being read.
     fn end_field(&mut self, alloc: Global) -> Result<(), AllocError>
         requires { self.old.escapes ≡ false }
         ensures { OnOk result ((rest : Text) → read_on self.new rest ≡ read_on self.old (58 ∷ rest)) }
@@ -50,7 +52,7 @@ impl Reading {
         Ok(())
     }
 
-    /// Reads a character.
+    /// Reads the next character.
     fn read(&mut self, alloc: Global, c: char) -> Result<(), AllocError>
         ensures { OnOk result ((rest : Text) → read_on self.new rest ≡ read_on self.old (encode_utf8 c ++ rest)) }
     {
@@ -84,8 +86,8 @@ impl Reading {
     }
 }
 
-/// The fields of a text, without their escapes. They are parted by the colons that no backslash escapes; a backslash
-/// before another character, or at the end, is itself.
+/// The fields of a text, without their escapes. They are separated by the colons that no backslash escapes; a backslash
+/// before another character, or at the end, stands for itself. The empty text has one empty field.
 pub fn unescaped_fields(alloc: Global, text: &str) -> Result<Vec<String>, AllocError>
     ensures { IfOk result (λ v. texts_in v ≡ unescaped_fields text.now) }
 {
@@ -100,7 +102,7 @@ pub fn unescaped_fields(alloc: Global, text: &str) -> Result<Vec<String>, AllocE
     reading.finish()
 }
 
-/// Puts a character at the end, with a backslash before it where it needs one.
+/// Appends a character, with a backslash before it where it needs one.
 fn push_char(text: &mut String, c: char) -> Result<(), AllocError>
     ensures { OnOk result (string_bytes text.new ≡ string_bytes text.old ++ escaped (encode_utf8 c)) }
 {
@@ -122,7 +124,7 @@ fn has_special(text: &str) -> bool
     found
 }
 
-/// Puts a field, or a part of one, at the end, with its escapes.
+/// Appends a field, or a part of one, with its escapes.
 pub fn push_escaped(text: &mut String, part: &str) -> Result<(), AllocError>
     ensures { OnOk result (string_bytes text.new ≡ string_bytes text.old ++ escaped part.now) }
 {

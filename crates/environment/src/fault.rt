@@ -1,26 +1,26 @@
-//! Why an edit of the environment was refused.
+//! The errors of edits of the environment, with their numbers and messages.
 use message::Message;
 use std::alloc::{AllocError, AllocFailed};
 use std::error::Error;
 use std::fmt;
 use std::fmt::Display;
 
-/// Why an edit of the environment was refused. The environment is then as it was.
+/// Why an edit of the environment was refused. The environment is then unchanged.
 #[derive(Debug, Drop)]
 pub enum EnvFault {
-    /// Memory ran out.
+    /// An allocation was refused.
     OutOfMemory,
-    /// The name of a variable isn't spelled as one.
+    /// This isn't spelled as the name of a variable.
     BadVariable(String),
-    /// The variable holds the tool's own state.
+    /// This variable holds the tool's own state, which no modulefile may edit.
     Protected(String),
-    /// A counter of the path variable would pass the largest that can be written.
+    /// A counter of this path variable would pass 4294967295.
     CounterFull(String),
-    /// The two loaded lists don't fit together, or an entry can't be one of them.
+    /// The variables of the loaded modules contradict one another, or an entry to be added can't be written in them.
     Inconsistent,
-    /// The stack of the variable isn't one.
+    /// The text of this variable's stack can't be read as a stack.
     BadStack(String),
-    /// A value for the variable holds what none may hold.
+    /// A value, an element, a delimiter or a module's name isn't allowed for this variable.
     BadValue(String),
 }
 
@@ -29,7 +29,7 @@ impl EnvFault {
     ghost use Rattle.message.specs.Messages.{text_of};
     ghost use Rattle.environment.specs.Reasons.{message_of, number_of};
 
-    /// The number of the fault.
+    /// The number of the error, from 31 to 37.
     pub fn number(&self) -> u16
         ensures { result ≡ number_of self.now }
     {
@@ -44,7 +44,7 @@ impl EnvFault {
         }
     }
 
-    /// What the fault says.
+    /// The text of the error, without `ERROR: `.
     pub fn message(&self) -> Message<'_>
         ensures { text_of result ≡ message_of self.now }
     {

@@ -1,4 +1,4 @@
-//! Texts made of fields: parted, joined, each once.
+//! Texts that are lists of fields: splitting, joining, and dropping repeated fields.
 ghost use Rattle.std.specs.Prelude.{◌≡◌, ◌==◌, ◌<◌, map, IfOk, string_bytes};
 ghost use Rattle.std.specs.List.{slice_split, join_with_byte};
 ghost use Rattle.std.specs.List.Sorted.{IsStrictlySortedBy};
@@ -6,12 +6,12 @@ ghost use Rattle.std.specs.Cmp.Lexicographic.{slice_cmp};
 ghost use Rattle.std.specs.Ordering.{nat_cmp};
 ghost use Rattle.std.specs.Option.{option_map};
 ghost use Rattle.environment.specs.Texts.{Text, has, shown, texts_in};
-ghost use Rattle.environment.specs.Fields.{elements_in, text_of, firsts, are_distinct};
+ghost use Rattle.environment.specs.Fields.{elements_in, text_of_elements, firsts, are_distinct};
 
 use indexmap::IndexSet;
 use std::alloc::{AllocError, Global};
 
-/// The parts between the separators, which are ASCII.
+/// The parts of a text between its separators. The separator is ASCII.
 pub fn parts(alloc: Global, text: &str, separator: char) -> Result<Vec<&str>, AllocError>
     requires { separator < 128 }
     ensures { IfOk result (λ v. shown v.items ≡ slice_split (λ b. b == separator) text.now) }
@@ -19,7 +19,7 @@ pub fn parts(alloc: Global, text: &str, separator: char) -> Result<Vec<&str>, Al
     text.split(separator).collect(alloc)
 }
 
-/// The parts with the separator between them, which is ASCII.
+/// The parts with the separator between them. The separator is ASCII.
 pub fn join(alloc: Global, parts: &[&str], separator: char) -> Result<String, AllocError>
     requires { separator < 128 }
     ensures { IfOk result (λ t. string_bytes t ≡ join_with_byte separator (shown parts.now)) }
@@ -37,7 +37,7 @@ pub fn join(alloc: Global, parts: &[&str], separator: char) -> Result<String, Al
     Ok(text)
 }
 
-/// The elements of a text, parted by colons; none where it is unset or empty.
+/// The elements of a text, separated by colons; none where the text is unset or empty.
 pub fn elements(alloc: Global, text: Option<&str>) -> Result<Vec<&str>, AllocError>
     ensures { IfOk result (λ v. shown v.items ≡ elements_in (option_map (λ t. t.now) text.entry)) }
 {
@@ -53,9 +53,9 @@ pub fn elements(alloc: Global, text: Option<&str>) -> Result<Vec<&str>, AllocErr
     }
 }
 
-/// The elements with colons between them; none unsets the variable.
-pub fn text_of(alloc: Global, elements: &[&str]) -> Result<Option<String>, AllocError>
-    ensures { IfOk result (λ t. option_map string_bytes t ≡ text_of (shown elements.now)) }
+/// The elements with colons between them; where there is no element, no text, which unsets the variable.
+pub fn text_of_elements(alloc: Global, elements: &[&str]) -> Result<Option<String>, AllocError>
+    ensures { IfOk result (λ t. option_map string_bytes t ≡ text_of_elements (shown elements.now)) }
 {
     if elements.is_empty() {
         return Ok(None);
@@ -63,7 +63,7 @@ pub fn text_of(alloc: Global, elements: &[&str]) -> Result<Option<String>, Alloc
     Ok(Some(join(alloc, elements, ':')?))
 }
 
-/// Each text once, by its first place.
+/// The texts without repetitions, in the order of their first occurrences.
 pub fn once<'a>(alloc: Global, texts: &[&'a str]) -> Result<Vec<&'a str>, AllocError>
     ensures { IfOk result (λ v. shown v.items ≡ firsts (shown texts.now)) }
 {
@@ -76,7 +76,7 @@ pub fn once<'a>(alloc: Global, texts: &[&'a str]) -> Result<Vec<&'a str>, AllocE
     done.into_iter().collect(alloc)
 }
 
-/// The texts, each once, in the order of their bytes.
+/// The texts without repetitions, in the order of their bytes.
 pub(crate) fn sorted_once<'a>(mut texts: Vec<&'a str>) -> Vec<&'a str>
     ensures ordered { IsStrictlySortedBy (slice_cmp nat_cmp) (shown result.items) }
     ensures same { (x : Text) → has x (shown result.items) ≡ has x (shown texts.entry.items) }
@@ -86,14 +86,14 @@ pub(crate) fn sorted_once<'a>(mut texts: Vec<&'a str>) -> Vec<&'a str>
     texts
 }
 
-/// Whether no text stands twice.
+/// Whether no text is there twice.
 pub fn are_distinct(alloc: Global, texts: &[&str]) -> Result<bool, AllocError>
     ensures { IfOk result (λ b. b ≡ are_distinct (shown texts.now)) }
 {
     Ok(once(alloc, texts)?.len() == texts.len())
 }
 
-/// The text, copied.
+/// A copy of the text, if there is one.
 pub fn copy(alloc: Global, text: Option<&str>) -> Result<Option<String>, AllocError>
     ensures { IfOk result (λ t. option_map string_bytes t ≡ option_map (λ x. x.now) text.entry) }
 {
@@ -103,7 +103,7 @@ pub fn copy(alloc: Global, text: Option<&str>) -> Result<Option<String>, AllocEr
     }
 }
 
-/// The texts as slices.
+/// The texts, borrowed.
 pub fn slices(alloc: Global, texts: &[String]) -> Result<Vec<&str>, AllocError>
     ensures { IfOk result (λ v. shown v.items ≡ map string_bytes texts.now) }
 {
@@ -114,7 +114,7 @@ pub fn slices(alloc: Global, texts: &[String]) -> Result<Vec<&str>, AllocError>
     Ok(slices)
 }
 
-/// The texts, copied.
+/// Copies of the texts.
 pub fn copies(alloc: Global, texts: &[&str]) -> Result<Vec<String>, AllocError>
     ensures { IfOk result (λ v. texts_in v ≡ shown texts.now) }
 {

@@ -1,5 +1,6 @@
-//! The variables that are set, how they are edited, and what differs between two environments: the ground on which the
-//! state of modules stands.
+//! Environment variables: a map from names to texts, its edits, working copies, and the exact difference of two maps.
+//! Takes memory; touches only the variables that a call names, and none of them where the call is refused.
+//! Used by every crate that reads or edits variables, from envpaths, envstacks and envloaded up to modulecmd.
 #![tactic(auto)]
 
 mod change;

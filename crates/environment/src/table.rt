@@ -1,4 +1,5 @@
-//! Tables of names, each with the value that it was given, or none where it was unset.
+//! A table of names, each with the value that it was given, or with none where it was unset: the variables of an
+//! environment, and the edits of a working one.
 ghost use Rattle.std.specs.Prelude.{◌≡◌, ◌+◌, ◌<◌, ◌≤◌, ◌++◌, map, Some, OnOk, OnErr, IfOk, string_bytes, bytes_eq, vec_len, if◌then◌else◌};
 ghost use Rattle.std.specs.Option.{option_map};
 ghost use Rattle.indexmap.specs.IndexMap.{spare};
@@ -12,10 +13,10 @@ use crate::fields::copy;
 use indexmap::IndexMap;
 use std::alloc::{AllocError, Global};
 
-/// Names, each with the value that it was given, or none where it was unset.
+/// Names, each with the value that it was given, or with none where it was unset.
 pub(crate) type Table = IndexMap<String, Option<String>>;
 
-/// What the table has for a name, if it has the name.
+/// The entry of a name: no entry, or an entry with or without a value.
 pub(crate) fn found<'a>(table: &'a Table, name: &str) -> Option<Option<&'a str>>
     ensures { option_map (option_map (λ t. t.now)) result ≡ slot table.entry.now name.now }
 {
@@ -26,7 +27,7 @@ pub(crate) fn found<'a>(table: &'a Table, name: &str) -> Option<Option<&'a str>>
     }
 }
 
-/// The names that the table has.
+/// The names in the table.
 pub(crate) fn names_of(alloc: Global, table: &Table) -> Result<Vec<&str>, AllocError>
     ensures { IfOk result (λ v. shown v.items ≡ names_of table.now.entries) }
 {
@@ -37,7 +38,7 @@ pub(crate) fn names_of(alloc: Global, table: &Table) -> Result<Vec<&str>, AllocE
     Ok(names)
 }
 
-/// Gives a name a value, or none.
+/// Enters a name with a value or with none, in place of its older entry.
 pub(crate) fn enter(
     alloc: Global,
     table: &mut Table,
@@ -54,7 +55,7 @@ pub(crate) fn enter(
     Ok(())
 }
 
-/// Makes a change, for which the table has room.
+/// Makes one change, for which memory is reserved.
 fn write(table: &mut Table, name: String, value: Option<String>)
     requires { 0 < spare table.old }
     ensures written { (x : Text) → slot table.new x
@@ -64,7 +65,7 @@ fn write(table: &mut Table, name: String, value: Option<String>)
     let _ = table.insert(name, value);
 }
 
-/// Makes changes, from the first to the last, for which the table has room.
+/// Makes changes, from the first to the last, for which memory is reserved.
 fn write_all(table: &mut Table, changes: Vec<Change>)
     requires { vec_len changes ≤ spare table.old }
     ensures { (under : Environment) → written_over under table.new.entries
@@ -76,7 +77,7 @@ fn write_all(table: &mut Table, changes: Vec<Change>)
     }
 }
 
-/// Makes all the changes, from the first to the last, or none of them.
+/// Makes all the changes, from the first to the last, or none of them where memory can't be reserved.
 pub(crate) fn make_changes(table: &mut Table, changes: Vec<Change>) -> Result<(), AllocError>
     ensures ok { OnOk result ((under : Environment) → written_over under table.new.entries
         ≡ applied (new_values_in changes) (written_over under table.old.entries)) }

@@ -1,4 +1,4 @@
-//! A working environment: changes over an environment that stays as it is.
+//! A working environment: edits that are layered on an environment, which stays unchanged.
 ghost use Rattle.std.specs.Prelude.{◌≡◌, IfOk, IfErr};
 ghost use Rattle.environment.specs.Changes.{AreChanges, new_values_in};
 ghost use Rattle.environment.specs.declared.fault.EnvFault.TheVariants.{OutOfMemory};
@@ -13,16 +13,18 @@ use indexmap::IndexMap;
 use std::alloc::Global;
 use std::marker::Model;
 
-/// Changes over an environment that stays as it is, another working one perhaps. An edit costs what it touches,
-/// whatever else is set.
+/// Edits that are layered on variables which stay unchanged: on an environment, or on another working one. The time of
+/// an edit depends on what it touches, and not on how many variables are set.
 pub struct Working<'a, B: Vars = Env> {
+    /// The variables below, which stay unchanged.
     old: &'a B,
-    /// The names that were touched, with their values now.
+    /// The names that were edited, with their values now.
     touched: Table,
+    /// Where the table takes its memory.
     alloc: Global,
 }
 
-// Not derived, as for `Env`.
+// Not derived, for the reason given at `Env`.
 impl<'a, B: Vars> Drop for Working<'a, B> {
     fn drop(self) {
         let Working {
@@ -45,7 +47,7 @@ impl<'a, B: Vars> Model for Working<'a, B> {
 }
 
 impl<'a> Working<'a, Env> {
-    /// The environment as it is, with no changes.
+    /// A working environment over an environment, with no edit so far.
     pub fn over(old: &'a Env) -> Self
         ensures old { result.old ≡ old.entry.now }
         ensures new { result.new ≡ old.entry.now }
@@ -55,7 +57,7 @@ impl<'a> Working<'a, Env> {
 }
 
 impl<'a, B: Vars> Working<'a, B> {
-    /// The variables as they are, with no changes.
+    /// A working environment over any variables, with no edit so far.
     pub fn upon(alloc: Global, old: &'a B) -> Self
         ensures old { result.old ≡ B.vars old.entry.now }
         ensures new { result.new ≡ B.vars old.entry.now }
@@ -67,8 +69,8 @@ impl<'a, B: Vars> Working<'a, B> {
         }
     }
 
-    /// Each name whose value differs from that in the old environment, once, in the order of bytes. It costs what was
-    /// touched, and is refused for want of memory alone.
+    /// Each name whose value differs from that in the environment below, once, in the order of bytes. The time depends
+    /// on what was edited. The only error is `OutOfMemory`.
     pub fn into_changes(self) -> Result<Vec<Change>, EnvFault>
         ensures ok { IfOk result (λ v. AreChanges self.entry.old self.entry.new (new_values_in v)) }
         ensures only { IfErr result (λ e. e ≡ OutOfMemory) }

@@ -20,6 +20,6 @@ pub use Rattle.stackstate.specs.StackRuns
 pub use Rattle.loadedlist.specs.LoadedTexts
 pub use Rattle.loadedlist.specs.Loaded
 pub use Rattle.loadedlist.specs.LoadedEntries
-pub use Rattle.envlaws.specs.Places
-pub use Rattle.envlaws.specs.Frames
-pub use Rattle.envlaws.specs.EnvLaws
+pub mod Places
+pub mod Frames
+pub mod EnvLaws

@@ -6,7 +6,7 @@ use Rattle.std.proofs.lemmas.Bool.{false≢true}
 use Rattle.std.proofs.lemmas.Bool.Decides.{nat_tests}
 use Rattle.modulename.specs.ModuleName.{is_module_name}
 use Rattle.environment.specs.Texts.{Text, has}
-use Rattle.environment.specs.Fields.{without, are_distinct, fields, joined, text_of, firsts, elements_in}
+use Rattle.environment.specs.Fields.{without, are_distinct, fields, joined, text_of_elements, firsts, elements_in}
 use Rattle.environment.specs.Environment.{Environment, lookup}
 use Rattle.loadedlist.specs.LoadedTexts.{names_variable, files_variable, conflicts_variable, prereqs_variable, is_empty, are_consistent, parts_of, is_of, later_parts, first_element, words_in, names_among, conflicts_among, names_of_group, has_names, prereqs_among, element_of, group_text}
 use Rattle.loadedlist.specs.Loaded.{Entry, names_of, entries_from, entries_in, loaded_in, names_text, files_text, conflict_elements, conflicts_text, has_groups, prereq_elements, prereqs_text, with_loaded, is_path, is_group, is_entry, IsLoadedList}
@@ -80,7 +80,7 @@ elements_some : (t : Text) → is_empty t ≡ false → elements_in (Some t) ≡
 elements_some [] h = absurd (false≢true (sym h))
 elements_some (b ∷ bs) h = refl
 
-pub elements_again : (xs : List Text) → are_elements xs ≡ true → elements_in (text_of xs) ≡ xs
+pub elements_again : (xs : List Text) → are_elements xs ≡ true → elements_in (text_of_elements xs) ≡ xs
 elements_again [] h = refl
 elements_again (x ∷ xs) h =
     let k = both_true (not (is_empty x) && lacks 58 x) (are_elements xs) h in

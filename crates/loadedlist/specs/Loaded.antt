@@ -1,16 +1,18 @@
--- The loaded modules (modulefile(5)): a list of entries in load order, and the four variables that say it.
+-- The list of loaded modules, in load order, how it is read from four variables and written to them, and its edits
+-- (module(1), ENVIRONMENT: LOADEDMODULES, _LMFILES_, __MODULES_LMCONFLICT, __MODULES_LMPREREQ).
 use Rattle.std.specs.Option.{option_map}
 use Rattle.std.specs.Prelude.{◌≡◌, Bool, true, false, not, ◌&&◌, ◌==◌, List, [], ◌∷◌, ◌++◌, map, filter, bytes_eq, if◌then◌else◌, Option, Some, None, Result, Ok, Err}
 use Rattle.std.specs.List.{list_any, list_all}
 use Rattle.modulename.specs.ModuleName.{is_module_name}
 use Rattle.environment.specs.Texts.{Text, has}
-use Rattle.environment.specs.Fields.{colon, text_of, firsts, elements_in, are_distinct}
+use Rattle.environment.specs.Fields.{colon, text_of_elements, firsts, elements_in, are_distinct}
 use Rattle.loadedlist.specs.LoadedTexts.{names_variable, files_variable, conflicts_variable, prereqs_variable, is_empty, are_consistent, first_element, words_in, conflicts_among, prereqs_among, has_names, element_of, group_text}
 use Rattle.environment.specs.Environment.{Environment, lookup}
 use Rattle.environment.specs.Changes.{NewValue, applied}
 use Rattle.environment.specs.Reasons.{EnvReason, inconsistent}
 
--- a loaded module, its full path, the names that it conflicts with, and the groups of names of which it needs one each
+-- a loaded module: its name, the path of its modulefile, the names that it conflicts with, and groups of names, of each
+-- of which it needs one
 pub record Entry : Type 0 where
   pub name : Text
   pub path : Text
@@ -21,7 +23,7 @@ pub record Entry : Type 0 where
 abbrev pub names_of : List Entry → List Text
 names_of entries = map (λ x. x.name) entries
 
--- a name with its file, and with what the elements of the other two texts say, if there are some
+-- the entry of a name with its path, and with the conflicts and prereqs in its elements, if there are some
 abbrev pub entry_from : Text → Text → Option Text → Option Text → Entry
 entry_from name file conflicts prereqs =
     record {
@@ -31,7 +33,7 @@ entry_from name file conflicts prereqs =
       prereqs = prereqs_among (words_in prereqs);
     }
 
--- each name with its file, and with what the element that either of the other two texts has for it says
+-- an entry for each name with its path, and with the conflicts and prereqs in the elements that these two give for it
 abbrev pub entries_from : (Text → Option Text) → (Text → Option Text) → List Text → List Text → List Entry
 entries_from conflicts prereqs [] files = []
 entries_from conflicts prereqs (name ∷ names) [] = []
@@ -42,7 +44,7 @@ entries_from conflicts prereqs (name ∷ names) (file ∷ files) =
 abbrev pub first_in : Option Text → Text → Option Text
 first_in text name = first_element name (elements_in text)
 
--- The list that the four texts say; none where the first two do not fit together.
+-- The list that the four texts are read as; none where the names and the paths are inconsistent.
 abbrev pub entries_in : Option Text → Option Text → Option Text → Option Text → Option (List Entry)
 entries_in names files conflicts prereqs =
     if are_consistent (elements_in names) (elements_in files)
@@ -55,30 +57,30 @@ loaded_in e =
     entries_in (lookup e names_variable) (lookup e files_variable) (lookup e conflicts_variable)
     (lookup e prereqs_variable)
 
--- Writing: a list without elements unsets its variable.
+-- Writing: the text of the names. A list without elements unsets its variable.
 abbrev pub names_text : List Entry → Option Text
-names_text entries = text_of (names_of entries)
+names_text entries = text_of_elements (names_of entries)
 
--- the paths, in the same order
+-- the text of the paths, in the same order
 abbrev pub files_text : List Entry → Option Text
-files_text entries = text_of (map (λ x. x.path) entries)
+files_text entries = text_of_elements (map (λ x. x.path) entries)
 
--- an element for each module that conflicts with some
+-- an element for each module that has conflicts
 abbrev pub conflict_elements : List Entry → List Text
 conflict_elements [] = []
 conflict_elements (x ∷ xs) =
     if has_names x.conflicts then element_of x.name x.conflicts ∷ conflict_elements xs else conflict_elements xs
 
--- what the modules conflict with
+-- the text of the conflicts
 abbrev pub conflicts_text : List Entry → Option Text
-conflicts_text entries = text_of (conflict_elements entries)
+conflicts_text entries = text_of_elements (conflict_elements entries)
 
 -- whether there is a group
 abbrev pub has_groups : List (List Text) → Bool
 has_groups [] = false
 has_groups (group ∷ groups) = true
 
--- an element for each module that needs some
+-- an element for each module that has prereqs
 abbrev pub prereq_elements : List Entry → List Text
 prereq_elements [] = []
 prereq_elements (x ∷ xs) =
@@ -86,35 +88,36 @@ prereq_elements (x ∷ xs) =
     then element_of x.name (map group_text x.prereqs) ∷ prereq_elements xs
     else prereq_elements xs
 
--- what the modules need
+-- the text of the prereqs
 abbrev pub prereqs_text : List Entry → Option Text
-prereqs_text entries = text_of (prereq_elements entries)
+prereqs_text entries = text_of_elements (prereq_elements entries)
 
--- what is written of the list
-abbrev pub loaded_edits : List Entry → List NewValue
-loaded_edits entries =
+-- the new values of the four variables that write the list
+abbrev pub loaded_changes : List Entry → List NewValue
+loaded_changes entries =
     (names_variable, names_text entries) ∷ (files_variable, files_text entries)
     ∷ (conflicts_variable, conflicts_text entries) ∷ (prereqs_variable, prereqs_text entries) ∷ []
 
--- the environment with this list in the four variables
+-- the environment with this list written to the four variables
 abbrev pub with_loaded : Environment → List Entry → Environment
-with_loaded e entries = applied (loaded_edits entries) e
+with_loaded e entries = applied (loaded_changes entries) e
 
--- a path has a byte, and no colon
+-- a path that can be written: it isn't empty and has no colon
 abbrev pub is_path : Text → Bool
 is_path path = not (is_empty path) && not (list_any (λ b. b == colon) path)
 
--- a group has names, and each is well spelled
+-- a group that can be written: it has names, and each is well spelled
 abbrev pub is_group : List Text → Bool
 is_group group = has_names group && list_all is_module_name group
 
--- an entry that is read again as it was written, but for repeated conflicts
+-- an entry that is read again as it is written, apart from repeated conflicts
 abbrev pub is_entry : Entry → Bool
 is_entry x =
     (is_module_name x.name && is_path x.path)
     && (list_all is_module_name x.conflicts && list_all is_group x.prereqs)
 
--- Each entry can be written, no module stands twice, and no entry has a conflict twice.
+-- A list that is read again as it is written: each entry is, no module is there twice, and no entry has a conflict
+-- twice.
 pub record IsLoadedList (entries : List Entry) : Type 0 where
   pub each : list_all is_entry entries ≡ true
   pub names : are_distinct (names_of entries) ≡ true
@@ -126,21 +129,21 @@ pub record AreLoadedInOrder (e : Environment) : Type 0 where
   pub list : IsLoadedList entries
   pub written : with_loaded e entries ≡ e
 
--- the entry joins the list where it can be written, and its module is not loaded
+-- an entry can be added where it can be written and its module isn't loaded
 abbrev pub can_be_added : List Entry → Entry → Bool
 can_be_added entries x = is_entry x && not (has x.name (names_of entries))
 
--- a repeated conflict is kept once
+-- the entry without repeated conflicts
 abbrev pub kept_once : Entry → Entry
 kept_once x = record { name = x.name; path = x.path; conflicts = firsts x.conflicts; prereqs = x.prereqs }
 
--- an entry added to the list that was read
+-- the environment after an entry is added to the list that was read, or the error
 abbrev pub added_to : Environment → Entry → Option (List Entry) → Result Environment EnvReason
 added_to e x None = Err inconsistent
 added_to e x (Some entries) =
     if can_be_added entries x then Ok (with_loaded e (entries ++ kept_once x ∷ [])) else Err inconsistent
 
--- a new last entry
+-- the environment after an entry is added at the end of its list, or the error
 abbrev pub added_loaded : Environment → Entry → Result Environment EnvReason
 added_loaded e x = added_to e x (loaded_in e)
 
@@ -148,13 +151,13 @@ added_loaded e x = added_to e x (loaded_in e)
 abbrev pub without_entry : Text → List Entry → List Entry
 without_entry name entries = filter (λ x. not (bytes_eq name x.name)) entries
 
--- a module dropped from the list that was read
+-- the environment after a module is dropped from the list that was read, or the error
 abbrev pub dropped_from : Environment → Text → Option (List Entry) → Result Environment EnvReason
 dropped_from e name None = Err inconsistent
 dropped_from e name (Some entries) =
     if has name (names_of entries) then Ok (with_loaded e (without_entry name entries)) else Ok e
 
--- the module's entry leaves; where it is not loaded nothing changes
+-- the environment after a module is dropped from its list, or the error; nothing changes where it isn't loaded
 abbrev pub dropped_loaded : Environment → Text → Result Environment EnvReason
 dropped_loaded e name = dropped_from e name (loaded_in e)
 

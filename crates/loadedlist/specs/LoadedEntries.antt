@@ -1,4 +1,4 @@
--- What values of the code say of the loaded modules.
+-- Values of the code as entries of the list of loaded modules, and the errors of reading the list (own).
 use Rattle.std.specs.Option.{option_map}
 use Rattle.std.specs.Prelude.{◌≡◌, List, map, bytes_eq, string_bytes, Option, Some, None, Result, Ok, Err}
 use Rattle.std.specs.declared.vec.Vec.{Vec}
@@ -12,11 +12,11 @@ use Rattle.loadedlist.specs.Loaded.{Entry}
 use Rattle.std.specs.Borrow.{Bor}
 use Rattle.indexmap.specs.IndexMap.{IndexMap, get_by}
 
--- the groups of texts that a vector holds
+-- the groups of texts of a vector of vectors
 abbrev pub groups_in : Vec (Vec (String Global) Global) Global → List (List Text)
 groups_in v = map texts_in v.items
 
--- the entry that a value of the code is
+-- an entry of the code as an entry of the definitions
 abbrev pub entry_of : Loaded → Entry
 entry_of x =
     record {
@@ -26,7 +26,7 @@ entry_of x =
       prereqs = groups_in x.prereqs;
     }
 
--- The answer is this; inconsistent exactly where there is none.
+-- The result is the outcome; the error is Inconsistent, exactly where there is no outcome, or want of memory.
 abbrev pub GivesOrInconsistent : {A B : Type 0} → (A → B) → Result A EnvFault → Option B → Type 0
 GivesOrInconsistent view (Ok a) outcome = outcome ≡ Some (view a)
 GivesOrInconsistent view (Err OutOfMemory) outcome = Unit {0}
@@ -37,10 +37,10 @@ GivesOrInconsistent view (Err (CounterFull var)) outcome = ⊥
 GivesOrInconsistent view (Err (BadStack var)) outcome = ⊥
 GivesOrInconsistent view (Err (BadValue var)) outcome = ⊥
 
--- the answer is this list
+-- the result is this list
 abbrev pub GivesList : Result (Vec Loaded Global) EnvFault → Option (List Entry) → Type 0
 GivesList result outcome = GivesOrInconsistent (λ v. map entry_of v.items) result outcome
 
--- For proofs of this crate: what a table of elements has for a module.
+-- For the contracts of private functions: the element that a table has for a module.
 abbrev pub element_in : {S : Type 0} → IndexMap (Bor Text) (Bor Text) S → Text → Option Text
 element_in m name = option_map (λ x. x.now) (get_by (λ k. bytes_eq name k.now) m)

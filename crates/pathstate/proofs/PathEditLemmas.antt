@@ -13,8 +13,8 @@ use Rattle.pathstate.specs.PathEdits.{AreTexts, IsFull}
 use Rattle.environment.specs.Reasons.{EnvReason, reason_of, counter_full, unless, Edits}
 use Rattle.environment.specs.declared.fault.EnvFault.{EnvFault}
 use Rattle.environment.specs.declared.fault.EnvFault.TheVariants.{OutOfMemory}
-use Rattle.pathstate.specs.declared.path_texts.PathTexts.{PathTexts}
-use Rattle.pathstate.specs.declared.paths.End.{End}
+use Rattle.pathstate.specs.declared.texts.PathTexts.{PathTexts}
+use Rattle.pathstate.specs.declared.edits.End.{End}
 
 -- the state of the two texts that were looked up
 pub looked_up : (e : Environment) (name share : Text) (delim : ℕ) (t u : Option Text) → t ≡ lookup e name → u ≡ lookup e share → share ≡ share_name name → state_of delim t u ≡ path_in e name delim

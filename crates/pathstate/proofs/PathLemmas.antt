@@ -10,8 +10,8 @@ use Rattle.environment.specs.Fields.{without}
 use Rattle.pathstate.specs.Paths.{PathState, IsPathState, placed, counted_up, counted_down, add, drop, add_front, add_back, add_all, drop_all}
 use Rattle.pathstate.specs.PathRuns.{StateEdit, after, adds, drops, live, EachDropUndoes, PathStands}
 use Rattle.pathstate.specs.PathRuns.StateEdit.{Add, Drop}
-use Rattle.pathstate.specs.declared.paths.End.{End}
-use Rattle.pathstate.specs.declared.paths.End.TheVariants.{Front, Back}
+use Rattle.pathstate.specs.declared.edits.End.{End}
+use Rattle.pathstate.specs.declared.edits.End.TheVariants.{Front, Back}
 use Rattle.environment.proofs.TextLemmas.{same_text, bytes_eq-same, has-push, has-without, filter-without}
 
 has-placed : (xs : List Text) (x y : Text) (end : End) → has y (placed xs x end) ≡ (bytes_eq y x || has y xs)

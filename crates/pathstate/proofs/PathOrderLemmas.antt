@@ -15,8 +15,8 @@ use Rattle.pathstate.specs.PathTexts.{is_delimiter, IsUnparted, IsWritable, stat
 use Rattle.pathstate.specs.PathVariables.{path_in, with_path, is_element, counters_fit, path_reason, added_path, dropped_path, written_path}
 use Rattle.pathstate.specs.PathOrder.{IsPathInOrder, LeavesPath}
 use Rattle.environment.specs.Reasons.{EnvReason, unless, counter_full, bad_value}
-use Rattle.pathstate.specs.declared.paths.End.{End}
-use Rattle.pathstate.specs.declared.paths.End.TheVariants.{Front, Back}
+use Rattle.pathstate.specs.declared.edits.End.{End}
+use Rattle.pathstate.specs.declared.edits.End.TheVariants.{Front, Back}
 use Rattle.environment.proofs.TextLemmas.{same_text, bytes_eq-same}
 use Rattle.environment.proofs.EnvLemmas.{lookup-with_value}
 use Rattle.pathstate.proofs.PathLemmas.{IsPathState-add, IsPathState-drop}

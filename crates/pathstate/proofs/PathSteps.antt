@@ -23,8 +23,8 @@ use Rattle.pathstate.specs.PathEdits.{IsFull}
 use Rattle.environment.specs.Reasons.{EnvReason, reason_of, counter_full}
 use Rattle.environment.specs.declared.fault.EnvFault.{EnvFault}
 use Rattle.pathstate.specs.Tables.{Table, counter_in, count_in, one_each, noted_over, stated, IsTable, HaveSame, raised, lowered, with_other, kept}
-use Rattle.pathstate.specs.declared.paths.End.{End}
-use Rattle.pathstate.specs.declared.paths.End.TheVariants.{Front, Back}
+use Rattle.pathstate.specs.declared.edits.End.{End}
+use Rattle.pathstate.specs.declared.edits.End.TheVariants.{Front, Back}
 use Rattle.environment.proofs.TextLemmas.{same_text, bytes_eq-same, bytes_eq-symmetric}
 use Rattle.pathstate.proofs.PathLemmas.{same_state, has-added_if}
 use Rattle.pathstate.proofs.Readable.{IsWritable-state_beside}

@@ -7,7 +7,7 @@ use Rattle.std.proofs.Math.ListN.{length}
 use Rattle.std.proofs.lemmas.Bool.Decides.{nat_tests}
 use Rattle.std.proofs.lemmas.Map.Views.{any-filter_same}
 use Rattle.environment.specs.Texts.{Text, has}
-use Rattle.environment.specs.Fields.{joined, text_of, firsts}
+use Rattle.environment.specs.Fields.{joined, text_of_elements, firsts}
 use Rattle.environment.specs.Escapes.{is_special, escaped, unescaped_fields}
 use Rattle.environment.proofs.EscapeLemmas.{plain_element, special_element, colon_element}
 use Rattle.pathstate.specs.Paths.{PathState, most}
@@ -90,10 +90,10 @@ counter-fields s (w ∷ ws) fit =
     ap (λ (l : List Text). escaped w ∷ decimal (s.counter w) ∷ l) (counter-fields s ws fit)
     ∙ ap (λ (d : Text). escaped w ∷ d ∷ map escaped (bare_fields s ws)) (sym (escaped-decimal (s.counter w) (let f : s.counter w ≤ most = fit w in omega arith)))
 
-pairs-text : (s : PathState) (ws : List Text) → ((x : Text) → s.counter x ≤ most) → pairs_of (text_of (counter_fields s ws)) ≡ map (pair_of s) ws
+pairs-text : (s : PathState) (ws : List Text) → ((x : Text) → s.counter x ≤ most) → pairs_of (text_of_elements (counter_fields s ws)) ≡ map (pair_of s) ws
 pairs-text s [] fit = refl
 pairs-text s (w ∷ ws) fit =
-    ap (λ (fs : List Text). pairs_of (text_of fs)) (counter-fields s (w ∷ ws) fit)
+    ap (λ (fs : List Text). pairs_of (text_of_elements fs)) (counter-fields s (w ∷ ws) fit)
     ∙ ap paired (fields-escaped w (decimal (s.counter w) ∷ bare_fields s ws)) ∙ paired-fields s (w ∷ ws)
 
 kept_one : (d : ℕ) (b : Bool) (x : Text) (xs : List Text) → IsUnparted d x → AllByRecursion (IsUnparted d) xs → AllByRecursion (IsUnparted d) (cond b (x ∷ xs) xs)

@@ -13,7 +13,7 @@ use Rattle.std.proofs.lemmas.Bool.Decides.{nat_tests}
 use Rattle.std.proofs.lemmas.Str.{encode_ascii}
 use Rattle.indexmap.specs.IndexMap.{IndexMap, values}
 use Rattle.environment.specs.Texts.{Text, shown}
-use Rattle.environment.specs.Fields.{joined, text_of, without, firsts}
+use Rattle.environment.specs.Fields.{joined, text_of_elements, without, firsts}
 use Rattle.environment.specs.Escapes.{escaped}
 use Rattle.pathstate.specs.PathTexts.{is_lone_empty, counter_fields, pairs_text}
 use Rattle.pathstate.specs.Tables.{Table, counter_in, count_in, stated, pair_fields, parted_from, unless_empty}
@@ -29,7 +29,7 @@ two_fields : (f : Text) (fs : List Text) (x d : Text) → joined (f ∷ (fs ++ (
 two_fields f [] x d = refl
 two_fields f (g ∷ gs) x d = ap (λ (l : Text). f ++ 58 ∷ l) (two_fields g gs x d)
 
-two : (fs : List Text) (x d : Text) → text_of (fs ++ (x ++ 58 ∷ d) ∷ []) ≡ text_of (fs ++ x ∷ d ∷ [])
+two : (fs : List Text) (x d : Text) → text_of_elements (fs ++ (x ++ 58 ∷ d) ∷ []) ≡ text_of_elements (fs ++ x ∷ d ∷ [])
 two [] x d = refl
 two (f ∷ fs) x d = ap Some (two_fields f fs x d)
 
@@ -37,7 +37,7 @@ filled : (x y : Text) → unless_empty (x ++ 58 ∷ y) ≡ Some (x ++ 58 ∷ y)
 filled [] y = refl
 filled (b ∷ bs) y = refl
 
-pushed_behind : (old new x d : Text) (fs : List Text) → unless_empty old ≡ text_of fs → new ≡ parted_from old ++ (x ++ 58 ∷ d) → unless_empty new ≡ text_of (fs ++ x ∷ d ∷ [])
+pushed_behind : (old new x d : Text) (fs : List Text) → unless_empty old ≡ text_of_elements fs → new ≡ parted_from old ++ (x ++ 58 ∷ d) → unless_empty new ≡ text_of_elements (fs ++ x ∷ d ∷ [])
 pushed_behind [] new x d [] e h = ap unless_empty h ∙ filled x d
 pushed_behind [] new x d (f ∷ fs) e h = cc
 pushed_behind (b ∷ bs) new x d [] e h = cc
@@ -47,12 +47,12 @@ pushed_behind (b ∷ bs) new x d (f ∷ fs) e h =
     ∙ ap (λ (l : Text). Some (l ++ 58 ∷ (x ++ 58 ∷ d))) same ∙ ap Some (sym (joined-push f fs (x ++ 58 ∷ d))) ∙ two (f ∷ fs) x d
 
 -- the pair of an element behind others, where its counter is written
-pub pair-pushed : (old parted new element : Text) (fs : List Text) (count : ℕ) → 2 ≤ count → parted ≡ parted_from old → new ≡ parted ++ (escaped element ++ 58 ∷ decimal count) → unless_empty old ≡ text_of fs
-    → unless_empty new ≡ text_of (fs ++ pair_fields (λ x. count) element)
+pub pair-pushed : (old parted new element : Text) (fs : List Text) (count : ℕ) → 2 ≤ count → parted ≡ parted_from old → new ≡ parted ++ (escaped element ++ 58 ∷ decimal count) → unless_empty old ≡ text_of_elements fs
+    → unless_empty new ≡ text_of_elements (fs ++ pair_fields (λ x. count) element)
 pair-pushed old parted new element fs count l p h e =
     let b : leb 2 count ≡ true = grind (arith, nat_tests) in
     pushed_behind old new (escaped element) (decimal count) fs e (h ∙ ap (λ (t : Text). t ++ (escaped element ++ 58 ∷ decimal count)) p)
-    ∙ ap (λ (c : Bool). text_of (fs ++ cond c (escaped element ∷ decimal count ∷ []) [])) (sym b)
+    ∙ ap (λ (c : Bool). text_of_elements (fs ++ cond c (escaped element ∷ decimal count ∷ []) [])) (sym b)
 
 -- a text behind which a field is put
 pub parted-text : (text : Text) → length text ≢ 0 → text ++ encode_utf8 58 ≡ parted_from text
@@ -62,9 +62,9 @@ parted-text (b ∷ bs) h = ap (λ (l : Text). (b ∷ bs) ++ l) (encode_ascii 58 
 -- one element after another
 
 -- an element that is written once has the counter 1 from then on
-left : (b : Bool) (o : Option ℕ) → b ≡ true → unwrap_or (cond b (Some 1) o) 0 ≡ 1
-left true o e = refl
-left false o e = absurd (false≢true e)
+one_or_none : (b : Bool) (o : Option ℕ) → b ≡ true → unwrap_or (cond b (Some 1) o) 0 ≡ 1
+one_or_none true o e = refl
+one_or_none false o e = absurd (false≢true e)
 
 other : (b : Bool) (o : Option ℕ) → b ≡ false → unwrap_or (cond b (Some 1) o) 0 ≡ unwrap_or o 0
 other true o e = absurd (false≢true (sym e))
@@ -73,7 +73,7 @@ other false o e = refl
 pairs_at : (m n : Table) (x y : Text) (ys : List Text) (b : Bool) → bytes_eq y x ≡ b → ((z : Text) → n z ≡ cond (bytes_eq z x) (Some 1) (m z)) → flat_map (pair_fields (count_in n)) ys ≡ flat_map (pair_fields (count_in m)) (without x ys)
     → pair_fields (count_in n) y ++ flat_map (pair_fields (count_in n)) ys ≡ flat_map (pair_fields (count_in m)) (cond (not b) (y ∷ without x ys) (without x ys))
 pairs_at m n x y ys true e f h =
-    let one : count_in n y ≡ 1 = ap (λ (o : Option ℕ). unwrap_or o 0) (f y) ∙ left (bytes_eq y x) (m y) e in
+    let one : count_in n y ≡ 1 = ap (λ (o : Option ℕ). unwrap_or o 0) (f y) ∙ one_or_none (bytes_eq y x) (m y) e in
     ap (λ (c : ℕ). cond (leb 2 c) (escaped y ∷ decimal c ∷ []) [] ++ flat_map (pair_fields (count_in n)) ys) one ∙ h
 pairs_at m n x y ys false e f h =
     let same : count_in n y ≡ count_in m y = ap (λ (o : Option ℕ). unwrap_or o 0) (f y) ∙ other (bytes_eq y x) (m y) e in
@@ -96,9 +96,9 @@ counted_turn m n fs (y ∷ ys) d all count l f c h =
     ∙ h
 
 pub counts_turn : (m n : Table) (o p : Option Text) (rest : List (Bor Text)) (d : Bor Text) (all : List Text) (count : ℕ) → 1 ≤ length rest → ((z : Text) → n z ≡ cond (bytes_eq z (get_or rest 0 d).now) (Some 1) (m z))
-    → count ≡ count_in m (get_or rest 0 d).now → ((fs : List Text) → o ≡ text_of fs → p ≡ text_of (fs ++ pair_fields (λ x. count) (get_or rest 0 d).now))
-    → (fs : List Text) × (o ≡ text_of fs) × (fs ++ flat_map (pair_fields (count_in m)) (firsts (shown rest)) ≡ all)
-    → (fs : List Text) × (p ≡ text_of fs) × (fs ++ flat_map (pair_fields (count_in n)) (firsts (shown (take (length rest - 1) (cut 1 rest)))) ≡ all)
+    → count ≡ count_in m (get_or rest 0 d).now → ((fs : List Text) → o ≡ text_of_elements fs → p ≡ text_of_elements (fs ++ pair_fields (λ x. count) (get_or rest 0 d).now))
+    → (fs : List Text) × (o ≡ text_of_elements fs) × (fs ++ flat_map (pair_fields (count_in m)) (firsts (shown rest)) ≡ all)
+    → (fs : List Text) × (p ≡ text_of_elements fs) × (fs ++ flat_map (pair_fields (count_in n)) (firsts (shown (take (length rest - 1) (cut 1 rest)))) ≡ all)
 counts_turn m n o p rest d all count l f c w h = (h.0 ++ pair_fields (λ x. count) (get_or rest 0 d).now, w h.0 h.1, counted_turn m n h.0 rest d all count l f c h.2)
 
 -- the fields that are written
@@ -123,8 +123,8 @@ counts_written xs table lone (f ∷ fs) e =
     ∙ ap (λ (b : Bool). counter_fields (stated xs table) (cond b (f ∷ filter (λ x. leb 2 (count_in table x) || lone) fs) (filter (λ x. leb 2 (count_in table x) || lone) fs))) (or_none (leb 2 (count_in table f)) ∙ ap (λ (b : Bool). leb 2 (count_in table f) || b) (sym e))
 
 pub pairs_written : {A E : Type 0} (r : Result (Option (String A)) E) (xs : List Text) (table : Table) (lone : Bool) → lone ≡ is_lone_empty xs → lone ≡ false
-    → IfOk r (λ t. option_map string_bytes t ≡ text_of (flat_map (pair_fields (count_in table)) (firsts xs))) → IfOk r (λ t. option_map string_bytes t ≡ pairs_text (stated xs table))
-pairs_written (Ok t) xs table lone l e h = h ∙ ap text_of (counts_written xs table (is_lone_empty xs) (firsts xs) (sym l ∙ e))
+    → IfOk r (λ t. option_map string_bytes t ≡ text_of_elements (flat_map (pair_fields (count_in table)) (firsts xs))) → IfOk r (λ t. option_map string_bytes t ≡ pairs_text (stated xs table))
+pairs_written (Ok t) xs table lone l e h = h ∙ ap text_of_elements (counts_written xs table (is_lone_empty xs) (firsts xs) (sym l ∙ e))
 pairs_written (Err x) xs table lone l e h = h
 
 -- where no counter is two or more, none is written
@@ -148,4 +148,4 @@ looked test (e ∷ es) h = looked_at (test e.0) e.1 (maps.lookup test es) (or_le
 pub none_repeated : {S : Type 0} (m : IndexMap (Bor Text) ℕ S) (xs : List Text) (lone b : Bool) → b ≡ list_any (λ n. leb 2 n) (values m) → b ≡ false → lone ≡ is_lone_empty xs → lone ≡ false → None ≡ pairs_text (stated xs (counter_in m))
 none_repeated m xs lone true e h l f = absurd (false≢true (sym h))
 none_repeated m xs lone false e h l f =
-    ap text_of (sym (no_pairs (counter_in m) (firsts xs) (λ x. looked (λ k. bytes_eq x k.now) m.entries (sym e))) ∙ counts_written xs (counter_in m) (is_lone_empty xs) (firsts xs) (sym l ∙ f))
+    ap text_of_elements (sym (no_pairs (counter_in m) (firsts xs) (λ x. looked (λ k. bytes_eq x k.now) m.entries (sym e))) ∙ counts_written xs (counter_in m) (is_lone_empty xs) (firsts xs) (sym l ∙ f))

@@ -1,4 +1,4 @@
--- The counters that a text spells.
+-- How a counter of a path variable's element is spelled (module(1), __MODULES_SHARE_<VAR>; no leading zeros: own).
 use Rattle.std.specs.Prelude.{◌≡◌, ℕ, ◌≤◌, Bool, ◌&&◌, bytes_eq, nat_le, if◌then◌else◌, Option, Some, None, decimal}
 use Rattle.std.specs.Str.Parse.{digits_value}
 use Rattle.environment.specs.Texts.{Text}
@@ -14,7 +14,7 @@ counter_of t =
     if is_counter (digits_value 10 t) && bytes_eq t (decimal (digits_value 10 t)) then Some
     (digits_value 10 t) else None
 
--- the text is the decimal of the number, which is one from 1 to the largest
+-- the text is the decimal of the number, which is from 1 to the largest counter
 pub record SpellsCounter (t : Text) (n : ℕ) : Type 0 where
   pub low : 1 ≤ n
   pub high : n ≤ most

@@ -1,4 +1,4 @@
--- What the parts of an edit of a path variable come to.
+-- For the contracts of private functions: the results of the parts of an edit of a path variable.
 use Rattle.std.specs.Prelude.{◌≡◌, ℕ, true, false, string_bytes, Result, Ok, Err, IfSome}
 use Rattle.std.specs.Option.{option_map}
 use Rattle.environment.specs.Texts.{Text}
@@ -7,18 +7,18 @@ use Rattle.environment.specs.declared.fault.EnvFault.{EnvFault}
 use Rattle.pathstate.specs.Paths.{PathState}
 use Rattle.pathstate.specs.PathTexts.{elements_text, pairs_text}
 use Rattle.pathstate.specs.PathVariables.{counters_fit}
-use Rattle.pathstate.specs.declared.path_texts.PathTexts.{PathTexts}
+use Rattle.pathstate.specs.declared.texts.PathTexts.{PathTexts}
 
--- the texts of the variable, parted by the delimiter, and of its counters are those of the state
+-- the texts of the variable, with this delimiter, and of its counters are those that the state is written as
 pub record AreTexts (texts : PathTexts) (delim : ℕ) (s : PathState) : Type 0 where
   pub elements : option_map string_bytes texts.elements ≡ elements_text delim s.elements
   pub counters : option_map string_bytes texts.counters ≡ pairs_text s
 
--- the fault is want of memory, or that a counter of the state is past the largest
+-- the error is want of memory, or that a counter of the state is past the largest
 abbrev pub IsFull : EnvFault → Text → PathState → Type 0
 IsFull e name s = IfSome (reason_of e) (λ r. (r ≡ counter_full name) × (counters_fit s ≡ false))
 
--- the state's texts where its counters fit, and else that one is full
+-- the result is the state's texts where its counters fit, else the error that one is full
 abbrev pub IsWrittenOr : Result PathTexts EnvFault → Text → ℕ → PathState → Type 0
 IsWrittenOr (Ok texts) name delim s = (counters_fit s ≡ true) × AreTexts texts delim s
 IsWrittenOr (Err e) name delim s = IsFull e name s

@@ -1,4 +1,4 @@
--- Path variables in order: their texts are just what their state is written as.
+-- Path variables in order: their texts are those that the state read from them is written as (own).
 use Rattle.std.specs.Prelude.{◌≡◌, ℕ, false, bytes_eq}
 use Rattle.environment.specs.Texts.{Text}
 use Rattle.environment.specs.Names.{share_name}
@@ -7,12 +7,12 @@ use Rattle.pathstate.specs.Paths.{PathState}
 use Rattle.pathstate.specs.PathTexts.{elements_text, pairs_text}
 use Rattle.pathstate.specs.PathVariables.{path_in}
 
--- the variable, parted by the delimiter, and its counters are as writing their state leaves them
+-- the texts of the variable, with this delimiter, and of its counters are those that their state is written as
 pub record IsPathInOrder (e : Environment) (name : Text) (delim : ℕ) : Type 0 where
   pub elements : lookup e name ≡ elements_text delim (path_in e name delim).elements
   pub counters : lookup e (share_name name) ≡ pairs_text (path_in e name delim)
 
--- what an accepted edit leaves: the state in the variable, in order, and every other variable as it was
+-- after an accepted edit the variable has the state and is in order, and every other variable is unchanged
 pub record LeavesPath (old new : Environment) (name : Text) (delim : ℕ) (s : PathState) : Type 0 where
   pub state : path_in new name delim ≡ s
   pub order : IsPathInOrder new name delim

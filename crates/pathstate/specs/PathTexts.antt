@@ -1,22 +1,23 @@
--- The two texts of a path variable: what state they say, and which texts a state is written as.
+-- The two texts of a path variable: which state is read from them, and as which texts a state is written (module(1),
+-- __MODULES_SHARE_<VAR>; modulefile(5), prepend-path).
 use Rattle.std.specs.Prelude.{◌≡◌, ℕ, Bool, false, ◌&&◌, ◌||◌, List, [], ◌∷◌, length, filter, flat_map, bytes_eq, nat_le, ◌==◌, if◌then◌else◌, Option, Some, None, is_some, unwrap_or, decimal}
 use Rattle.std.specs.List.{slice_split, join_with_byte, list_any, AllByRecursion}
 use Rattle.std.specs.Option.{option_or}
 use Rattle.environment.specs.Texts.{Text, has}
-use Rattle.environment.specs.Fields.{text_of, firsts}
+use Rattle.environment.specs.Fields.{text_of_elements, firsts}
 use Rattle.environment.specs.Escapes.{escaped, unescaped_fields}
 use Rattle.pathstate.specs.Paths.{PathState, IsPathState, CountersFit}
 use Rattle.pathstate.specs.Counters.{counter_of}
 
--- what parts the elements: a character from the space to the tilde
+-- a character that can separate elements: one from the space to the tilde
 abbrev pub is_delimiter : ℕ → Bool
 is_delimiter c = nat_le 32 c && nat_le c 126
 
--- the parts of a text between its delimiters
+-- the elements of a text between its delimiters
 abbrev pub parted : ℕ → Text → List Text
 parted delim t = slice_split (λ b. b == delim) t
 
--- fields in twos; a last field alone is left out
+-- the fields in pairs; a last field without a partner is passed over
 abbrev pub paired : List Text → List (Text × Text)
 paired [] = []
 paired (x ∷ []) = []
@@ -27,41 +28,41 @@ abbrev pub counted : Text → List (Text × Text) → Option ℕ
 counted x [] = None
 counted x (p ∷ ps) = option_or (if bytes_eq x p.0 then counter_of p.1 else None) (counted x ps)
 
--- the pairs that a text of counters says, none where it is unset
+-- the pairs of element and counter in the text of the counters; none where it is unset
 abbrev pub pairs_of : Option Text → List (Text × Text)
 pairs_of None = []
 pairs_of (Some u) = paired (unescaped_fields u)
 
--- an empty text is one empty element where that is counted, else no element
+-- the elements of a text; an empty text is one empty element where the pairs count that element, else no element
 abbrev pub elements_of : ℕ → Option Text → List (Text × Text) → List Text
 elements_of delim None pairs = []
 elements_of delim (Some []) pairs = if is_some (counted [] pairs) then [] ∷ [] else []
 elements_of delim (Some (b ∷ bs)) pairs = parted delim (b ∷ bs)
 
--- the elements with the counters that are noted for them, and 1 where none is
+-- the elements with the counters that the pairs have for them, and 1 where they have none
 abbrev pub state_from : List Text → List (Text × Text) → PathState
 state_from xs pairs = record { elements = xs; counter = λ x. if has x xs then unwrap_or (counted x pairs) 1 else 0 }
 
--- the state that the variable's text says beside these pairs
+-- the state that is read from the variable's text and the pairs of its counters
 abbrev pub state_beside : ℕ → Option Text → List (Text × Text) → PathState
 state_beside delim t pairs = state_from (elements_of delim t pairs) pairs
 
--- the state that the two texts say
+-- the state that is read from the two texts
 abbrev pub state_of : ℕ → Option Text → Option Text → PathState
 state_of delim t u = state_beside delim t (pairs_of u)
 
--- the elements with the delimiter between them; no element unsets the variable
+-- the text of the elements, with the delimiter between them; the empty list unsets the variable
 abbrev pub elements_text : ℕ → List Text → Option Text
 elements_text delim [] = None
 elements_text delim (x ∷ xs) = Some (join_with_byte delim (x ∷ xs))
 
--- one empty element alone
+-- the empty element is the only one
 abbrev pub is_lone_empty : List Text → Bool
 is_lone_empty [] = false
 is_lone_empty (x ∷ []) = length x == 0
 is_lone_empty (x ∷ y ∷ ys) = false
 
--- the elements whose counters are written: those that are counted twice or more, and an empty one alone
+-- the elements whose counters are written: those with a counter of two or more, and an empty one that is the only one
 abbrev pub written : PathState → List Text
 written s = filter (λ x. nat_le 2 (s.counter x) || is_lone_empty s.elements) (firsts s.elements)
 
@@ -69,15 +70,15 @@ written s = filter (λ x. nat_le 2 (s.counter x) || is_lone_empty s.elements) (f
 abbrev pub counter_fields : PathState → List Text → List Text
 counter_fields s xs = flat_map (λ x. escaped x ∷ decimal (s.counter x) ∷ []) xs
 
--- the text of the counters, none where no counter is written
+-- the text of the counters; none, which unsets its variable, where no counter is written
 abbrev pub pairs_text : PathState → Option Text
-pairs_text s = text_of (counter_fields s (written s))
+pairs_text s = text_of_elements (counter_fields s (written s))
 
 -- a text without the delimiter
 abbrev pub IsUnparted : ℕ → Text → Type 0
 IsUnparted delim x = list_any (λ b. b == delim) x ≡ false
 
--- what the two texts can say
+-- a state that two texts can be read as
 pub record IsWritable (delim : ℕ) (s : PathState) : Type 0 where
   pub valid : IsPathState s
   pub fit : CountersFit s

@@ -1,11 +1,12 @@
--- The state of a path variable, and what adding and dropping make of it.
+-- The state of a path variable, and what adding and dropping elements make of it (modulefile(5): prepend-path,
+-- append-path, remove-path; module(1): path entries with a reference count).
 use Rattle.std.specs.Prelude.{◌≡◌, ℕ, ◌+◌, ◌-◌, ◌≤◌, List, [], ◌∷◌, ◌++◌, bytes_eq, nat_lt, nat_le, if◌then◌else◌}
 use Rattle.environment.specs.Texts.{Text, has}
 use Rattle.environment.specs.Fields.{without}
-use Rattle.pathstate.specs.declared.paths.End.{End}
-use Rattle.pathstate.specs.declared.paths.End.TheVariants.{Front, Back}
+use Rattle.pathstate.specs.declared.edits.End.{End}
+use Rattle.pathstate.specs.declared.edits.End.TheVariants.{Front, Back}
 
--- the elements in order, and how often each is counted (0 where it is not in the list)
+-- the elements in order, and the counter of each element (0 where it isn't in the list)
 pub record PathState : Type 0 where
   pub elements : List Text
   pub counter : Text → ℕ
@@ -22,19 +23,20 @@ most = 4294967295
 abbrev pub CountersFit : PathState → Type 0
 CountersFit s = (x : Text) → s.counter x ≤ most
 
--- the element at that end
+-- the list with the element at that end
 abbrev pub placed : List Text → Text → End → List Text
 placed xs x Front = x ∷ xs
 placed xs x Back = xs ++ x ∷ []
 
--- one more of x, and one fewer
+-- the counters with that of x one higher
 abbrev pub counted_up : (Text → ℕ) → Text → Text → ℕ
 counted_up counter x y = counter y + (if bytes_eq y x then 1 else 0)
 
+-- the counters with that of x one lower, and 0 where it is 0
 abbrev pub counted_down : (Text → ℕ) → Text → Text → ℕ
 counted_down counter x y = counter y - (if bytes_eq y x then 1 else 0)
 
--- an element that is there is counted once more; another goes to the end
+-- the counter of the element rises by one; an element that isn't in the list is put at that end
 abbrev pub add : PathState → Text → End → PathState
 add s x end =
     record {
@@ -42,7 +44,7 @@ add s x end =
       counter = counted_up s.counter x;
     }
 
--- an element is counted once less, and leaves the list at 0; one that isn't there changes nothing
+-- the counter of the element falls by one, and at 0 the element leaves the list; one that isn't there changes nothing
 abbrev pub drop : PathState → Text → PathState
 drop s x =
     record {
@@ -50,22 +52,22 @@ drop s x =
       counter = counted_down s.counter x;
     }
 
--- several at the front, the last of them first
+-- elements added at the front, the last of them first
 abbrev pub add_front : PathState → List Text → PathState
 add_front s [] = s
 add_front s (x ∷ xs) = add (add_front s xs) x Front
 
--- several at the back, the first of them first
+-- elements added at the back, the first of them first
 abbrev pub add_back : PathState → List Text → PathState
 add_back s [] = s
 add_back s (x ∷ xs) = add_back (add s x Back) xs
 
--- several at an end
+-- elements added at an end
 abbrev pub add_all : PathState → List Text → End → PathState
 add_all s xs Front = add_front s xs
 add_all s xs Back = add_back s xs
 
--- several, the first of them first
+-- elements dropped, the first of them first
 abbrev pub drop_all : PathState → List Text → PathState
 drop_all s [] = s
 drop_all s (x ∷ xs) = drop_all (drop s x) xs

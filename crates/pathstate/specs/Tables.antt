@@ -1,4 +1,4 @@
--- Tables of counters, and the path states that they stand for beside a list of elements.
+-- For the contracts of private functions: tables of counters, and the path state of a list of elements with a table.
 use Rattle.std.specs.Prelude.{◌≡◌, ℕ, ◌+◌, ◌-◌, List, [], ◌∷◌, ◌++◌, filter, bytes_eq, nat_le, if◌then◌else◌, Option, Some, None, is_some, unwrap_or, decimal}
 use Rattle.std.specs.Borrow.{Bor}
 use Rattle.indexmap.specs.IndexMap.{IndexMap, get_by}
@@ -9,15 +9,15 @@ use Rattle.std.specs.Option.{option_map}
 use Rattle.pathstate.specs.Paths.{PathState}
 use Rattle.pathstate.specs.PathTexts.{counted}
 
--- a counter for some elements
+-- a table: a counter, or none, for each text
 abbrev pub Table : Type 0
 Table = Text → Option ℕ
 
--- the counters that a map of the code has
+-- the table of a map of the code
 abbrev pub counter_in : {S : Type 0} → IndexMap (Bor Text) ℕ S → Table
 counter_in m x = get_by (λ k. bytes_eq x k.now) m
 
--- 0 where there is none
+-- the counter in a table, 0 where there is none
 abbrev pub count_in : Table → Text → ℕ
 count_in table x = unwrap_or (table x) 0
 
@@ -25,11 +25,11 @@ count_in table x = unwrap_or (table x) 0
 abbrev pub one_each : List Text → Table
 one_each xs x = if has x xs then Some 1 else None
 
--- the counters, with those of the pairs noted over them, of which the first counts
+-- the table in which each counter is replaced by that of the first pair of its element, if there is one
 abbrev pub noted_over : List (Text × Text) → Table → Table
 noted_over pairs table x = option_map (λ k. unwrap_or (counted x pairs) k) (table x)
 
--- a list of elements, with the counters of a table
+-- the path state of these elements with the counters of a table
 abbrev pub stated : List Text → Table → PathState
 stated xs table = record { elements = xs; counter = λ x. count_in table x }
 
@@ -37,37 +37,37 @@ stated xs table = record { elements = xs; counter = λ x. count_in table x }
 abbrev pub IsTable : List Text → Table → Type 0
 IsTable xs table = (x : Text) → is_some (table x) ≡ has x xs
 
--- two tables have counters of the same elements
+-- two tables have counters for the same elements
 abbrev pub HaveSame : Table → Table → Type 0
 HaveSame old new = (x : Text) → is_some (new x) ≡ is_some (old x)
 
--- one more of x
+-- the table with the counter of x one higher
 abbrev pub raised : Table → Text → Table
 raised table x y = if bytes_eq y x then Some (count_in table x + 1) else table y
 
--- one fewer of x, and at 0 none
+-- the table with the counter of x one lower, and none at 0
 abbrev pub lowered : Table → Text → Table
 lowered table x y =
     if bytes_eq y x then (if nat_le (count_in table x) 1 then None else Some (count_in table x - 1)) else table y
 
--- the element behind the list, unless the table has it
+-- the list with the element at its end, unless the table has it
 abbrev pub with_other : List Text → Table → Text → List Text
 with_other xs table x = if is_some (table x) then xs else xs ++ x ∷ []
 
--- the elements that the table has
+-- the elements that the table has a counter for
 abbrev pub kept : List Text → Table → List Text
 kept xs table = filter (λ x. is_some (table x)) xs
 
--- the pair of one element, where its counter is two or more
+-- the pair of an element and its counter as two fields, where the counter is two or more
 abbrev pub pair_fields : (Text → ℕ) → Text → List Text
 pair_fields count x = if nat_le 2 (count x) then escaped x ∷ decimal (count x) ∷ [] else []
 
--- a text that a further field can be put behind
+-- a text to which a further field can be appended: with a colon at its end, unless it is empty
 abbrev pub parted_from : Text → Text
 parted_from [] = []
 parted_from (b ∷ bs) = b ∷ bs ++ colon ∷ []
 
--- a text, or none where it is empty
+-- the text; none where it is empty
 abbrev pub unless_empty : Text → Option Text
 unless_empty [] = None
 unless_empty (b ∷ bs) = Some (b ∷ bs)

@@ -1,13 +1,13 @@
-//! Counters of elements.
+//! The counters of a path variable's elements, and how one is read from a text.
 ghost use Rattle.std.specs.Prelude.{◌≡◌, ◌&&◌, nat_le, slice_index};
 ghost use Rattle.pathstate.specs.Counters.{counter_of};
 
 use indexmap::IndexMap;
 
-/// A counter for each of some elements.
+/// How often each element was added, from 1 to 4294967295.
 pub(crate) type Counters<'a> = IndexMap<&'a str, u32>;
 
-/// Whether the text begins with a digit other than 0.
+/// Whether the text begins with a digit from 1 to 9, as a counter without leading zeros does.
 fn begins_as_counter(text: &str) -> bool
     ensures { result ≡ (nat_le 49 (slice_index text.now 0) && nat_le (slice_index text.now 0) 57) }
 {
@@ -17,7 +17,7 @@ fn begins_as_counter(text: &str) -> bool
     }
 }
 
-/// The counter that a text spells.
+/// The counter that the text spells in decimal, without leading zeros; none where it spells none.
 pub(crate) fn counter_of(text: &str) -> Option<u32>
     ensures { result ≡ counter_of text.now }
 {

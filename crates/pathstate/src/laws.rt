@@ -1,18 +1,19 @@
-//! Laws about the definitions alone. Each is a function that does nothing: its contract is the law.
+//! Laws of path variables: runs of adds and drops, and texts that are read again. Each is a function that does nothing:
+//! its contract is the law, about the definitions alone.
 ghost use Rattle.std.specs.Prelude.{◌≡◌, ◌↔◌, ℕ, List, Option, Some, Ok, true};
 ghost use Rattle.std.specs.List.{list_all};
 ghost use Rattle.environment.specs.Texts.{Text};
 ghost use Rattle.environment.specs.Environment.{Environment};
 ghost use Rattle.pathstate.specs.Counters.{counter_of, SpellsCounter};
 ghost use Rattle.pathstate.specs.Paths.{PathState, IsPathState, add_all, drop_all};
-ghost use Rattle.pathstate.specs.PathRuns.{StateEdit, after, live, none, more, fewer, AreLive, EachDropUndoes, PathStands};
+ghost use Rattle.pathstate.specs.PathRuns.{StateEdit, after, live, none_live, more_live, fewer_live, AreLive, EachDropUndoes, PathStands};
 ghost use Rattle.pathstate.specs.PathTexts.{IsWritable, state_of, elements_text, pairs_text};
 ghost use Rattle.pathstate.specs.PathVariables.{path_in, added_path, dropped_path, is_element, counters_fit};
 ghost use Rattle.pathstate.specs.PathOrder.{LeavesPath};
-ghost use Rattle.pathstate.specs.declared.paths.End.{End};
+ghost use Rattle.pathstate.specs.declared.edits.End.{End};
 
-/// After any adds, and drops that each undo one of them, what was there before stands as it was,
-/// and what is live is counted on top of it. Where nothing is live, it is what was there before.
+/// After any adds, and drops that each undo one of them, the elements of the start are there in their order, and the
+/// live adds, those that no drop has undone, are counted on top of them. Where no add is live, it is the start.
 pub fn paths()
     ensures stands { (start : PathState) (edits : List StateEdit) → IsPathState start → EachDropUndoes edits
         → PathStands start (live edits) (after edits start) }
@@ -20,15 +21,15 @@ pub fn paths()
         → ((x : Text) → live edits x ≡ 0) → after edits start ≡ start }
 {}
 
-/// The same, step by step: a start stands over itself, an add keeps what stands, and so does a drop of what is live.
-/// Where nothing is live, what stands is the start.
+/// The law `paths`, step by step: it holds of a start with no live add, and still holds after an add, and after a drop
+/// of elements that are live. Where no add is live, the state is the start.
 pub fn path_steps()
-    ensures start { (start : PathState) → IsPathState start → PathStands start none start }
+    ensures start { (start : PathState) → IsPathState start → PathStands start none_live start }
     ensures add { (start now : PathState) (live : Text → ℕ) (xs : List Text) (end : End)
-        → IsPathState start → PathStands start live now → PathStands start (more live xs) (add_all now xs end) }
+        → IsPathState start → PathStands start live now → PathStands start (more_live live xs) (add_all now xs end) }
     ensures drop { (start now : PathState) (live : Text → ℕ) (xs : List Text)
         → IsPathState start → PathStands start live now → AreLive live xs
-        → PathStands start (fewer live xs) (drop_all now xs) }
+        → PathStands start (fewer_live live xs) (drop_all now xs) }
     ensures restored { (start now : PathState) (live : Text → ℕ)
         → PathStands start live now → ((x : Text) → live x ≡ 0) → now ≡ start }
 {}
@@ -38,8 +39,9 @@ pub fn counters()
     ensures { (t : Text) (n : ℕ) → (counter_of t ≡ Some n) ↔ SpellsCounter t n }
 {}
 
-/// The two texts that a state is written as say that state, and what two texts say can be written. So can what
-/// elements that a path variable can hold are added to, where the counters fit, and what any are dropped from.
+/// The two texts that a state is written as are read as that state, and a state that is read from two texts can be
+/// written. It can still be written after an add of elements that a path variable can hold, where the counters fit, and
+/// after any drop.
 pub fn path_texts()
     ensures read_again { (delim : ℕ) (s : PathState) → IsWritable delim s
         → state_of delim (elements_text delim s.elements) (pairs_text s) ≡ s }
@@ -51,8 +53,8 @@ pub fn path_texts()
         → IsWritable delim (drop_all s xs) }
 {}
 
-/// An accepted edit leaves the path variable with the state that it makes, in order, and every other variable as it
-/// was.
+/// After an accepted edit the path variable has the state that the edit makes, in the texts that this state is written
+/// as, and every other variable is unchanged.
 pub fn path_edits()
     ensures add { (old new : Environment) (name : Text) (delim : ℕ) (xs : List Text) (end : End)
         → added_path old name delim xs end ≡ Ok new

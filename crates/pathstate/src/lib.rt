@@ -1,9 +1,11 @@
-//! Path variables: lists of elements, each with a counter, in two variables of an environment.
+//! Path variables, as PATH is: a list of elements, and how often each was added, in two variables of an environment.
+//! Takes memory; touches the path variable that a call names and the variable of its counters.
+//! Used by envstate, modulerecords, modulefile, modulerun, reversal and modulecmd.
 #![tactic(auto)]
 
 mod counters;
+mod edits;
 pub mod laws;
-mod path_texts;
-mod paths;
+mod texts;
 
-pub use paths::{End, add_path, drop_path};
+pub use edits::{End, add_path, drop_path};

@@ -9,7 +9,7 @@ use Rattle.std.specs.List.{position_or_len, after_first}
 use Rattle.std.specs.Str.{IsUtf8, is_utf8}
 use Rattle.environment.specs.Texts.{Text}
 use Rattle.environment.specs.Environment.{Environment, with_value}
-use Rattle.processinput.specs.Given.{is_equals, name_of, readable, with_entry, with_entries}
+use Rattle.processinput.specs.EnvironmentBlock.{is_equals, name_of, readable, with_entry, with_entries}
 
 pub unreadable : (value : Text) → (IsUtf8 value → ⊥) → readable value ≡ None
 unreadable value h = elim (cases_Bool (is_utf8 value)) [

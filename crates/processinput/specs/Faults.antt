@@ -1,4 +1,4 @@
--- The numbers of what is wrong with arguments or an input, and what each says: as the refusal that it becomes.
+-- The errors of arguments and of an input: their numbers and texts as refusals (own).
 use Rattle.std.specs.Prelude.{ℕ, codes}
 use Rattle.message.specs.Messages.{Text}
 use Rattle.processinput.specs.declared.process.ArgumentsFault.{ArgumentsFault}
@@ -6,19 +6,23 @@ use Rattle.processinput.specs.declared.process.ArgumentsFault.TheVariants.{OutOf
 use Rattle.processinput.specs.declared.input.InputFault.{InputFault}
 use Rattle.processinput.specs.declared.input.InputFault.TheVariants as inputs
 
+-- the number of an error of arguments
 abbrev pub number_of : ArgumentsFault → ℕ
 number_of OutOfMemory = 31
 number_of NotUtf8 = 56
 
+-- the text of an error of arguments
 abbrev pub message_of : ArgumentsFault → Text
 message_of OutOfMemory = codes "Out of memory"
 message_of NotUtf8 = codes "Bad arguments"
 
+-- the number of an error of an input
 abbrev pub input_number : InputFault → ℕ
 input_number inputs.OutOfMemory = 31
 input_number inputs.ReadFailed = 43
 input_number inputs.BadInput = 56
 
+-- the text of an error of an input
 abbrev pub input_message : InputFault → Text
 input_message inputs.OutOfMemory = codes "Out of memory"
 input_message inputs.ReadFailed = codes "Reading failed"

@@ -1,3 +1,3 @@
 pub mod Faults
-pub mod Given
+pub mod EnvironmentBlock
 pub mod Inputs

@@ -1,22 +1,22 @@
-//! The environment that a block of entries says.
+//! An environment from a block of entries, as the system gives it to a process (environ(7)).
 ghost use Rattle.std.specs.Prelude.{◌≡◌, map, length, Some, None, IfOk, IfErr, OnOk, OnErr, nat_lt, if◌then◌else◌};
 ghost use Rattle.std.specs.List.{position_or_len};
 ghost use Rattle.environment.specs.Environment.{with_value};
 ghost use Rattle.environment.specs.declared.fault.EnvFault.TheVariants.{OutOfMemory};
-ghost use Rattle.processinput.specs.Given as given;
-ghost use Rattle.processinput.specs.Given.{with_entry, entries_of, is_equals, readable};
+ghost use Rattle.processinput.specs.EnvironmentBlock as block_specs;
+ghost use Rattle.processinput.specs.EnvironmentBlock.{with_entry, entries_of, is_equals, readable};
 
 use environment::{Env, EnvFault};
 use std::alloc::{AllocError, Global};
 use std::str;
 
-/// The environment that a block of entries `NAME=VALUE` says, each ended by NUL (environ(7)). An entry without `=`, or
-/// without a name in UTF-8 before it, says nothing. Of several for one name the first counts, and its variable is unset
-/// where the value isn't UTF-8.
+/// The environment of a block of entries `NAME=VALUE`, each ended by NUL (environ(7)). An entry without `=`, or without
+/// a name in UTF-8 before it, is passed over. Of several entries for one name the first counts, and its variable is
+/// unset where the value isn't UTF-8.
 ///
-/// Refused as `OutOfMemory` alone.
+/// The only error is `OutOfMemory`.
 pub fn environment_of(alloc: Global, block: &[u8]) -> Result<Env, EnvFault>
-    ensures said { IfOk result (λ env. env ≡ given.environment_of block.now) }
+    ensures ok { IfOk result (λ env. env ≡ block_specs.environment_of block.now) }
     ensures only { IfErr result (λ e. e ≡ OutOfMemory) }
 {
     let mut entries = entries_of(alloc, block)?;
@@ -27,14 +27,14 @@ pub fn environment_of(alloc: Global, block: &[u8]) -> Result<Env, EnvFault>
     Ok(env)
 }
 
-/// The pieces between NULs.
+/// The entries of a block: its parts between NULs.
 fn entries_of(alloc: Global, block: &[u8]) -> Result<Vec<&[u8]>, AllocError>
     ensures { IfOk result (λ v. map (λ x. x.now) v.items ≡ entries_of block.now) }
 {
     block.split(|b| *b == 0).collect(alloc)
 }
 
-/// The place of the first `=`.
+/// The index of the first `=`; none where there is no `=`.
 fn place_of_equals(entry: &[u8]) -> Option<usize>
     ensures { result ≡ if nat_lt (position_or_len is_equals entry.now) (length entry.now)
         then Some (position_or_len is_equals entry.now) else None }
@@ -42,7 +42,7 @@ fn place_of_equals(entry: &[u8]) -> Option<usize>
     entry.iter().position(|b| *b == b'=')
 }
 
-/// Sets the variable, or unsets it where the value isn't UTF-8.
+/// Sets the variable to the value, or unsets it where the value isn't UTF-8.
 fn set_or_unset(env: &mut Env, name: &str, value: &[u8]) -> Result<(), EnvFault>
     ensures ok { OnOk result (env.new ≡ with_value env.old name.now (readable value.now)) }
     ensures err { OnErr result (env.new ≡ env.old) }
@@ -57,7 +57,7 @@ fn set_or_unset(env: &mut Env, name: &str, value: &[u8]) -> Result<(), EnvFault>
     }
 }
 
-/// Sets or unsets the variable of an entry, if it gives one.
+/// Sets or unsets the variable of an entry; nothing where the entry has no name in UTF-8.
 #[tactic(auto, using(crate::proofs::EntryLemmas::no_equals, crate::proofs::EntryLemmas::no_text, crate::proofs::EntryLemmas::no_name))]
 fn keep(env: &mut Env, entry: &[u8]) -> Result<(), EnvFault>
     ensures ok { OnOk result (env.new ≡ with_entry entry.now env.old) }

@@ -1,4 +1,4 @@
-//! The text that a process reads.
+//! Reading the whole text of an input, up to a limit.
 ghost use Rattle.std.specs.Prelude.{◌≡◌, ◌≤◌, ◌+◌, length, Some, IfOk, IfErr, string_bytes};
 ghost use Rattle.std.specs.Io.KnownBytes.{Consumes, IsAtEnd};
 ghost use Rattle.message.specs.Messages.{text_of};
@@ -16,22 +16,22 @@ use std::io::Read;
 /// The most bytes that an input may have.
 const MOST_BYTES: usize = 1_048_576;
 
-/// How many bytes are asked for at once.
+/// How many bytes one read asks for.
 const PIECE: usize = 4096;
 
 /// Why an input has no text.
 #[derive(Clone, Copy, Debug, PartialEq, Eq)]
 pub enum InputFault {
-    /// Memory was refused.
+    /// An allocation was refused.
     OutOfMemory,
-    /// A read failed.
+    /// A read failed, or was interrupted.
     ReadFailed,
     /// It has more than 1,048,576 bytes, or isn't UTF-8.
     BadInput,
 }
 
 impl InputFault {
-    /// The number of the refusal: 31 for want of memory, 43 for a read that failed, else 56.
+    /// The number of the error as a refusal: 31 for want of memory, 43 for a read that failed, else 56.
     pub fn number(&self) -> u16
         ensures { result ≡ input_number self.now }
     {
@@ -42,7 +42,7 @@ impl InputFault {
         }
     }
 
-    /// What the fault says: as the refusal that it becomes.
+    /// The text of the error as a refusal, without `ERROR: `.
     pub fn message(&self) -> Message<'static>
         ensures { text_of result ≡ input_message self.now }
     {
@@ -72,7 +72,7 @@ impl From<AllocError> for InputFault {
     }
 }
 
-/// What the reader gives, a piece at a time, until it is at its end, or a byte more is there than an input may have.
+/// The bytes of a reader, up to its end or to one byte more than an input may have.
 fn read_bytes<R: Read>(alloc: Global, input: &mut R) -> Result<Vec<u8>, InputFault>
     ensures taken { IfOk result (λ bytes. Consumes (R.remaining input.old) (R.remaining input.new) bytes.items) }
     ensures within { IfOk result (λ bytes. length bytes.items ≤ most_bytes + 1) }
@@ -92,10 +92,10 @@ fn read_bytes<R: Read>(alloc: Global, input: &mut R) -> Result<Vec<u8>, InputFau
     Ok(bytes)
 }
 
-/// The whole text of an input, of which at most a byte more is read than it may have.
+/// The whole text of an input. At most one byte more is read than an input may have.
 ///
-/// Errors: want of memory; a read that failed, an interrupted one too (43); an input of more than 1,048,576 bytes, or
-/// one that isn't UTF-8 (56).
+/// The errors: `OutOfMemory`; `ReadFailed` where a read failed or was interrupted; `BadInput` where the input has more
+/// than 1,048,576 bytes or isn't UTF-8.
 pub fn read_input<R: Read>(alloc: Global, input: &mut R) -> Result<String, InputFault>
     ensures given { IfOk result (λ text.
         GivesAll (R.remaining input.old) (R.remaining input.new) (string_bytes text)) }

@@ -1,4 +1,4 @@
-//! What the process was given: its arguments and its environment.
+//! What the system gives to a process: its arguments, and its environment as a block of entries.
 ghost use Rattle.std.specs.Prelude.{◌≡◌, ◌<◌, ◌≤◌, Some, IfOk, IfSome, OnOk, vec_len};
 ghost use Rattle.message.specs.Messages.{text_of};
 ghost use Rattle.processinput.specs.Faults.{number_of, message_of};
@@ -12,17 +12,17 @@ use std::io::ErrorKind;
 use std::rt::{Env, Files};
 use std::{env, fmt, fs};
 
-/// Why the arguments can't be handed on.
+/// Why the arguments can't be read.
 #[derive(Clone, Copy, Debug, PartialEq, Eq)]
 pub enum ArgumentsFault {
-    /// Memory was refused.
+    /// An allocation was refused.
     OutOfMemory,
     /// An argument isn't UTF-8.
     NotUtf8,
 }
 
 impl ArgumentsFault {
-    /// The number of the refusal: 31 for want of memory, else 56.
+    /// The number of the error as a refusal: 31 for want of memory, else 56.
     pub fn number(&self) -> u16
         ensures { result ≡ number_of self.now }
     {
@@ -32,7 +32,7 @@ impl ArgumentsFault {
         }
     }
 
-    /// What the fault says: as the refusal that it becomes.
+    /// The text of the error as a refusal, without `ERROR: `.
     pub fn message(&self) -> Message<'static>
         ensures { text_of result ≡ message_of self.now }
     {
@@ -53,11 +53,15 @@ impl fmt::Display for ArgumentsFault {
 
 impl Error for ArgumentsFault {}
 
+/// The file in which Linux gives a process its environment at once (proc(5)).
 const OWN_ENVIRONMENT: &str = "/proc/self/environ";
 
+/// The length in bytes of the first buffer for one entry.
 const FIRST_ROOM: usize = 4096;
 
-/// The arguments behind the program's name.
+/// The arguments after the program's name.
+///
+/// The errors: `OutOfMemory`, and `NotUtf8` where an argument isn't UTF-8.
 pub fn arguments<R: Env + AllocGlobal>(rt: &R) -> Result<Vec<String>, ArgumentsFault> {
     let all = match env::args(rt) {
         Ok(all) => all,
@@ -75,10 +79,10 @@ pub fn arguments<R: Env + AllocGlobal>(rt: &R) -> Result<Vec<String>, ArgumentsF
     Ok(arguments)
 }
 
-/// The environment as the system keeps it (environ(7)): entry after entry, each ended by NUL.
+/// The environment as the system has it (environ(7)): entry after entry, each ended by NUL.
 ///
-/// The system's own list is read at once. Where it can't be read, or isn't the list that the process holds, the entries
-/// are asked for one by one, in time that grows with the square of their number, so that none is lost.
+/// The system's file is read at once. Where it can't be read, or isn't the list that the process has, the entries are
+/// asked for one by one, in time that grows with the square of their number, so that none is lost.
 pub fn environment_block<R: Env + Files + AllocGlobal>(rt: &R) -> Result<Vec<u8>, AllocError> {
     if let Ok(block) = fs::read(rt, OWN_ENVIRONMENT) {
         if is_whole(rt, block.as_slice())? {
@@ -88,7 +92,7 @@ pub fn environment_block<R: Env + Files + AllocGlobal>(rt: &R) -> Result<Vec<u8>
     block_by_entries(rt)
 }
 
-/// Whether the block holds as many entries as the process, and the same first one.
+/// Whether the block has as many entries as the process, the same first one, and NUL at its end.
 fn is_whole<R: Env + AllocGlobal>(rt: &R, block: &[u8]) -> Result<bool, AllocError> {
     let mut room = Vec::new(rt.alloc());
     let count = block.iter().filter(|b| **b == 0).count();
@@ -108,7 +112,7 @@ fn is_whole<R: Env + AllocGlobal>(rt: &R, block: &[u8]) -> Result<bool, AllocErr
     Ok(first == Some(&room.as_slice()[..length]) && block.ends_with(b"\0"))
 }
 
-/// The entries one by one, each ended by NUL.
+/// The block of the environment, made of the entries one by one.
 fn block_by_entries<R: Env + AllocGlobal>(rt: &R) -> Result<Vec<u8>, AllocError> {
     let mut block = Vec::new(rt.alloc());
     let mut room = Vec::new(rt.alloc());
@@ -124,7 +128,8 @@ fn block_by_entries<R: Env + AllocGlobal>(rt: &R) -> Result<Vec<u8>, AllocError>
     Ok(block)
 }
 
-/// Puts entry `i` at the start of `room`, which grows until it fits, and answers its length.
+/// Copies entry `i` to the start of `room`, which grows until the entry fits. The result is the length of the entry in
+/// bytes; none where there are no more than `i` entries.
 fn entry_into<R: Env>(rt: &R, i: usize, room: &mut Vec<u8>) -> Result<Option<usize>, AllocError>
     ensures { IfOk result (λ found. IfSome found (λ n. n ≤ vec_len room.new)) }
 {
@@ -137,7 +142,7 @@ fn entry_into<R: Env>(rt: &R, i: usize, room: &mut Vec<u8>) -> Result<Option<usi
     }
 }
 
-/// Doubles the room, and gives an empty one its first.
+/// Doubles the length of a buffer; an empty one gets its first length.
 fn grow(room: &mut Vec<u8>) -> Result<(), AllocError>
     ensures { OnOk result (vec_len room.old < vec_len room.new) }
 {

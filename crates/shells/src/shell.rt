@@ -1,10 +1,10 @@
-//! A shell by its name.
+//! The shells, their names and their families.
 ghost use Rattle.std.specs.Prelude.{◌≡◌};
 ghost use Rattle.shells.specs.Shells.{family_of, shell_name, shell_named};
 
 use crate::family::Family;
 
-/// A shell by its name.
+/// A shell for which text can be printed.
 #[derive(Clone, Copy, Debug, PartialEq, Eq)]
 pub enum Shell {
     Sh,
@@ -17,7 +17,7 @@ pub enum Shell {
 }
 
 impl Shell {
-    /// Its name, as a command line and `module-info shell` have it.
+    /// The name of the shell, as a command line gives it and `module-info shell` answers it (modulefile(5)).
     pub fn name(self) -> &'static str
         ensures { result.now ≡ shell_name self }
     {

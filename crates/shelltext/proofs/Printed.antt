@@ -9,13 +9,13 @@ use Rattle.environment.specs.Changes.{NewValue}
 use Rattle.shells.specs.declared.family.Family.{Family}
 use Rattle.shells.specs.declared.family.Family.TheVariants.{Sh, Csh, Fish}
 use Rattle.shells.specs.Shells.{family_of}
-use Rattle.shelltext.specs.Reading.{is_mark, is_plain, is_unsayable, ValuePart, plain, mark, IsPart, AreParts, part_value, part_text, inner_text, value_text, Spells, SaysChange, AreLines, IsText}
+use Rattle.shelltext.specs.Reading.{is_mark, is_literal, is_unsayable, ValuePart, literal, mark, IsPart, AreParts, part_value, part_text, inner_text, value_text, Spells, SaysChange, AreLines, IsText}
 use Rattle.shelltext.specs.Printing.{spell, marked, quoted, is_sayable, value_is_sayable, printed_line, line_by}
 
--- the parts of a value, behind plain bytes xs
+-- the parts of a value, after literal bytes xs
 abbrev parts_from : Family → List ℕ → List ℕ → List ValuePart
-parts_from family xs [] = plain xs ∷ []
-parts_from family xs (b ∷ bs) = cond (is_mark family b) (plain xs ∷ mark b ∷ parts_from family [] bs) (parts_from family (xs ++ b ∷ []) bs)
+parts_from family xs [] = literal xs ∷ []
+parts_from family xs (b ∷ bs) = cond (is_mark family b) (literal xs ∷ mark b ∷ parts_from family [] bs) (parts_from family (xs ++ b ∷ []) bs)
 
 meant : (family : Family) (xs bs : List ℕ) → flat_map part_value (parts_from family xs bs) ≡ xs ++ bs
 meant family xs [] = refl
@@ -50,10 +50,10 @@ quoted_text Sh value = in_quotes Sh (λ b. refl) [] value
 quoted_text Csh value = in_quotes Csh (λ b. refl) [] value
 quoted_text Fish value = ap (λ (l : List ℕ). 39 ∷ (l ++ 39 ∷ [])) (in_one_pair [] value)
 
-plain_more : (family : Family) (xs : List ℕ) (b : ℕ) → list_all (is_plain family) xs ≡ true → is_mark family b ≡ false → not (is_unsayable family b) ≡ true → list_all (is_plain family) (xs ++ b ∷ []) ≡ true
-plain_more family xs b all unmarked sayable = rw (list_all-append (is_plain family) xs (b ∷ []), all, unmarked, sayable) refl
+plain_more : (family : Family) (xs : List ℕ) (b : ℕ) → list_all (is_literal family) xs ≡ true → is_mark family b ≡ false → not (is_unsayable family b) ≡ true → list_all (is_literal family) (xs ++ b ∷ []) ≡ true
+plain_more family xs b all unmarked sayable = rw (list_all-append (is_literal family) xs (b ∷ []), all, unmarked, sayable) refl
 
-proper : (family : Family) (xs bs : List ℕ) → list_all (is_plain family) xs ≡ true → list_all (λ b. not (is_unsayable family b)) bs ≡ true → AreParts family (parts_from family xs bs)
+proper : (family : Family) (xs bs : List ℕ) → list_all (is_literal family) xs ≡ true → list_all (λ b. not (is_unsayable family b)) bs ≡ true → AreParts family (parts_from family xs bs)
 proper family xs [] all sayable = (all, tt)
 proper family xs (b ∷ bs) all sayable =
     let p = and_parts _ _ sayable in
@@ -92,14 +92,14 @@ plain_sayable : (x y : Bool) → not (x || y) ≡ true → not y ≡ true
 plain_sayable true y e = cc
 plain_sayable false y e = e
 
-plains_sayable : (family : Family) (bs : List ℕ) → list_all (is_plain family) bs ≡ true → list_all (λ b. not (is_unsayable family b)) bs ≡ true
+plains_sayable : (family : Family) (bs : List ℕ) → list_all (is_literal family) bs ≡ true → list_all (λ b. not (is_unsayable family b)) bs ≡ true
 plains_sayable family [] e = refl
 plains_sayable family (b ∷ bs) e =
-    let p = and_parts (is_plain family b) (list_all (is_plain family) bs) e in
+    let p = and_parts (is_literal family b) (list_all (is_literal family) bs) e in
     rw (plain_sayable (is_mark family b) (is_unsayable family b) p.0) (plains_sayable family bs p.1)
 
 part_sayable : (family : Family) (part : ValuePart) → IsPart family part → list_all (λ b. not (is_unsayable family b)) (part_value part) ≡ true
-part_sayable family (plain bytes) is = plains_sayable family bytes is
+part_sayable family (literal bytes) is = plains_sayable family bytes is
 part_sayable family (mark b) is = rw (mark_sayable family b is) refl
 
 parts_sayable : (family : Family) (parts : List ValuePart) → AreParts family parts → list_all (λ b. not (is_unsayable family b)) (flat_map part_value parts) ≡ true

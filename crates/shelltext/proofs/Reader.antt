@@ -9,7 +9,7 @@ use Rattle.shells.specs.declared.shell.Shell.{Shell}
 use Rattle.shells.specs.declared.family.Family.{Family}
 use Rattle.shells.specs.declared.family.Family.TheVariants.{Sh, Csh, Fish}
 use Rattle.shells.specs.Shells.{family_of}
-use Rattle.shelltext.specs.Reading.{is_mark, is_plain, ValuePart, plain, mark, AreParts, part_value, part_text, inner_text, value_text, set_line, unset_line, SaysChange, AreLines, IsText}
+use Rattle.shelltext.specs.Reading.{is_mark, is_literal, ValuePart, literal, mark, AreParts, part_value, part_text, inner_text, value_text, set_line, unset_line, SaysChange, AreLines, IsText}
 
 -- between parts, inside quotes, behind a backslash
 data Mode : Type 0 where
@@ -33,7 +33,7 @@ value_at family outside (b ∷ bs) = cond (eqb b 39) (value_at family inside bs)
 value_at family inside [] = None
 value_at family inside (b ∷ bs) =
     cond (eqb b 39) (cond (is_fish family) (Some ([], bs)) (value_at family outside bs))
-    (cond (eqb b 92 && is_fish family) (value_at family behind bs) (cond (is_plain family b) (onto b (value_at family inside bs)) None))
+    (cond (eqb b 92 && is_fish family) (value_at family behind bs) (cond (is_literal family b) (onto b (value_at family inside bs)) None))
 value_at family behind [] = None
 value_at family behind (b ∷ bs) = cond (is_mark family b) (onto b (cond (is_fish family) (value_at family inside bs) (value_at family outside bs))) None
 
@@ -103,32 +103,32 @@ prepended : (xs v r : List ℕ) → prepend xs (Some (v, r)) ≡ Some (xs ++ v, 
 prepended [] v r = refl
 prepended (x ∷ xs) v r = ap (onto x) (prepended xs v r)
 
-no_quote : (family : Family) (b : ℕ) → is_plain family b ≡ true → eqb b 39 ≡ false
+no_quote : (family : Family) (b : ℕ) → is_literal family b ≡ true → eqb b 39 ≡ false
 no_quote Sh b e = grind (arith, nat_tests)
 no_quote Csh b e = grind (arith, nat_tests)
 no_quote Fish b e = grind (arith, nat_tests)
 
-no_backslash : (family : Family) (b : ℕ) → is_plain family b ≡ true → (eqb b 92 && is_fish family) ≡ false
+no_backslash : (family : Family) (b : ℕ) → is_literal family b ≡ true → (eqb b 92 && is_fish family) ≡ false
 no_backslash Sh b e = elim (cases_Bool (eqb b 92)) [ inl h ↦ rw h refl | inr h ↦ rw h refl ]
 no_backslash Csh b e = elim (cases_Bool (eqb b 92)) [ inl h ↦ rw h refl | inr h ↦ rw h refl ]
 no_backslash Fish b e = grind (arith, nat_tests)
 
-inside_plain : (family : Family) (bytes t : List ℕ) → list_all (is_plain family) bytes ≡ true → value_at family inside (bytes ++ t) ≡ prepend bytes (value_at family inside t)
+inside_plain : (family : Family) (bytes t : List ℕ) → list_all (is_literal family) bytes ≡ true → value_at family inside (bytes ++ t) ≡ prepend bytes (value_at family inside t)
 inside_plain family [] t all = refl
 inside_plain family (b ∷ bytes) t all =
-    let p = and_parts (is_plain family b) (list_all (is_plain family) bytes) all in
+    let p = and_parts (is_literal family b) (list_all (is_literal family) bytes) all in
     rw (no_quote family b p.0, no_backslash family b p.0, p.0) (ap (onto b) (inside_plain family bytes t p.1))
 
 quoted_value : (family : Family) → is_fish family ≡ false → (ps : List ValuePart) → AreParts family ps → (t : List ℕ) → value_at family outside (flat_map part_text ps ++ 59 ∷ t) ≡ Some (flat_map part_value ps, 59 ∷ t)
 quoted_value family nf [] are t = refl
-quoted_value family nf (plain bytes ∷ ps) are t =
+quoted_value family nf (literal bytes ∷ ps) are t =
     rw (append_assoc bytes (39 ∷ []) (flat_map part_text ps), append_assoc bytes (39 ∷ flat_map part_text ps) (59 ∷ t), inside_plain family bytes (39 ∷ (flat_map part_text ps ++ 59 ∷ t)) are.0, nf, quoted_value family nf ps are.1 t)
     (prepended bytes (flat_map part_value ps) (59 ∷ t))
 quoted_value family nf (mark b ∷ ps) are t = rw (nf, are.0, quoted_value family nf ps are.1 t) refl
 
 inner_value : (ps : List ValuePart) → AreParts Fish ps → (t : List ℕ) → value_at Fish inside (flat_map inner_text ps ++ 39 ∷ t) ≡ Some (flat_map part_value ps, t)
 inner_value [] are t = refl
-inner_value (plain bytes ∷ ps) are t =
+inner_value (literal bytes ∷ ps) are t =
     rw (append_assoc bytes (flat_map inner_text ps) (39 ∷ t), inside_plain Fish bytes (flat_map inner_text ps ++ 39 ∷ t) are.0, inner_value ps are.1 t)
     (prepended bytes (flat_map part_value ps) t)
 inner_value (mark b ∷ ps) are t = rw (are.0, inner_value ps are.1 t) refl

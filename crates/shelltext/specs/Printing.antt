@@ -1,4 +1,4 @@
--- What is written of changes for a shell, and which changes no text says.
+-- What is printed for changes, and which changes no text of a shell says (own; quoting as in Reading).
 use Rattle.std.specs.Prelude.{codes, ◌≡◌, ℕ, List, [], ◌∷◌, ◌++◌, Bool, true, not, ◌&&◌, Option, Some, None, if◌then◌else◌, string_bytes, find}
 use Rattle.std.specs.List.{flat_map, list_all}
 use Rattle.std.specs.Option.{option_map}
@@ -14,53 +14,54 @@ use Rattle.shelltext.specs.declared.print.PrintFault.{PrintFault}
 use Rattle.shelltext.specs.declared.print.PrintFault.TheVariants.{OutOfMemory, NotSayable}
 use Rattle.shelltext.specs.Reading.{is_mark, is_unsayable, set_line, unset_line, IsText}
 
--- the value, if any, has a spelling
+-- a text says the value, if there is one
 abbrev pub value_is_sayable : Family → Option Text → Bool
 value_is_sayable family None = true
 value_is_sayable family (Some value) = list_all (λ b. not (is_unsayable family b)) value
 
--- the change has a line
+-- a line says the change
 abbrev pub is_sayable : Family → NewValue → Bool
 is_sayable family s = is_variable_name s.0 && value_is_sayable family s.1
 
--- what is written for a mark: in sh and csh the quotes end before it, and begin again behind it
+-- how a byte with a meaning inside quotes is written: in sh and csh the quotes end before it and begin again after it
 abbrev pub marked : Family → ℕ → Text
 marked Sh b = 39 ∷ 92 ∷ b ∷ 39 ∷ []
 marked Csh b = 39 ∷ 92 ∷ b ∷ 39 ∷ []
 marked Fish b = 92 ∷ b ∷ []
 
--- what is written for a byte of a value
+-- how a byte of a value is written
 abbrev pub spell : Family → ℕ → Text
 spell family b = if is_mark family b then marked family b else b ∷ []
 
--- what is written for a value
+-- how a value is written
 abbrev pub quoted : Family → Text → Text
 quoted family value = 39 ∷ (flat_map (spell family) value ++ 39 ∷ [])
 
+-- the line that is printed for a name and its new value, or none
 abbrev pub line_by : Family → Text → Option Text → Text
 line_by family name None = unset_line family name
 line_by family name (Some value) = set_line family name (quoted family value)
 
--- the line that is written for a change
+-- the line that is printed for a change
 abbrev pub printed_line : Family → NewValue → Text
 printed_line family s = line_by family s.0 s.1
 
--- the first change that no line says has this name, and so no text says them all
+-- the first change that no line says has this name, and no text says all the changes
 pub record IsUnsayable (shell : Shell) (ss : List NewValue) (name : Text) : Type 0 where
   pub first : option_map (λ s. s.0) (find (λ s. not (is_sayable (family_of shell) s)) ss) ≡ Some name
   pub no_text : (text : Text) → IsText shell text ss → ⊥
 
--- why nothing is printed
+-- the error is one of these changes
 abbrev pub IsPrintFault : Shell → List NewValue → PrintFault → Type 0
 IsPrintFault shell ss OutOfMemory = Unit {0}
 IsPrintFault shell ss (NotSayable name) = IsUnsayable shell ss (string_bytes name)
 
--- the number of each fault
+-- the number of each error
 abbrev pub print_fault_number : PrintFault → ℕ
 print_fault_number OutOfMemory = 61
 print_fault_number (NotSayable name) = 62
 
--- what each fault says
+-- the text of each error
 abbrev pub print_message : PrintFault → Text
 print_message OutOfMemory = codes "Out of memory"
 print_message (NotSayable name) =

@@ -1,6 +1,6 @@
--- How shells read lines that set and unset variables. By cases, over whole texts; no shell's text says anything else
--- here. The sh family is read by POSIX XCU 2.2.1 (a backslash outside quotes) and 2.2.2 (single quotes), the csh family
--- by csh(1), Lexical structure and History substitutions, and fish by fish-language(1), Quotes.
+-- How shells read lines that set and unset variables; no other line is read here. The sh family reads by POSIX XCU
+-- 2.2.1 (a backslash outside quotes) and 2.2.2 (single quotes), the csh family by csh(1), Lexical structure and History
+-- substitutions, and fish by fish-language(1), Quotes.
 use Rattle.std.specs.Prelude.{◌≡◌, ◌<◌, length, ℕ, List, [], ◌∷◌, ◌++◌, Bool, not, ◌||◌, true, ◌==◌, Option, Some, None, codes}
 use Rattle.std.specs.List.{flat_map, list_all}
 use Rattle.environment.specs.Texts.{Text}
@@ -19,63 +19,66 @@ is_mark Sh b = b == 39
 is_mark Csh b = b == 39 || b == 33
 is_mark Fish b = b == 39 || b == 92
 
--- a byte that no value holds: NUL, and in csh a newline
+-- a byte that no text can give to a variable: NUL, and in csh a newline
 abbrev pub is_unsayable : Family → ℕ → Bool
 is_unsayable Sh b = b == 0
 is_unsayable Csh b = b == 0 || b == 10
 is_unsayable Fish b = b == 0
 
 -- a byte that stands for itself inside quotes
-abbrev pub is_plain : Family → ℕ → Bool
-is_plain family b = not (is_mark family b || is_unsayable family b)
+abbrev pub is_literal : Family → ℕ → Bool
+is_literal family b = not (is_mark family b || is_unsayable family b)
 
--- a part of a value: plain bytes, or a mark
+-- a part of a value's text: literal bytes, or a byte with a backslash before it
 pub data ValuePart : Type 0 where
-  plain : Text → ValuePart
+  literal : Text → ValuePart
   mark : ℕ → ValuePart
 
+-- the part is one of the family's texts
 abbrev pub IsPart : Family → ValuePart → Type 0
-IsPart family (plain bytes) = list_all (is_plain family) bytes ≡ true
+IsPart family (literal bytes) = list_all (is_literal family) bytes ≡ true
 IsPart family (mark b) = is_mark family b ≡ true
 
+-- so is each of these parts
 abbrev pub AreParts : Family → List ValuePart → Type 0
 AreParts family [] = Unit {0}
 AreParts family (part ∷ parts) = IsPart family part × AreParts family parts
 
--- what a part stands for
+-- the value of a part
 abbrev pub part_value : ValuePart → Text
-part_value (plain bytes) = bytes
+part_value (literal bytes) = bytes
 part_value (mark b) = b ∷ []
 
--- how a part is written in sh and csh: plain bytes between single quotes, a mark behind a backslash outside of quotes
+-- how a part is written in sh and csh: literal bytes between single quotes, another byte after a backslash and outside
+-- of quotes
 abbrev pub part_text : ValuePart → Text
-part_text (plain bytes) = 39 ∷ (bytes ++ 39 ∷ [])
+part_text (literal bytes) = 39 ∷ (bytes ++ 39 ∷ [])
 part_text (mark b) = 92 ∷ b ∷ []
 
--- how a part is written inside the quotes of a value in fish: plain bytes as they are, a mark behind a backslash
+-- how a part is written inside the quotes of a value in fish: literal bytes as they are, another byte after a backslash
 abbrev pub inner_text : ValuePart → Text
-inner_text (plain bytes) = bytes
+inner_text (literal bytes) = bytes
 inner_text (mark b) = 92 ∷ b ∷ []
 
--- the text of a value that consists of these parts, joined; in fish all stand in one pair of single quotes
+-- the text of a value that consists of these parts, one after the other; in fish all are in one pair of single quotes
 abbrev pub value_text : Family → List ValuePart → Text
 value_text Sh parts = flat_map part_text parts
 value_text Csh parts = flat_map part_text parts
 value_text Fish parts = 39 ∷ (flat_map inner_text parts ++ 39 ∷ [])
 
--- a line that sets the name to the value behind this text
+-- the line that sets and exports a variable, where its value is written as this text
 abbrev pub set_line : Family → Text → Text → Text
 set_line Sh name text = name ++ 61 ∷ (text ++ (codes "; export " ++ (name ++ 59 ∷ 10 ∷ [])))
 set_line Csh name text = codes "setenv " ++ (name ++ 32 ∷ (text ++ 59 ∷ 10 ∷ []))
 set_line Fish name text = codes "set -xg " ++ (name ++ 32 ∷ (text ++ 59 ∷ 10 ∷ []))
 
--- a line that unsets the name
+-- the line that unsets a variable
 abbrev pub unset_line : Family → Text → Text
 unset_line Sh name = codes "unset " ++ (name ++ 59 ∷ 10 ∷ [])
 unset_line Csh name = codes "unsetenv " ++ (name ++ 59 ∷ 10 ∷ [])
 unset_line Fish name = codes "set -e " ++ (name ++ 59 ∷ 10 ∷ [])
 
--- a spelling of a value, of one part at least
+-- the shells of the family read the text as the value: it consists of one or more parts that have this value
 pub record Spells (family : Family) (text value : Text) : Type 0 where
   pub parts : List ValuePart
   pub some : 0 < length parts
@@ -101,7 +104,7 @@ AreLines family text (s ∷ ss) =
 abbrev pub IsText : Shell → Text → List NewValue → Type 0
 IsText shell text changes = AreLines (family_of shell) text changes
 
--- what a shell that runs the text makes of an environment: the changes, one after the other
+-- a shell that runs the text turns the old environment into the new one: it makes the changes one after the other
 pub record MakesOf (shell : Shell) (text : Text) (old new : Environment) : Type 0 where
   pub changes : List NewValue
   pub says : IsText shell text changes
@@ -119,13 +122,13 @@ abbrev pub OneReading : Type 0
 OneReading =
     (shell : Shell) (text : Text) (ss rs : List NewValue) → IsText shell text ss → IsText shell text rs → ss ≡ rs
 
--- a text makes one thing of an environment
+-- a text turns an environment into one environment
 abbrev pub OneEffect : Type 0
 OneEffect =
     (shell : Shell) (text : Text) (old new other : Environment) → MakesOf shell text old new
     → MakesOf shell text old other → new ≡ other
 
--- a text that says the difference of two environments makes the second of the first
+-- a text that says the difference of two environments turns the first into the second
 abbrev pub DifferenceMakes : Type 0
 DifferenceMakes =
     (shell : Shell) (text : Text) (old new : Environment) → SaysDifference shell text old new

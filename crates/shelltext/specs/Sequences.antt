@@ -1,4 +1,5 @@
--- Texts that are run one after the other, each by its own shell: what a user's shells hold after all commands so far.
+-- Texts that are run one after the other, each by its own shell: the environment that a user has after all commands so
+-- far (own).
 use Rattle.std.specs.Prelude.{◌≡◌, List, [], ◌∷◌}
 use Rattle.environment.specs.Texts.{Text}
 use Rattle.environment.specs.Environment.{Environment}
@@ -9,7 +10,7 @@ use Rattle.shelltext.specs.Reading.{MakesOf, SaysDifference}
 abbrev pub ShellRun : Type 0
 ShellRun = Shell × Text
 
--- what the runs make of an environment, each over what the one before it left
+-- the runs turn the old environment into the new one, each beginning with the environment that the one before it left
 abbrev pub MakeOf : List ShellRun → Environment → Environment → Type 0
 MakeOf [] old new = new ≡ old
 MakeOf (run ∷ runs) old new =
@@ -27,12 +28,12 @@ abbrev pub last_of : Environment → List Environment → Environment
 last_of old [] = old
 last_of old (new ∷ later) = last_of new later
 
--- runs make one thing of an environment
+-- runs turn an environment into one environment
 abbrev pub OneEffectTogether : Type 0
 OneEffectTogether =
     (runs : List ShellRun) (old new other : Environment) → MakeOf runs old new → MakeOf runs old other → new ≡ other
 
--- runs whose texts say the differences from each environment to the next make the last of the first
+-- runs whose texts say the differences from each environment to the next turn the first into the last
 abbrev pub DifferencesMake : Type 0
 DifferencesMake =
     (runs : List ShellRun) (old : Environment) (later : List Environment) → SayDifferences runs old later

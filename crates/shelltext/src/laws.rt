@@ -1,4 +1,5 @@
-//! Laws about the definitions alone. Each is a function that does nothing: its contract is the law.
+//! Laws of texts for shells: what a shell that runs them has then. Each is a function that does nothing: its contract
+//! is the law, about the definitions alone.
 ghost use Rattle.shelltext.specs.Reading.{OneReading, OneEffect, DifferenceMakes};
 ghost use Rattle.shelltext.specs.Sequences.{OneEffectTogether, DifferencesMake};
 
@@ -7,27 +8,27 @@ pub fn one_reading()
     ensures { OneReading }
 {}
 
-/// A text makes one thing of an environment.
+/// A text turns an environment into one environment.
 pub fn one_effect()
     ensures { OneEffect }
 {}
 
-/// A text that says the difference of two environments makes the second of the first.
+/// A text that says the difference of two environments turns the first into the second.
 pub fn difference_makes()
     ensures { DifferenceMakes }
 {
     environment::laws::changes();
 }
 
-/// Texts that are run one after the other make one thing of an environment.
+/// Texts that are run one after the other turn an environment into one environment.
 pub fn one_effect_together()
     ensures { OneEffectTogether }
 {
     one_effect();
 }
 
-/// Where each text says the difference between the environment before it and the next, shells that run them one after
-/// the other hold the last environment.
+/// Where each text says the difference between the environment before it and the next one, shells that run the texts
+/// one after the other have the last environment in the end.
 pub fn differences_make()
     ensures { DifferencesMake }
 {

@@ -1,4 +1,4 @@
-//! Changes of an environment as a text for a shell.
+//! The printer: changes of variables as a text for a shell.
 ghost use Rattle.std.specs.Prelude.{◌≡◌, ◌++◌, map, Some, IfOk, IfErr, OnOk, string_bytes};
 ghost use Rattle.environment.specs.Changes.{new_value_of};
 ghost use Rattle.message.specs.Messages.{text_of};
@@ -19,14 +19,14 @@ use std::fmt::Display;
 /// Why changes have no text.
 #[derive(Debug, Drop)]
 pub enum PrintFault {
-    /// Memory was refused.
+    /// An allocation was refused.
     OutOfMemory,
-    /// The value of this variable, or its name, can't be written for the shell.
+    /// No text of the shell gives this variable its value, or the name isn't that of a variable.
     NotSayable(String),
 }
 
 impl PrintFault {
-    /// The number of the refusal.
+    /// The number of the error as a refusal: 61 or 62.
     pub fn number(&self) -> u16
         ensures { result ≡ print_fault_number self.now }
     {
@@ -36,7 +36,7 @@ impl PrintFault {
         }
     }
 
-    /// What the fault says.
+    /// The text of the error, without `ERROR: `.
     pub fn message(&self) -> Message<'_>
         ensures { text_of result ≡ print_message self.now }
     {
@@ -69,6 +69,7 @@ impl From<AllocError> for PrintFault {
     }
 }
 
+/// Whether a line of the shells of this family says the change.
 fn is_sayable(family: Family, change: &Change) -> bool
     ensures { result ≡ printing.is_sayable family (new_value_of change.now) }
 {
@@ -81,6 +82,7 @@ fn is_sayable(family: Family, change: &Change) -> bool
     }
 }
 
+/// Appends the line of a change.
 fn push_line(out: &mut String, family: Family, change: &Change) -> Result<(), AllocError>
     ensures { OnOk result (string_bytes out.new ≡ string_bytes out.old
         ++ printed_line family (new_value_of change.now)) }
@@ -91,10 +93,11 @@ fn push_line(out: &mut String, family: Family, change: &Change) -> Result<(), Al
     }
 }
 
-/// The text of these changes, one a line, which the shell reads as exactly these, in order.
+/// The text of the changes, a line for each, which the shell reads as exactly these changes, in this order.
 ///
-/// Refused as `NotSayable` exactly where no text of the shell says them all: a value holds NUL, or in csh and tcsh a
-/// newline, or a name is not a letter or `_` followed by letters, digits and `_`. The variable named is the first such.
+/// The errors: `OutOfMemory`, and `NotSayable` exactly where no text of the shell says all the changes: a value holds
+/// NUL or, for csh and tcsh, a newline, or a name isn't a letter or `_` followed by letters, digits and `_`. It names
+/// the first variable of this kind.
 pub fn print_changes(alloc: Global, shell: Shell, changes: &[Change]) -> Result<String, PrintFault>
     ensures text { IfOk result (λ text. IsText shell (string_bytes text) (map new_value_of changes.now)) }
     ensures fault { IfErr result (IsPrintFault shell (map new_value_of changes.now)) }

@@ -1,10 +1,10 @@
-//! Texts with what their shells read in them, worked by hand. More are rows of `cases_environment`.
+//! Worked examples: texts, and the changes that a shell reads in them. `cases_environment` tests more of them.
 ghost use Rattle.std.specs.Prelude.{[], ◌∷◌, Some, None, codes};
 ghost use Rattle.environment.specs.Texts.{Text};
 ghost use Rattle.shells.specs.declared.shell.Shell.TheVariants.{Sh, Zsh, Csh, Tcsh, Fish};
 ghost use Rattle.shelltext.specs.Reading.{IsText};
 
-/// Values between quotes, with marks, and without anything.
+/// Values between quotes: with bytes that need a backslash, and empty ones.
 pub fn value_rows()
     ensures sh { IsText Sh (codes "FOO='on'; export FOO;\n") ((codes "FOO", Some (codes "on")) ∷ []) }
     ensures sh_empty { IsText Sh (codes "N=''; export N;\n") ((codes "N", Some []) ∷ []) }

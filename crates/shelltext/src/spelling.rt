@@ -1,4 +1,4 @@
-//! How a variable is written for each family of shells.
+//! How a value is quoted, and how a line that sets or unsets a variable is written, for each family of shells.
 ghost use Rattle.std.specs.Prelude.{◌≡◌, ◌++◌, true, not, OnOk, string_bytes, encode_utf8};
 ghost use Rattle.std.specs.List.{flat_map, list_all};
 ghost use Rattle.shelltext.specs.Reading as reading;
@@ -7,6 +7,7 @@ ghost use Rattle.shelltext.specs.Printing as printing;
 use shells::Family;
 use std::alloc::AllocError;
 
+/// Whether no text of these shells says a value with this byte.
 fn is_unsayable(family: Family, b: u8) -> bool
     ensures { result ≡ reading.is_unsayable family b }
 {
@@ -16,13 +17,14 @@ fn is_unsayable(family: Family, b: u8) -> bool
     }
 }
 
-/// Whether a value of these bytes can be written.
+/// Whether a text of these shells says a value of these bytes.
 pub fn are_sayable(family: Family, bytes: &[u8]) -> bool
     ensures { result ≡ list_all (λ b. not (reading.is_unsayable family b)) bytes.now }
 {
     bytes.iter().all(|b| !is_unsayable(family, *b))
 }
 
+/// Whether the character means something inside single quotes, and so needs a backslash.
 fn is_mark(family: Family, c: char) -> bool
     ensures { result ≡ reading.is_mark family c }
 {
@@ -33,6 +35,7 @@ fn is_mark(family: Family, c: char) -> bool
     }
 }
 
+/// Appends a character that needs a backslash. In sh and csh the quotes end before it and begin again after it.
 fn push_mark(out: &mut String, family: Family, mark: char) -> Result<(), AllocError>
     requires { reading.is_mark family mark ≡ true }
     ensures { OnOk result (string_bytes out.new ≡ string_bytes out.old ++ printing.marked family mark) }
@@ -50,6 +53,7 @@ fn push_mark(out: &mut String, family: Family, mark: char) -> Result<(), AllocEr
     }
 }
 
+/// Appends a character of a value that is inside single quotes.
 fn push_char(out: &mut String, family: Family, c: char) -> Result<(), AllocError>
     ensures { OnOk result (string_bytes out.new ≡ string_bytes out.old
         ++ flat_map (printing.spell family) (encode_utf8 c)) }
@@ -61,6 +65,7 @@ fn push_char(out: &mut String, family: Family, c: char) -> Result<(), AllocError
     }
 }
 
+/// Appends a value in single quotes.
 fn push_value(out: &mut String, family: Family, value: &str) -> Result<(), AllocError>
     ensures { OnOk result (string_bytes out.new ≡ string_bytes out.old ++ printing.quoted family value.now) }
 {
@@ -71,7 +76,7 @@ fn push_value(out: &mut String, family: Family, value: &str) -> Result<(), Alloc
     out.push('\'')
 }
 
-/// Writes the line that sets the name to the value.
+/// Appends the line that sets the variable to the value and exports it.
 pub fn push_set(out: &mut String, family: Family, name: &str, value: &str) -> Result<(), AllocError>
     ensures { OnOk result (string_bytes out.new ≡ string_bytes out.old
         ++ reading.set_line family name.now (printing.quoted family value.now)) }
@@ -100,7 +105,7 @@ pub fn push_set(out: &mut String, family: Family, name: &str, value: &str) -> Re
     out.push_str(";\n")
 }
 
-/// Writes the line that unsets the name.
+/// Appends the line that unsets the variable.
 pub fn push_unset(out: &mut String, family: Family, name: &str) -> Result<(), AllocError>
     ensures { OnOk result (string_bytes out.new ≡ string_bytes out.old ++ reading.unset_line family name.now) }
 {

@@ -13,7 +13,7 @@ use Rattle.stackstate.specs.StackTexts.{items_in}
 use Rattle.stackstate.specs.StackItems.{item_in}
 use Rattle.stackstate.specs.StackVariables.{stack_from, stack_in, with_stack, push_reason, pop_reason, pushed_on, popped_from, pushed_value, popped_value}
 use Rattle.environment.specs.Reasons.{bad_stack}
-use Rattle.stackstate.specs.declared.stack_texts.StackItem.{StackItem}
+use Rattle.stackstate.specs.declared.texts.StackItem.{StackItem}
 
 owned_is : (o : Option (String Global)) → is_some o ≡ has_owner (option_map string_bytes o)
 owned_is None = refl

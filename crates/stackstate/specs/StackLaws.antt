@@ -1,4 +1,4 @@
--- The laws of stacks.
+-- The laws of stacks: what runs of pushes and pops leave, and what is read again (own; pushenv of modulefile(5)).
 use Rattle.std.specs.Prelude.{◌≡◌, [], ◌∷◌, ◌++◌, List, Option, Some, Ok, true, false, bytes_eq}
 use Rattle.std.specs.List.{list_all}
 use Rattle.modulename.specs.ModuleName.{is_module_name}
@@ -12,42 +12,42 @@ use Rattle.stackstate.specs.StackTexts.{is_writable_stack, items_in, stack_text}
 use Rattle.stackstate.specs.StackVariables.{stack_in, with_stack, pushed_value, popped_value, IsStackInOrder}
 use Rattle.stackstate.specs.StackOrder.{IsStackWritten}
 
--- After pushes, and pops by owners that the start does not hold, the live pushes stand on the start.
+-- After pushes and pops by owners that have no item in the start, the state is the start with the live pushes on top.
 abbrev pub LiveStand : Type 0
 LiveStand =
     (start : StackState) (edits : List StackEdit) → IsOwnedStart start → AreStrangers edits start.items
     → after edits start ≡ standing start (live edits)
 
--- Where none is live, it is the start.
+-- Where no push is live, it is the start.
 abbrev pub NoneLiveRestores : Type 0
 NoneLiveRestores =
     (start : StackState) (edits : List StackEdit) → IsOwnedStart start → AreStrangers edits start.items
     → live edits ≡ [] → after edits start ≡ start
 
--- A push by an owner that the start does not hold makes one more of the live pushes, in place of the owner's older one.
+-- A push by an owner without an item in the start adds a live push, in place of the owner's older one.
 abbrev pub PushStands : Type 0
 PushStands =
     (start : StackState) (pushes : List (Text × Text)) (owner value : Text) → holds owner start.items ≡ false
     → push (standing start pushes) owner value ≡ standing start ((owner, value) ∷ other_pushes owner pushes)
 
--- A pop by such an owner takes the owner's out.
+-- A pop by such an owner removes the owner's live push.
 abbrev pub PopStands : Type 0
 PopStands =
     (start : StackState) (pushes : List (Text × Text)) (owner : Text) → IsOwnedStart start
     → holds owner start.items ≡ false
     → pop (standing start pushes) owner ≡ standing start (other_pushes owner pushes)
 
--- The text that a stack is written as says that stack.
+-- The text that a stack is written as is read as that stack.
 abbrev pub TextIsReadAgain : Type 0
 TextIsReadAgain =
     (items : List OwnedValue) → is_writable_stack items ≡ true → items_in (stack_text items) ≡ Some items
 
--- What a text says can be written.
+-- A stack that is read from a text can be written.
 abbrev pub ReadIsWritable : Type 0
 ReadIsWritable =
     (t : Option Text) (items : List OwnedValue) → items_in t ≡ Some items → is_writable_stack items ≡ true
 
--- A stack that is written into an environment is found there.
+-- A stack that is written into an environment is read there.
 abbrev pub WrittenIsFound : Type 0
 WrittenIsFound =
     (e : Environment) (name : Text) (s : StackState) → is_writable_stack s.items ≡ true
@@ -59,13 +59,13 @@ PushMakes =
     (old new : Environment) (name owner value : Text) (s : StackState) → stack_in old name ≡ Some s
     → pushed_value old name owner value ≡ Ok new → stack_in new name ≡ Some (push s owner value)
 
--- Its text and the variable are those of this stack.
+-- Its text and the variable's value are those of this stack.
 abbrev pub PushWrites : Type 0
 PushWrites =
     (old new : Environment) (name owner value : Text) (s : StackState) → stack_in old name ≡ Some s
     → pushed_value old name owner value ≡ Ok new → IsStackWritten new name (push s owner value)
 
--- Every other variable is as it was.
+-- Every other variable is unchanged.
 abbrev pub PushLeaves : Type 0
 PushLeaves =
     (old new : Environment) (name owner value : Text) → pushed_value old name owner value ≡ Ok new
@@ -78,13 +78,13 @@ PopMakes =
     (old new : Environment) (name owner : Text) (s : StackState) → stack_in old name ≡ Some s
     → popped_value old name owner ≡ Ok new → stack_in new name ≡ Some (pop s owner)
 
--- Where the module has a value, the text and the variable are those of this stack.
+-- Where the module has a value, the stack's text and the variable's value are those of this stack.
 abbrev pub PopWrites : Type 0
 PopWrites =
     (old new : Environment) (name owner : Text) (s : StackState) → stack_in old name ≡ Some s
     → holds owner s.items ≡ true → popped_value old name owner ≡ Ok new → IsStackWritten new name (pop s owner)
 
--- Every other variable is as it was.
+-- Every other variable is unchanged.
 abbrev pub PopLeaves : Type 0
 PopLeaves =
     (old new : Environment) (name owner : Text) → popped_value old name owner ≡ Ok new → (other : Text)
@@ -98,20 +98,20 @@ PushKeepsOrder =
     → list_all is_module_name loaded ≡ true → has owner loaded ≡ true → IsStackInOrder loaded old name
     → pushed_value old name owner value ≡ Ok new → IsStackInOrder loaded new name
 
--- So does an accepted pop, also where the module is loaded no more.
+-- So does an accepted pop, also where the module is no longer loaded.
 abbrev pub PopKeepsOrder : Type 0
 PopKeepsOrder =
     (loaded : List Text) (old new : Environment) (name owner : Text) → list_all is_module_name loaded ≡ true
     → IsStackInOrder loaded old name → popped_value old name owner ≡ Ok new
     → IsStackInOrder (without owner loaded) new name
 
--- A stack in order stays so where one more module is loaded.
+-- A stack in order stays in order where one more module is loaded.
 abbrev pub MoreLoadedKeepsOrder : Type 0
 MoreLoadedKeepsOrder =
     (loaded : List Text) (e : Environment) (name owner : Text) → IsStackInOrder loaded e name
     → IsStackInOrder (loaded ++ owner ∷ []) e name
 
--- So it does where one of which it has no item is loaded no more.
+-- So it does where a module of which it has no item is no longer loaded.
 abbrev pub FewerLoadedKeepsOrder : Type 0
 FewerLoadedKeepsOrder =
     (loaded : List Text) (e : Environment) (name owner : Text) (s : StackState)

@@ -1,31 +1,31 @@
--- Lists of pushes and pops, and what stands after them.
+-- Runs of pushes and pops on one variable, and the state after them (own).
 use Rattle.std.specs.Prelude.{◌≡◌, true, false, not, List, [], ◌∷◌, ◌++◌, filter, map, bytes_eq, Some, ◌⊎◌}
 use Rattle.std.specs.List.{list_any}
 use Rattle.environment.specs.Texts.{Text}
 use Rattle.stackstate.specs.Stacks.{OwnedValue, StackState, holds, has_owner, visible, base, push, pop}
 
--- a push or a pop of a module
+-- a push or a pop by a module, the owner
 pub data StackEdit : Type 0 where
   Push : (owner : Text) (value : Text) → StackEdit
   Pop : (owner : Text) → StackEdit
 
--- the state after the edits
+-- the state after the edits, the first of them first
 abbrev pub after : List StackEdit → StackState → StackState
 after [] s = s
 after (Push m value ∷ edits) s = after edits (push s m value)
 after (Pop m ∷ edits) s = after edits (pop s m)
 
--- No edit is by an owner that the items hold.
+-- No edit is by an owner that has one of the items.
 abbrev pub AreStrangers : List StackEdit → List OwnedValue → Type 0
 AreStrangers [] items = Unit {0}
 AreStrangers (Push m value ∷ edits) items = (holds m items ≡ false) × AreStrangers edits items
 AreStrangers (Pop m ∷ edits) items = (holds m items ≡ false) × AreStrangers edits items
 
--- There is no stack, or it has an owner and the variable shows it.
+-- There is no stack, or it has an item with an owner and the variable has the value of its first item.
 abbrev pub IsOwnedStart : StackState → Type 0
 IsOwnedStart s = (s.items ≡ []) ⊎ ((list_any (λ item. has_owner item.0) s.items ≡ true) × (s.value ≡ visible s.items))
 
--- owners and values, but for that owner's
+-- the pushes, as owners and values, without those of that owner
 abbrev pub other_pushes : Text → List (Text × Text) → List (Text × Text)
 other_pushes m pushes = filter (λ p. not (bytes_eq m p.0)) pushes
 
@@ -43,8 +43,8 @@ live edits = live_from [] edits
 abbrev pub items_of : List (Text × Text) → List OwnedValue
 items_of pushes = map (λ p. (Some p.0, p.1)) pushes
 
--- What stands over a start: with no live push the start. Else an item for each above what they were pushed on,
--- and the variable holds the newest value.
+-- A start with live pushes on top: with no live push the start; else an item for each live push, above the items of the
+-- start or the bottom that its value makes, and the variable has the newest value.
 abbrev pub standing : StackState → List (Text × Text) → StackState
 standing start [] = start
 standing start (p ∷ ps) = record { items = items_of (p ∷ ps) ++ base start.items start.value; value = Some p.1 }

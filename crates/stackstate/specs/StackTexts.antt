@@ -1,46 +1,45 @@
--- The text of a stack: elements `module&value`, newest first, joined by colons, with escapes.
+-- The text of a stack (module(1), __MODULES_PUSHENV_<VAR>): elements `module&value`, the newest first, separated by
+-- colons, with escapes.
 use Rattle.std.specs.Prelude.{ℕ, Bool, true, false, not, ◌&&◌, ◌||◌, ◌==◌, List, [], ◌∷◌, ◌++◌, map, if◌then◌else◌, Option, Some, None}
 use Rattle.std.specs.List.{list_all, list_any}
 use Rattle.std.specs.Option.{option_map, option_and_then}
 use Rattle.environment.specs.Texts.{Text}
-use Rattle.environment.specs.Fields.{are_distinct, text_of, ampersand}
+use Rattle.environment.specs.Fields.{are_distinct, text_of_elements, ampersand}
 use Rattle.stackstate.specs.Stacks.{OwnedValue, has_owner}
 use Rattle.environment.specs.Escapes.{escaped, unescaped_fields}
 
--- Writing: before the `&` of an element stands the owner, or nothing in a bottom.
+-- Writing: what is written before the `&` of an element: the owner, or nothing for the bottom.
 abbrev pub owner_text : Option Text → Text
 owner_text None = []
 owner_text (Some owner) = owner
 
--- the element of an item, without escapes
+-- the element that an item is written as, without escapes
 abbrev pub element_text : OwnedValue → Text
 element_text item = owner_text item.0 ++ ampersand ∷ item.1
 
--- no item unsets the variable
+-- the text of the items; the empty list unsets its variable
 abbrev pub stack_text : List OwnedValue → Option Text
-stack_text items = text_of (map (λ item. escaped (element_text item)) items)
+stack_text items = text_of_elements (map (λ item. escaped (element_text item)) items)
 
--- The text of a stack: elements `module&value`, newest first, joined by colons, with escapes.
-
--- Reading: an element is cut at its first `&`.
+-- Reading: a pair with this byte before its first text.
 abbrev pub with_first : ℕ → Text × Text → Text × Text
 with_first c p = (c ∷ p.0, p.1)
 
--- what stands before the first `&`, and behind it; none where there is no `&`
+-- the texts before and after the first `&`; none where there is no `&`
 abbrev pub cut : Text → Option (Text × Text)
 cut [] = None
 cut (c ∷ cs) = if c == ampersand then Some ([], cs) else option_map (with_first c) (cut cs)
 
--- before the `&` stands the owner, or nothing in a bottom
+-- the owner that is written before the `&`; none where nothing is
 abbrev pub owner_of : Text → Option Text
 owner_of [] = None
 owner_of (c ∷ cs) = Some (c ∷ cs)
 
--- the item that an element says
+-- the item that an element is read as; none where it has no `&`
 abbrev pub item_of : Text → Option OwnedValue
 item_of element = option_map (λ p. (owner_of p.0, p.1)) (cut element)
 
--- the items that the elements say; none where one of them says none
+-- the items that the elements are read as; none where an element has no `&`
 abbrev pub items_of_elements : List Text → Option (List OwnedValue)
 items_of_elements [] = Some []
 items_of_elements (element ∷ elements) =
@@ -51,7 +50,7 @@ abbrev pub is_nothing : List OwnedValue → Bool
 is_nothing [] = true
 is_nothing (item ∷ items) = false
 
--- an item without an owner stands last
+-- no item but the last is without an owner
 abbrev pub bottoms_last : List OwnedValue → Bool
 bottoms_last [] = true
 bottoms_last (item ∷ items) = (has_owner item.0 || is_nothing items) && bottoms_last items
@@ -62,7 +61,7 @@ owners_of [] = []
 owners_of ((None, value) ∷ items) = owners_of items
 owners_of ((Some owner, value) ∷ items) = owner ∷ owners_of items
 
--- a bottom stands last, and no owner has two items
+-- no item but the last is without an owner, and no owner has two items
 abbrev pub is_stack : List OwnedValue → Bool
 is_stack items = bottoms_last items && are_distinct (owners_of items)
 
@@ -70,17 +69,17 @@ is_stack items = bottoms_last items && are_distinct (owners_of items)
 abbrev pub only_stack : List OwnedValue → Option (List OwnedValue)
 only_stack items = if is_stack items then Some items else None
 
--- the items that a text says; none where it is no stack
+-- the items that a stack's text is read as; none where the text is no stack
 abbrev pub items_in : Option Text → Option (List OwnedValue)
 items_in None = Some []
 items_in (Some t) = option_and_then only_stack (items_of_elements (unescaped_fields t))
 
--- an owner that can be read again: it isn't empty, and holds no `&`
+-- an owner that is read again as it is written: it isn't empty, and holds no `&`
 abbrev pub can_own : Option Text → Bool
 can_own None = true
 can_own (Some []) = false
 can_own (Some (c ∷ cs)) = not (list_any (λ b. b == ampersand) (c ∷ cs))
 
--- what a text can say
+-- items that a text can be read as
 abbrev pub is_writable_stack : List OwnedValue → Bool
 is_writable_stack items = is_stack items && list_all (λ item. can_own item.0) items

@@ -1,30 +1,31 @@
-//! Laws of stacks about the definitions alone. Each is a function that does nothing: its contract is the law.
+//! Laws of stacks: runs of pushes and pops, and texts that are read again. Each is a function that does nothing: its
+//! contract is the law, about the definitions alone.
 ghost use Rattle.stackstate.specs.StackLaws.{LiveStand, NoneLiveRestores, PushStands, PopStands, TextIsReadAgain, ReadIsWritable, WrittenIsFound, PushMakes, PushWrites, PushLeaves, PopMakes, PopWrites, PopLeaves, PushKeepsOrder, PopKeepsOrder, MoreLoadedKeepsOrder, FewerLoadedKeepsOrder};
 
-/// After any pushes, and pops by owners that the start doesn't hold, the live pushes stand on the start, and without
-/// one it is the start.
+/// After any pushes and pops by owners that have no item in the start, the state is the start with the live pushes on
+/// top, one for each owner that has pushed and not popped since. Where no push is live, it is the start.
 pub fn stacks()
     ensures stands { LiveStand }
     ensures restored { NoneLiveRestores }
 {}
 
-/// The same, step by step: where live pushes stand on a start, a push by an owner that the start doesn't hold makes one
-/// more of them, in place of the owner's older one, and a pop takes the owner's out.
+/// The law `stacks`, step by step: on a start with live pushes on top, a push by an owner without an item in the start
+/// adds one more live push in place of the owner's older one, and a pop removes the owner's.
 pub fn stack_steps()
     ensures push { PushStands }
     ensures pop { PopStands }
 {}
 
-/// The text that a stack is written as says that stack, also where it stands in an environment, and what a text says
-/// can be written.
+/// The text that a stack is written as is read as that stack, also from an environment, and a stack that is read from a
+/// text can be written.
 pub fn stack_texts()
     ensures read_again { TextIsReadAgain }
     ensures writable { ReadIsWritable }
     ensures found { WrittenIsFound }
 {}
 
-/// After an accepted edit the stack of the variable is the one that the edit makes, its text and the variable are those
-/// of this stack, and every other variable is as it was. A pop of a module without a value writes nothing.
+/// After an accepted edit the stack of the variable is the one that the edit makes, its text and the variable's value
+/// are those of this stack, and every other variable is unchanged. A pop of a module without a value writes nothing.
 pub fn stack_edits()
     ensures push { PushMakes }
     ensures push_writes { PushWrites }
@@ -34,8 +35,9 @@ pub fn stack_edits()
     ensures pop_leaves { PopLeaves }
 {}
 
-/// A stack in order stays so by an accepted push of a loaded module, and by an accepted pop, also where the module is
-/// loaded no more. So it does where one more module is loaded, and where one of which it has no item is loaded no more.
+/// A stack in order stays in order after an accepted push of a loaded module, and after an accepted pop, also where the
+/// module is no longer loaded. It stays in order where one more module is loaded, and where a module of which it has no
+/// item is no longer loaded.
 pub fn stack_orders()
     ensures push { PushKeepsOrder }
     ensures pop { PopKeepsOrder }

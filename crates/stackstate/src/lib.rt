@@ -1,8 +1,10 @@
-//! Stacks: a variable's values, each with the module that pushed it, in two variables of an environment.
+//! Stacks of values (modulefile(5), pushenv): a variable's values, each with the module that pushed it.
+//! Takes memory; touches the variable that a call names and the variable of its stack.
+//! Used by envstate, modulerecords, modulefile, modulerun, reversal and modulecmd.
 #![tactic(auto)]
 
+mod edits;
 pub mod laws;
-mod stack_texts;
-mod stacks;
+mod texts;
 
-pub use stacks::{pop_value, push_value};
+pub use edits::{pop_value, push_value};

@@ -1,6 +1,6 @@
 use Rattle.std.proofs.Common.{◌≡◌, map, length}
 use Rattle.std.specs.FinMap as finite
-use Rattle.processinput.specs.Given.{with_entries, entries_of}
+use Rattle.processinput.specs.EnvironmentBlock.{with_entries, entries_of}
 use Rattle.processinput.proofs.block.environment_of.Given as goal
 
 -- what is left, over what is kept, says what the whole block says

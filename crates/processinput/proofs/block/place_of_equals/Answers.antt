@@ -1,7 +1,7 @@
 use Rattle.std.proofs.Common.{rules, tests}
 use Rattle.std.proofs.lemmas.Iterator.{YieldsList-from_slice}
 use Rattle.std.proofs.lemmas.Iterator.Search.{position_from_yields_List}
-use Rattle.processinput.specs.Given.{is_equals}
+use Rattle.processinput.specs.EnvironmentBlock.{is_equals}
 use Rattle.processinput.proofs.block.place_of_equals.Goals as goal
 
 pub returns : goal.returns

@@ -1,8 +1,0 @@
-use Rattle.envlaws.proofs.StateLemmas.{start_of, standing_absent}
-use Rattle.envlaws.proofs.starts.Goals as goal
-
-pub returns-clause-start : goal.returns-clause-start
-returns-clause-start c = start_of
-
-pub returns-clause-absent : goal.returns-clause-absent
-returns-clause-absent c = standing_absent

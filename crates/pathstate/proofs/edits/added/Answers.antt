@@ -1,0 +1,22 @@
+use Rattle.std.proofs.Common.{ap, sym, ◌∙◌, subst}
+use Rattle.std.proofs.lemmas.Result.{err_from_is_err_and}
+use Rattle.environment.specs.Texts.{shown}
+use Rattle.pathstate.specs.Paths.{add_all}
+use Rattle.pathstate.specs.Tables.{counter_in, stated}
+use Rattle.pathstate.specs.PathVariables.{counters_fit}
+use Rattle.pathstate.specs.PathEdits.{AreTexts, IsFull}
+use Rattle.pathstate.proofs.PathSteps.{small_fits}
+use Rattle.pathstate.proofs.edits.added.Goals as goal
+
+pub returns-in_err-add_each : goal.returns-in_err-add_each
+returns-in_err-add_each c =
+    let p = err_from_is_err_and c.from_residual-in_err-add_each.result c.from_residual-in_err-add_each.ensures.1 in
+    rw (p.1, p.2)
+    (subst (IsFull c.in_err-add_each.field-0.0 c.args.var.now) (ap (λ s. add_all s (shown c.args.more.now) c.args.end) c.in_ok-path.ensures.state) c.in_err-add_each.ensures.full)
+
+pub returns : goal.returns
+returns c =
+    let state = c.in_ok-add_each.ensures.ok ∙ ap (λ s. add_all s (shown c.args.more.now) c.args.end) c.in_ok-path.ensures.state in (
+      ap counters_fit (sym state) ∙ small_fits (stated (shown c.add_each.new.path.elements.items) (counter_in c.add_each.new.path.counters)) c.in_ok-add_each.ensures.small,
+      subst (AreTexts c.in_ok-write_path.field-0 c.args.delim) state c.in_ok-write_path.ensures,
+    )

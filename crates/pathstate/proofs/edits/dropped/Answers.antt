@@ -1,0 +1,12 @@
+use Rattle.std.proofs.Common.{ap, ◌∙◌, subst}
+use Rattle.std.specs.Prelude.{IfOk}
+use Rattle.environment.specs.Texts.{shown}
+use Rattle.pathstate.specs.Paths.{drop_all}
+use Rattle.pathstate.specs.PathEdits.{AreTexts}
+use Rattle.pathstate.proofs.edits.dropped.Goals as goal
+
+pub returns : goal.returns
+returns c =
+    subst (λ s. IfOk c.write_path.result (λ t. AreTexts t c.args.delim s))
+    (c.take_out.ensures ∙ ap (λ s. drop_all s (shown c.args.less.now)) c.in_ok-path.ensures.state)
+    c.write_path.ensures

@@ -1,0 +1,11 @@
+use Rattle.std.proofs.Common.{length, refl}
+use Rattle.pathstate.specs.Tables.{counter_in}
+use Rattle.pathstate.proofs.PathSteps.{note_start, notes_turn}
+use Rattle.pathstate.proofs.texts.note_each.Goals as goal
+
+pub loop-rest-init : goal.loop-rest-init
+loop-rest-init c = note_start (counter_in c.args.counters.now) c.args.fields.now _ _ refl refl
+
+pub loop-rest-preserved : goal.loop-rest-preserved
+loop-rest-preserved c =
+    notes_turn (counter_in c.loop-rest.counters) (counter_in c.note.new.counters) c.loop-rest.rest.now (length c.args.fields.now) _ _ _ c.in-len2-up.len_at_least c.loop-rest.invariant c.note.ensures
