@@ -1,4 +1,4 @@
--- The order of versions. It is this tool's own: modulefile(5) leaves it to the tool.
+-- The order of versions (own: modulefile(5) leaves it to the implementation).
 use Rattle.std.specs.Prelude.{◌≡◌, ℕ, ◌+◌, ◌-◌, ◌*◌, Bool, true, false, ◌&&◌, List, [], ◌∷◌, nat_le, if◌then◌else◌, bytes_eq}
 use Rattle.std.specs.List.{list_any}
 use Rattle.std.specs.Prelude.{Option, Some, None}
@@ -22,11 +22,11 @@ pub data Piece : Type 0 where
   run : (number : ℕ) → Piece
   other : (byte : ℕ) → Piece
 
--- the number that a digit behind the digits of another makes
+-- the number with one more digit at its end
 abbrev pub with_digit : ℕ → ℕ → ℕ
 with_digit n b = 10 * n + (b - zero_digit)
 
--- the pieces of a text that stands behind the digits of a run
+-- the pieces of a text that comes after the digits of a run, or after none
 abbrev pub pieces_behind : Option ℕ → Text → List Piece
 pieces_behind None [] = []
 pieces_behind (Some n) [] = run n ∷ []
@@ -35,25 +35,26 @@ pieces_behind None (b ∷ bs) =
 pieces_behind (Some n) (b ∷ bs) =
     if is_digit b then pieces_behind (Some (with_digit n b)) bs else run n ∷ other b ∷ pieces_behind None bs
 
+-- the pieces of a version
 abbrev pub pieces : Text → List Piece
 pieces version = pieces_behind None version
 
--- A run stands among the other bytes where its first digit does: all digits stand together, with no other byte between
--- two.
+-- Among the other bytes a run is ranked as its first digit: all digits are next to each other there.
 abbrev pub place : Piece → ℕ
 place (run n) = zero_digit
 place (other b) = b
 
+-- the number of a run
 abbrev pub number : Piece → ℕ
 number (run n) = n
 number (other b) = 0
 
--- two pieces by their places, and two runs by their numbers
+-- two pieces by their ranks, and two runs by their numbers
 abbrev pub piece_order : Piece → Piece → Ordering
 piece_order = then_cmp (on place nat_cmp) (on number nat_cmp)
 
--- Piece by piece, where a proper front comes first; and where all pieces are equal, by the bytes. A text is in UTF-8,
--- whose bytes keep the order of characters.
+-- Piece by piece, where a proper prefix comes first; and where all pieces are equal, by the bytes. A text is in UTF-8,
+-- whose bytes are in the order of its characters.
 abbrev pub version_order : Text → Text → Ordering
 version_order = then_cmp (on pieces (slice_cmp piece_order)) (slice_cmp nat_cmp)
 
@@ -66,6 +67,7 @@ pub record IsGreatest (In : Text → Type 0) (v : Text) : Type 0 where
 abbrev pub IsIn : List Text → Text → Type 0
 IsIn vs v = list_any (bytes_eq v) vs ≡ true
 
+-- the greater of two versions
 abbrev pub greater : Text → Text → Text
 greater v w = if is_lt (version_order v w) then w else v
 

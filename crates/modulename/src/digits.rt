@@ -1,11 +1,11 @@
-//! Whole numbers of any length, as runs of digits.
+//! Whole numbers of any length, as runs of digits, compared without being computed.
 ghost use Rattle.std.specs.Prelude.{◌≡◌, ◌++◌, ◌<◌, ◌≤◌, length, true, false};
 ghost use Rattle.std.specs.Ordering.{nat_cmp};
 ghost use Rattle.modulename.specs.DigitRuns.{number_of, are_digits, begins_digit, begins_zero};
 
 use std::cmp::Ordering;
 
-/// The digits at the front of a text, and what follows them.
+/// The digits that a text begins with, and the rest of it.
 pub(crate) fn split_digits(text: &[u8]) -> (&[u8], &[u8])
     ensures whole { text.now ≡ result.0.now ++ result.1.now }
     ensures digits { are_digits result.0.now ≡ true }
@@ -21,7 +21,7 @@ pub(crate) fn split_digits(text: &[u8]) -> (&[u8], &[u8])
     text.split_at(text.len() - rest.len())
 }
 
-/// The digits of a number without zeros in front.
+/// The digits of a number without leading zeros.
 fn without_zeros(digits: &[u8]) -> &[u8]
     requires { are_digits digits.now ≡ true }
     ensures number { number_of result.now ≡ number_of digits.now }
@@ -35,7 +35,7 @@ fn without_zeros(digits: &[u8]) -> &[u8]
     rest
 }
 
-/// The order of two numbers.
+/// The order of two numbers: without leading zeros the longer one is the greater, and of two as long the digits decide.
 pub(crate) fn order_of_numbers(left: &[u8], right: &[u8]) -> Ordering
     requires left { are_digits left.now ≡ true }
     requires right { are_digits right.now ≡ true }

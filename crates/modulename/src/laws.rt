@@ -1,4 +1,4 @@
-//! What holds of the definitions that the contracts cite.
+//! Laws of the order of versions: functions that do nothing, whose contracts are theorems about the definitions.
 ghost use Rattle.std.specs.Prelude.{◌≡◌, true, [], ◌∷◌, codes};
 ghost use Rattle.std.specs.Cmp.{IsTotalOrder};
 ghost use Rattle.modulename.specs.Versions.{version_order, TellsApart, HasOneGreatest, ComparesByFirstDigit, ascend};
@@ -12,7 +12,7 @@ pub fn order_of_versions()
     ensures first_digit { ComparesByFirstDigit }
 {}
 
-/// Worked versions: each of a row comes before the next.
+/// Worked examples: each version of a list comes before the next.
 pub fn rows_of_versions()
     ensures numbers { ascend (codes "01" ∷ codes "1" ∷ codes "1-0" ∷ codes "1.9" ∷ codes "1.10" ∷ codes "1.10-rc"
         ∷ codes "1.10.1" ∷ codes "2" ∷ codes "10" ∷ codes "a" ∷ codes "a.1" ∷ []) ≡ true }

@@ -1,4 +1,4 @@
-//! Versions cut into pieces.
+//! Versions cut into pieces: runs of digits, and other bytes.
 ghost use Rattle.std.specs.Prelude.{◌≡◌, ◌∷◌, [], ◌<◌, length, MatchOption, IfSome};
 ghost use Rattle.modulename.specs.Versions.{pieces, piece_order};
 ghost use Rattle.modulename.specs.DigitRuns.{IsPiece, piece_view};
@@ -9,14 +9,15 @@ use std::cmp::Ordering;
 /// A piece of a version.
 #[derive(Clone, Copy)]
 pub(crate) enum Piece<'a> {
-    /// Digits, as many as stand together.
+    /// A run of digits, as long as it can be.
     Run(&'a [u8]),
-    /// Another byte.
+    /// A byte that is no digit.
     Other(u8),
 }
 
 impl Piece<'_> {
-    /// The order of two pieces.
+    /// The order of two pieces: runs by their numbers, other bytes by their codes, and a run beside another byte by a
+    /// digit.
     pub(crate) fn order(self, other: Piece<'_>) -> Ordering
         requires left { IsPiece self }
         requires right { IsPiece other }
@@ -31,7 +32,7 @@ impl Piece<'_> {
     }
 }
 
-/// The first piece of a version, and what follows it.
+/// The first piece of a version, and the rest of it; none of the empty version.
 pub(crate) fn split_piece(version: &[u8]) -> Option<(Piece<'_>, &[u8])>
     ensures piece { MatchOption result (pieces version.now ≡ [])
         (λ p. pieces version.now ≡ piece_view p.0 ∷ pieces p.1.now) }

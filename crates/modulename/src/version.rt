@@ -1,4 +1,4 @@
-//! The order of module versions.
+//! The order of versions, by which the greatest version of a module is its default.
 ghost use Rattle.std.specs.Prelude.{◌≡◌};
 ghost use Rattle.std.specs.Cmp.Lexicographic.{slice_cmp};
 ghost use Rattle.modulename.specs.Versions.{pieces, piece_order, version_order};
@@ -8,7 +8,7 @@ use std::cmp::Ordering;
 
 /// The order of two versions. A version is cut into runs of ASCII digits, as long as they can be, and single other
 /// characters. Two runs compare as whole numbers of any length; a run and a character, and two characters, by code
-/// point, the run by its first digit. A proper front comes first. Where all pieces are equal, as in `1` and `01`, the
+/// point, the run by its first digit. A proper prefix comes first. Where all pieces are equal, as in `1` and `01`, the
 /// bytes decide.
 ///
 /// It is a total order, equal only for equal texts, and takes no memory.
@@ -21,7 +21,7 @@ pub fn version_order(left: &str, right: &str) -> Ordering
     }
 }
 
-/// The order of two versions by their pieces.
+/// The order of two versions by their pieces, one after another; a proper prefix comes first.
 fn order_of_pieces(left: &[u8], right: &[u8]) -> Ordering
     ensures { result ≡ slice_cmp piece_order (pieces left.now) (pieces right.now) }
 {

@@ -1,5 +1,7 @@
-//! The characters of Tcl texts: which bytes mean something, what backslashes stand for, which braces match, and what
-//! can be wrong with a text.
+//! The characters of Tcl's texts: classes of bytes, what a backslash stands for, which braces match, and the faults of
+//! texts.
+//! Touches nothing but a text that grows; takes memory for that alone.
+//! Used by all crates that read or write texts of Tcl.
 #![tactic(auto)]
 
 mod backslash;

@@ -15,7 +15,7 @@ pub(crate) fn after_first(text: &str) -> &str
     text.split_at(1).1
 }
 
-// Whether white space stands in front, or a backslash before a newline.
+/// Whether white space stands in front, or a backslash before a newline.
 fn begins_white(text: &str) -> bool
     ensures { result ≡ begins_white text.now }
 {
@@ -36,7 +36,7 @@ pub(crate) fn skip_white(text: &str) -> &str
     rest
 }
 
-// The mark of two bytes.
+/// The mark of two bytes.
 fn two_bytes(b: u8, c: u8) -> Option<Mark>
     ensures { result ≡ two_bytes b c }
 {
@@ -53,7 +53,7 @@ fn two_bytes(b: u8, c: u8) -> Option<Mark>
     }
 }
 
-// The mark of one byte.
+/// The mark of one byte.
 fn one_byte(b: u8) -> Option<Mark>
     ensures { result ≡ one_byte b }
 {
@@ -78,7 +78,7 @@ fn one_byte(b: u8) -> Option<Mark>
     }
 }
 
-// The mark that a word is.
+/// The mark that a word is.
 fn word_mark(word: &str) -> Option<Mark>
     ensures { result ≡ word_mark word.now }
 {
@@ -91,7 +91,7 @@ fn word_mark(word: &str) -> Option<Mark>
     }
 }
 
-// A mark of two bytes or one, and what follows it.
+/// A mark of two bytes or one, and what follows it.
 fn read_symbol(text: &str) -> Option<(Mark, &str)>
     ensures { option_map (λ p. (p.0, p.1.now)) result ≡ symbol_at text.now }
 {

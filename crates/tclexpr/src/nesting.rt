@@ -26,7 +26,7 @@ pub(crate) fn script_nesting<P: Drop>(script: &Script<P>) -> usize
     height
 }
 
-// The same in words.
+/// The same in words.
 #[cycle(nesting)]
 fn words_nesting<P: Drop>(words: &Vec<Word<P>>) -> usize
     ensures { (shown : P → Text) → words_nesting (words_view shown words.now.items) ≤ usize.MAX
@@ -52,7 +52,7 @@ pub(crate) fn parts_nesting<P: Drop>(parts: &Vec<Part<P>>) -> usize
     height
 }
 
-// The same in a part.
+/// The same in a part.
 #[cycle(nesting)]
 fn part_nesting<P: Drop>(part: &Part<P>) -> usize
     ensures { (shown : P → Text) → part_nesting (part_view shown part.now) ≤ usize.MAX

@@ -49,7 +49,7 @@ fn after_digits(text: &str, digits: Digits) -> &str
     rest
 }
 
-// The digits that a letter behind a leading 0 announces.
+/// The digits that a letter behind a leading 0 announces.
 fn announced(b: u8) -> Option<Digits>
     ensures { result ≡ announced b }
 {
@@ -61,7 +61,7 @@ fn announced(b: u8) -> Option<Digits>
     }
 }
 
-// What follows a number of another base than ten.
+/// What follows a number of another base than ten.
 fn after_based(text: &str) -> Option<&str>
     ensures { option_map (λ rest. rest.now) result ≡ after_based text.now }
 {
@@ -86,7 +86,7 @@ fn after_sign(text: &str) -> &str
     }
 }
 
-// What follows an exponent, if there is one.
+/// What follows an exponent, if there is one.
 fn after_exponent(text: &str) -> &str
     ensures { result.now ≡ after_exponent text.now }
 {
@@ -101,7 +101,7 @@ fn after_exponent(text: &str) -> &str
     }
 }
 
-// What follows a point and its digits, if there is a point.
+/// What follows a point and its digits, if there is a point.
 fn after_fraction(text: &str) -> &str
     ensures { result.now ≡ after_fraction text.now }
 {
@@ -111,7 +111,7 @@ fn after_fraction(text: &str) -> &str
     }
 }
 
-// What follows a decimal number.
+/// What follows a decimal number.
 fn after_decimal(text: &str) -> Option<&str>
     ensures { option_map (λ rest. rest.now) result ≡ after_decimal text.now }
 {
@@ -122,7 +122,7 @@ fn after_decimal(text: &str) -> Option<&str>
     }
 }
 
-// Whether a point and a digit stand in front.
+/// Whether a point and a digit stand in front.
 fn begins_point(text: &str) -> bool
     ensures { result ≡ begins_point text.now }
 {

@@ -23,7 +23,7 @@ fn lower(b: u8) -> u8
     if matches!(b, b'A'..=b'Z') { b + 32 } else { b }
 }
 
-// Whether the word, in small letters, is a front of the other.
+/// Whether the word, in small letters, is a front of the other.
 fn is_front(word: &[u8], whole: &[u8]) -> bool
     ensures { result ≡ is_front word.now whole.now }
 {
@@ -51,7 +51,7 @@ fn begins_switch(word: &[u8]) -> bool
     is_front(word, b"on") || is_front(word, b"off")
 }
 
-// Whether a word is a front of true, false, yes or no, or on, of or off, in any case.
+/// Whether a word is a front of true, false, yes or no, or on, of or off, in any case.
 #[tactic(auto, unfolding(crate::specs::Operands::is_truth))]
 fn is_truth(word: &[u8]) -> bool
     ensures { result ≡ is_truth word.now }
@@ -59,14 +59,14 @@ fn is_truth(word: &[u8]) -> bool
     (word.len() >= 1 && begins_truth(word)) || (word.len() >= 2 && begins_switch(word))
 }
 
-// How many bytes there are from a mark on, with what stands behind it.
+/// How many bytes there are from a mark on, with what stands behind it.
 fn left_with_mark(behind: &str) -> usize
     ensures { result ≡ suc (length behind.now) }
 {
     behind.len() + 1
 }
 
-// What was read of the text before that rest.
+/// What was read of the text before that rest.
 fn taken<'a, S: Source<P>, P: Drop>(source: &S, text: &'a str, rest: &'a str) -> P
     requires text { IsEndOf (S.text source.now) text.now }
     requires rest { IsEndOf text.now rest.now }
@@ -81,7 +81,7 @@ fn one_more(height: usize) -> usize
     height.saturating_add(1)
 }
 
-// A substitution as an operand, with how deep it nests; a dollar that is itself is none.
+/// A substitution as an operand, with how deep it nests; a dollar that is itself is none.
 fn operand_of<P: Drop>(part: Part<P>, left: usize) -> Result<(Operand<P>, usize), ReadError>
     ensures { (shown : P → Text) → part_nesting (part_view shown part) ≤ usize.MAX
         → Gives stopped_by (λ x. (operand_view shown x.0, x.1)) result (operand_of left (part_view shown part)) }
@@ -100,7 +100,7 @@ fn operand_of<P: Drop>(part: Part<P>, left: usize) -> Result<(Operand<P>, usize)
     }
 }
 
-// A variable, behind its dollar, which stands in front of the text.
+/// A variable, behind its dollar, which stands in front of the text.
 fn read_variable<'a, S: Source<P>, P: Drop>(
     alloc: Global,
     source: &S,
@@ -118,7 +118,7 @@ fn read_variable<'a, S: Source<P>, P: Drop>(
     Ok((operand, height, rest))
 }
 
-// A script in brackets, behind the first, which stands in front of the text.
+/// A script in brackets, behind the first, which stands in front of the text.
 fn read_script<'a, S: Source<P>, P: Drop>(
     alloc: Global,
     source: &S,
@@ -136,7 +136,7 @@ fn read_script<'a, S: Source<P>, P: Drop>(
     Ok((operand, height, rest))
 }
 
-// A quoted text, behind its first quote.
+/// A quoted text, behind its first quote.
 fn read_quoted<'a, S: Source<P>, P: Drop>(
     alloc: Global,
     source: &S,
@@ -152,7 +152,7 @@ fn read_quoted<'a, S: Source<P>, P: Drop>(
     Ok((Operand::Quoted(parts), height, rest))
 }
 
-// A text in braces, behind the first.
+/// A text in braces, behind the first.
 fn read_braced<'a, S: Source<P>, P: Drop>(
     source: &S,
     text: &'a str,
@@ -167,7 +167,7 @@ fn read_braced<'a, S: Source<P>, P: Drop>(
     }
 }
 
-// A truth word that no parenthesis follows directly.
+/// A truth word that no parenthesis follows directly.
 fn read_word<'a, S: Source<P>, P: Drop>(
     source: &S,
     text: &'a str,
@@ -186,7 +186,7 @@ fn read_word<'a, S: Source<P>, P: Drop>(
     }
 }
 
-// A number or a word.
+/// A number or a word.
 fn read_numeric<'a, S: Source<P>, P: Drop>(
     source: &S,
     text: &'a str,

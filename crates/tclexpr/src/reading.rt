@@ -21,10 +21,10 @@ use std::alloc::{AllocError, Global};
 use tclchars::{Fault, ReadError};
 use tclscript::Source;
 
-// The level of the operators that bind the least, but for the choice.
+/// The level of the operators that bind the least, but for the choice.
 const LOOSEST: usize = 13;
 
-// What follows the parenthesis that closes, which must come next.
+/// What follows the parenthesis that closes, which must come next.
 fn after_close(text: &str) -> Result<&str, ReadError>
     ensures { Gives stopped_by (λ rest. rest.now) result (expect is_close text.now) }
 {
@@ -35,7 +35,7 @@ fn after_close(text: &str) -> Result<&str, ReadError>
     }
 }
 
-// What follows the colon, which must come next.
+/// What follows the colon, which must come next.
 fn after_colon(text: &str) -> Result<&str, ReadError>
     ensures { Gives stopped_by (λ rest. rest.now) result (expect is_colon text.now) }
 {
@@ -58,7 +58,7 @@ fn is_question(mark: Mark) -> bool
     matches!(mark, Mark::Question)
 }
 
-// The operator that comes next between two operands, where it is of that level at most.
+/// The operator that comes next between two operands, where it is of that level at most.
 fn read_infix(text: &str, limit: usize) -> Option<(Infix, &str)>
     ensures { MatchOption result (Follows (suc limit) text.now)
         (λ p. (mark_at (after_white text.now) ≡ Some (marks.Infix p.0, p.1.now)) × (level p.0 ≤ limit)) }
@@ -69,14 +69,14 @@ fn read_infix(text: &str, limit: usize) -> Option<(Infix, &str)>
     }
 }
 
-// The highest level of operators in a right operand: operators of one level group to the left.
+/// The highest level of operators in a right operand: operators of one level group to the left.
 fn right_level(between: Infix) -> usize
     ensures { result ≡ level between - 1 }
 {
     level(between) - 1
 }
 
-// An operator and its operand.
+/// An operator and its operand.
 fn unary<P: Drop>(
     alloc: Global,
     operator: UnaryOperator,
@@ -93,7 +93,7 @@ fn unary<P: Drop>(
     })
 }
 
-// Two expressions, joined.
+/// Two expressions, joined.
 fn join<P: Drop>(
     alloc: Global,
     between: Infix,
@@ -117,7 +117,7 @@ fn join<P: Drop>(
     Ok(WithHeight { tree, height })
 }
 
-// A condition and the two expressions that it chooses from.
+/// A condition and the two expressions that it chooses from.
 fn choice<P: Drop>(
     alloc: Global,
     condition: WithHeight<P>,
@@ -142,7 +142,7 @@ fn choice<P: Drop>(
     })
 }
 
-// An expression in parentheses, as high as those make it.
+/// An expression in parentheses, as high as those make it.
 fn enclosed<P: Drop>(inner: WithHeight<P>) -> WithHeight<P>
     requires { inner.height < usize.MAX }
     ensures { (shown : P → Text) → with_height_view shown result ≡ (expr_view shown inner.tree, suc inner.height) }
@@ -177,7 +177,7 @@ pub(crate) fn read_whole<'a, S: Source<P>, P: Drop>(
     }
 }
 
-// The two branches of a choice, behind its question mark.
+/// The two branches of a choice, behind its question mark.
 #[cycle(read)]
 fn read_branches<'a, S: Source<P>, P: Drop>(
     alloc: Global,
@@ -202,7 +202,7 @@ fn read_branches<'a, S: Source<P>, P: Drop>(
     Ok((choice(alloc, condition, yes, no)?, end))
 }
 
-// Operands, with operators of that level at most between them.
+/// Operands, with operators of that level at most between them.
 #[cycle(read)]
 fn read_chain<'a, S: Source<P>, P: Drop>(
     alloc: Global,
@@ -226,7 +226,7 @@ fn read_chain<'a, S: Source<P>, P: Drop>(
     }
 }
 
-// The right operand of an operator, whose left one nests so deep.
+/// The right operand of an operator, whose left one nests so deep.
 #[cycle(read)]
 fn read_right<'a, S: Source<P>, P: Drop>(
     alloc: Global,
@@ -246,7 +246,7 @@ fn read_right<'a, S: Source<P>, P: Drop>(
     read_chain(alloc, source, text, depth - 1, right_level(between))
 }
 
-// An operand, with the operators before it, or an expression in parentheses.
+/// An operand, with the operators before it, or an expression in parentheses.
 #[cycle(read)]
 fn read_prefix<'a, S: Source<P>, P: Drop>(
     alloc: Global,
@@ -271,7 +271,7 @@ fn read_prefix<'a, S: Source<P>, P: Drop>(
     }
 }
 
-// An operand as an expression.
+/// An operand as an expression.
 fn read_leaf<'a, S: Source<P>, P: Drop>(
     alloc: Global,
     source: &S,
@@ -292,7 +292,7 @@ fn read_leaf<'a, S: Source<P>, P: Drop>(
     ))
 }
 
-// An expression behind its opening parenthesis.
+/// An expression behind its opening parenthesis.
 #[cycle(read)]
 fn read_enclosed<'a, S: Source<P>, P: Drop>(
     alloc: Global,
@@ -312,7 +312,7 @@ fn read_enclosed<'a, S: Source<P>, P: Drop>(
     Ok((enclosed(inner), behind))
 }
 
-// The operand of an operator before it.
+/// The operand of an operator before it.
 #[cycle(read)]
 fn read_signed<'a, S: Source<P>, P: Drop>(
     alloc: Global,

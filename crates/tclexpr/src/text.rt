@@ -55,7 +55,7 @@ pub fn parse_expr_pieces<S: Source<P>, P: Drop>(
     read_limited(alloc, source)
 }
 
-// The tree of a source within the limits, or its fault.
+/// The tree of a source within the limits, or its fault.
 fn read_limited<S: Source<P>, P: Drop>(alloc: Global, source: &S) -> Result<Expr<P>, TextFault>
     ensures { Reads (expr_view (S.shown source.now)) result (expr_of (S.text source.now)) }
 {
@@ -70,7 +70,7 @@ fn read_limited<S: Source<P>, P: Drop>(alloc: Global, source: &S) -> Result<Expr
     }
 }
 
-// The tree of a source, with nothing but white space behind it.
+/// The tree of a source, with nothing but white space behind it.
 fn read_source<S: Source<P>, P: Drop>(alloc: Global, source: &S) -> Result<Expr<P>, ReadError>
     ensures { Gives stopped_by (expr_view (S.shown source.now)) result
         (expr_at operand_at max_nesting (S.text source.now)) }

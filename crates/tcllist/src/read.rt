@@ -44,7 +44,7 @@ pub fn parse_list(alloc: Global, text: &str) -> Result<Vec<String>, TextFault>
     read_whole(alloc, text)
 }
 
-// The elements of a text within the limit, or its fault.
+/// The elements of a text within the limit, or its fault.
 #[tactic(auto, unfolding(crate::specs::ListReading::list_of))]
 fn read_whole(alloc: Global, text: &str) -> Result<Vec<String>, TextFault>
     ensures { ReadsList result (list_of text.now) }
@@ -75,7 +75,7 @@ fn read_elements(alloc: Global, text: &str) -> Result<Vec<String>, ReadError>
     }
 }
 
-// The element in front of a text that begins with no white space, and what follows it.
+/// The element in front of a text that begins with no white space, and what follows it.
 fn read_element(alloc: Global, text: &str) -> Result<(String, &str), ReadError>
     ensures { Gives stopped_by (λ x. (string_bytes x.0, x.1.now)) result (element_at text.now) }
 {
@@ -88,7 +88,7 @@ fn read_element(alloc: Global, text: &str) -> Result<(String, &str), ReadError>
     read_piece(alloc, text, End::Space)
 }
 
-// An element in braces, from behind its brace.
+/// An element in braces, from behind its brace.
 fn read_braced(alloc: Global, text: &str) -> Result<(String, &str), ReadError>
     ensures { Gives stopped_by (λ x. (string_bytes x.0, x.1.now)) result
         (element_in_braces (suc (length text.now)) (braced_at false 0 text.now)) }
@@ -100,7 +100,7 @@ fn read_braced(alloc: Global, text: &str) -> Result<(String, &str), ReadError>
     Ok((String::from_str(alloc, inside)?, rest))
 }
 
-// An element in quotes, from behind its quote.
+/// An element in quotes, from behind its quote.
 fn read_quoted(alloc: Global, text: &str) -> Result<(String, &str), ReadError>
     ensures { Gives stopped_by (λ x. (string_bytes x.0, x.1.now)) result (quoted_at text.now) }
 {
@@ -112,7 +112,7 @@ fn read_quoted(alloc: Global, text: &str) -> Result<(String, &str), ReadError>
     Ok((value, rest))
 }
 
-// Behind what closes an element there is white space or the end.
+/// Behind what closes an element there is white space or the end.
 fn part(rest: &str) -> Result<(), ReadError>
     ensures { Gives stopped_by (λ _. rest.now) result (parted_at rest.now) }
 {
@@ -129,7 +129,7 @@ enum End {
     Quote,
 }
 
-// The run of bytes in front that stand for themselves, and what follows it.
+/// The run of bytes in front that stand for themselves, and what follows it.
 fn split_plain(text: &str, end: End) -> (&str, &str)
     ensures run { result.0.now ≡ front (is_plain_before end) text.now }
     ensures rest { result.1.now ≡ back (is_plain_before end) text.now }
@@ -158,7 +158,7 @@ fn split_quoted(text: &str) -> (&str, &str)
     text.split_at(n)
 }
 
-// A piece of an element up to what ends it, or to the text's end, and what follows.
+/// A piece of an element up to what ends it, or to the text's end, and what follows.
 fn read_piece(alloc: Global, text: &str, end: End) -> Result<(String, &str), ReadError>
     ensures { Gives stopped_by (λ x. (string_bytes x.0, x.1.now)) result (piece_of (ends_piece end) text.now) }
 {

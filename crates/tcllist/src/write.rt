@@ -32,7 +32,7 @@ fn push_list(text: &mut String, elements: &[&str]) -> Result<(), AllocError>
     }
 }
 
-// The elements behind the first, each behind a space.
+/// The elements behind the first, each behind a space.
 fn push_rest(text: &mut String, elements: &[&str]) -> Result<(), AllocError>
     ensures { OnOk result (string_bytes text.new
         ≡ string_bytes text.old ++ list_rest (map (λ e. e.now) elements.now)) }
@@ -66,7 +66,7 @@ fn push_braced(text: &mut String, element: &str) -> Result<(), AllocError>
     text.push('}')
 }
 
-// Whether an element stands as it is.
+/// Whether an element stands as it is.
 fn is_bare(element: &str) -> bool
     ensures { result ≡ is_bare element.now }
 {
@@ -88,7 +88,7 @@ fn are_plain(element: &str) -> bool
     split_front(element, Class::Plain).1.is_empty()
 }
 
-// How many braces are open behind a byte; None: it is a backslash, or closes one too many.
+/// How many braces are open behind a byte; None: it is a backslash, or closes one too many.
 fn depth_after(depth: usize, b: u8) -> Option<usize>
     requires { depth < usize.MAX }
     ensures { result ≡ depth_after depth b }
@@ -101,7 +101,7 @@ fn depth_after(depth: usize, b: u8) -> Option<usize>
     }
 }
 
-// Whether an element may stand in braces.
+/// Whether an element may stand in braces.
 fn balances(element: &str) -> bool
     ensures { result ≡ balances 0 element.now }
 {
@@ -116,7 +116,7 @@ fn balances(element: &str) -> bool
     depth == 0
 }
 
-// What stands behind a backslash for a marked byte.
+/// What stands behind a backslash for a marked byte.
 fn letter_of(b: u8) -> u8
     ensures { result ≡ letter_of b }
 {
@@ -142,7 +142,7 @@ fn push_escaped(text: &mut String, element: &str) -> Result<(), AllocError>
     }
 }
 
-// A text with a backslash before each marked byte.
+/// A text with a backslash before each marked byte.
 fn push_escapes(text: &mut String, plain: &str) -> Result<(), AllocError>
     ensures { OnOk result (string_bytes text.new ≡ string_bytes text.old ++ flat_map escape plain.now) }
 {
@@ -171,14 +171,14 @@ fn is_special(b: u8) -> bool
     b == b'"' || b == b'$' || b == b'[' || b == b']' || b == b'{' || b == b'}' || b == b'\\'
 }
 
-// What has a meaning in a list or a script.
+/// What has a meaning in a list or a script.
 fn is_marked(b: u8) -> bool
     ensures { result ≡ is_marked b }
 {
     is_gap(b) || is_special(b)
 }
 
-// The marked byte in front, and what follows it.
+/// The marked byte in front, and what follows it.
 fn split_marked(text: &str) -> Option<(u8, &str)>
     ensures { MatchOption result (begins_marked text.now ≡ false)
         (λ p. (text.now ≡ p.0 ∷ p.1.now) × (is_marked p.0 ≡ true)) }

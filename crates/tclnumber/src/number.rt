@@ -37,7 +37,7 @@ pub fn read_number(text: &str) -> Numeral
     any_number(text.as_bytes())
 }
 
-// The number of decimal digits alone, of at most 18; None of some texts that are larger numbers.
+/// The number of decimal digits alone, of at most 18; None of some texts that are larger numbers.
 fn few_digits(digits: &[u8]) -> Option<u64>
     ensures { IfSome result (λ n. (n < 2 ^ 63) × (digits_from 10 0 digits.now ≡ Some n)) }
 {
@@ -51,7 +51,7 @@ fn few_digits(digits: &[u8]) -> Option<u64>
     Some(number)
 }
 
-// The number of decimal digits alone that begin with no 0, of at most 18: what most numbers are, read at once.
+/// The number of decimal digits alone that begin with no 0, of at most 18: what most numbers are, read at once.
 fn plain_decimal(text: &[u8]) -> Option<i64>
     ensures { IfSome result (λ n. numeral text.now ≡ Whole n) }
 {
@@ -134,7 +134,7 @@ fn without_sign(bytes: &[u8]) -> &[u8]
     }
 }
 
-// The value of a digit of bases up to 36, or 36.
+/// The value of a digit of bases up to 36, or 36.
 fn digit_value(b: u8) -> u64
     ensures { result ≡ digit_value b }
 {
@@ -146,7 +146,7 @@ fn digit_value(b: u8) -> u64
     }
 }
 
-// The number of these digits, or the largest `u64` where it is larger.
+/// The number of these digits, or the largest `u64` where it is larger.
 fn digits_in(base: u64, digits: &[u8]) -> Option<u64>
     requires low { 1 ≤ base }
     requires high { base ≤ 16 }
@@ -166,7 +166,7 @@ fn digits_in(base: u64, digits: &[u8]) -> Option<u64>
     Some(n)
 }
 
-// The base that the letter behind a leading zero names.
+/// The base that the letter behind a leading zero names.
 fn base_of(letter: u8) -> Option<u64>
     ensures { result ≡ base_of letter }
 {
@@ -178,7 +178,7 @@ fn base_of(letter: u8) -> Option<u64>
     }
 }
 
-// The value of a whole number without a sign, or the largest `u64` where it is larger.
+/// The value of a whole number without a sign, or the largest `u64` where it is larger.
 fn magnitude(bytes: &[u8]) -> Option<u64>
     ensures { result ≡ option_map (λ n. min n (2 ^ 64 - 1)) (magnitude bytes.now) }
 {
@@ -202,7 +202,7 @@ fn behind_zero(bytes: &[u8]) -> Option<u64>
     }
 }
 
-// A whole number with this sign, within 64 bits.
+/// A whole number with this sign, within 64 bits.
 fn whole_of(minus: bool, magnitude: u64) -> Numeral
     ensures { result ≡ whole_of minus magnitude }
 {
@@ -262,14 +262,14 @@ fn is_exponent(bytes: &[u8]) -> bool
     }
 }
 
-// A number with a fraction, without a sign, where it is no whole number.
+/// A number with a fraction, without a sign, where it is no whole number.
 fn is_fraction(bytes: &[u8]) -> bool
     ensures { result ≡ is_fraction bytes.now }
 {
     is_fraction_end(bytes, after_digits(bytes)) || is_word(bytes)
 }
 
-// Whether what follows the digits in front makes a number with a fraction.
+/// Whether what follows the digits in front makes a number with a fraction.
 fn is_fraction_end(bytes: &[u8], rest: &[u8]) -> bool
     ensures { result ≡ is_fraction_end bytes.now rest.now }
 {

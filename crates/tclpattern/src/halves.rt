@@ -23,7 +23,7 @@ pub(crate) fn matches(pattern: &str, text: &str) -> bool
     }
 }
 
-// Whether one pattern comes to the other by so many characters of the text, or by all where there are fewer.
+/// Whether one pattern comes to the other by so many characters of the text, or by all where there are fewer.
 #[cycle(halves)]
 fn runs(from: &str, text: &str, count: usize, to: &str) -> bool
     ensures { IsTrue result ↔ Run (chars from.now) (take count (chars text.now)) (chars to.now) }
@@ -43,7 +43,7 @@ fn runs(from: &str, text: &str, count: usize, to: &str) -> bool
     }
 }
 
-// The same with that pattern left behind half of the characters.
+/// The same with that pattern left behind half of the characters.
 #[cycle(halves)]
 fn runs_by(from: &str, text: &str, middle: &str, count: usize, to: &str) -> bool
     requires { 2 ≤ count }
@@ -53,7 +53,7 @@ fn runs_by(from: &str, text: &str, middle: &str, count: usize, to: &str) -> bool
         && runs(middle, skip(text, count / 2), count - count / 2, to)
 }
 
-// The text behind so many characters, or its end.
+/// The text behind so many characters, or its end.
 fn skip(text: &str, count: usize) -> &str
     ensures { chars result.now ≡ drop count (chars text.now) }
 {
@@ -69,7 +69,7 @@ fn skip(text: &str, count: usize) -> &str
     rest
 }
 
-// The same as `runs` for one character at most.
+/// The same as `runs` for one character at most.
 fn runs_short(from: &str, text: &str, count: usize, to: &str) -> bool
     requires { count ≤ 1 }
     ensures { IsTrue result ↔ Run (chars from.now) (take count (chars text.now)) (chars to.now) }
@@ -83,7 +83,7 @@ fn runs_short(from: &str, text: &str, count: usize, to: &str) -> bool
     }
 }
 
-// Whether one pattern comes to the other by that character.
+/// Whether one pattern comes to the other by that character.
 fn runs_one(from: &str, c: char, to: &str) -> bool
     ensures { IsTrue result ↔ Run (chars from.now) (c ∷ []) (chars to.now) }
 {
@@ -110,7 +110,7 @@ fn steps_to(first: char, rest: &str, c: char, to: &str) -> bool
     }
 }
 
-// Whether the one pattern is the other, with nothing but stars in front of it.
+/// Whether the one pattern is the other, with nothing but stars in front of it.
 fn runs_none(from: &str, to: &str) -> bool
     ensures { IsTrue result ↔ Run (chars from.now) [] (chars to.now) }
 {

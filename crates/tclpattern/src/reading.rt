@@ -44,7 +44,7 @@ pub(crate) fn split_last(text: &str) -> Option<(&str, char)>
     Some((characters.as_str(), last))
 }
 
-// The item in front of what is left of a set.
+/// The item in front of what is left of a set.
 fn split_item(set: &str) -> Option<Item<'_>>
     ensures item { option_map item_view result ≡ item_at (chars set.now) }
     ensures shorter { IfSome result (λ i. length i.rest.now < length set.now) }
@@ -66,7 +66,7 @@ fn split_item(set: &str) -> Option<Item<'_>>
     }
 }
 
-// What follows the next closing bracket; nothing where there is none.
+/// What follows the next closing bracket; nothing where there is none.
 fn behind_close(pattern: &str) -> &str
     ensures rest { chars result.now ≡ behind_close (chars pattern.now) }
     ensures no_longer { length result.now ≤ length pattern.now }
@@ -81,7 +81,7 @@ fn behind_close(pattern: &str) -> &str
     rest
 }
 
-// What a pattern goes on with behind a set that holds the character, from behind its opening bracket.
+/// What a pattern goes on with behind a set that holds the character, from behind its opening bracket.
 #[inline(always)]
 fn behind_set(set: &str, c: char) -> Option<&str>
     ensures holds { MatchOption result (HoldsNowhere c (chars set.now))
@@ -98,7 +98,7 @@ fn behind_set(set: &str, c: char) -> Option<&str>
     None
 }
 
-// What a pattern goes on with behind a backslash and the character.
+/// What a pattern goes on with behind a backslash and the character.
 fn behind_escaped(pattern: &str, c: char) -> Option<&str>
     ensures is { MatchOption result ((rest : List ℕ) → chars pattern.now ≢ c ∷ rest)
         (λ rest. chars pattern.now ≡ c ∷ chars rest.now) }

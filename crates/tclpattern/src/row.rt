@@ -11,7 +11,7 @@ pub(crate) fn has(row: &[u64], at: usize) -> bool
     (row[at / 64] >> (at % 64)) & 1 == 1
 }
 
-// The word with the bit set or cleared.
+/// The word with the bit set or cleared.
 fn with_bit(word: u64, at: usize, value: bool) -> u64
     requires { at < 64 }
     ensures here { (bit_at result at ≡ 1) ↔ IsTrue value }

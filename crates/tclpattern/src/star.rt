@@ -34,7 +34,7 @@ pub(crate) fn matches_from(star: Place<'_>) -> bool
     }
 }
 
-// Where a pattern stands that is read character by character.
+/// Where a pattern stands that is read character by character.
 #[derive(Clone, Copy)]
 enum Reading {
     Outside,
@@ -65,8 +65,8 @@ fn reading_behind(reading: Reading, c: char) -> Reading
     }
 }
 
-// Whether no range of a set ends at a closing bracket: then the pattern goes on behind a set in the same way with each
-// character.
+/// Whether no range of a set ends at a closing bracket: then the pattern goes on behind a set in the same way with each
+/// character.
 fn is_plain(pattern: &str) -> bool
     ensures { result ≡ plain.is_plain (chars pattern.now) }
 {
@@ -79,7 +79,7 @@ fn is_plain(pattern: &str) -> bool
     !matches!(reading, Reading::Open)
 }
 
-// In a plain pattern the first way from a star to the next is as good as any: a later one only leaves less of the text.
+/// In a plain pattern the first way from a star to the next is as good as any: a later one only leaves less of the text.
 fn matches_plain(first: Place<'_>) -> bool
     requires text { IsUtf8Place first }
     requires plain { plain.is_plain (chars first.pattern.now) ≡ true }

@@ -9,14 +9,14 @@ use crate::reading::split_last;
 use crate::row::{has, put};
 use crate::tail::Window;
 
-// Whether nothing but stars stands in a tail, with the character in front of it.
+/// Whether nothing but stars stands in a tail, with the character in front of it.
 fn are_stars(p: char, stars: bool) -> bool
     ensures { IsTrue result ↔ ((p ≡ star) × IsTrue stars) }
 {
     p == '*' && stars
 }
 
-// Fills the row for the end of the text; whether the whole pattern matches there.
+/// Fills the row for the end of the text; whether the whole pattern matches there.
 fn fill(pattern: &str, row: &mut [u64]) -> bool
     requires { length pattern.now < 64 * length row.old }
     ensures len { length row.new ≡ length row.old }
@@ -36,7 +36,7 @@ fn fill(pattern: &str, row: &mut [u64]) -> bool
     stars
 }
 
-// Makes the row for the text with one more character in front; whether the whole pattern matches that.
+/// Makes the row for the text with one more character in front; whether the whole pattern matches that.
 fn sweep(pattern: &str, c: char, row: &mut [u64]) -> bool
     requires { length pattern.now < 64 * length row.old }
     ensures len { length row.new ≡ length row.old }
@@ -58,7 +58,7 @@ fn sweep(pattern: &str, c: char, row: &mut [u64]) -> bool
     window.takes
 }
 
-// Whether the pattern behind a star matches, by a row that has a bit for each of its tails.
+/// Whether the pattern behind a star matches, by a row that has a bit for each of its tails.
 fn search(pattern: &str, text: &str, row: &mut [u64]) -> bool
     requires { length pattern.now < 64 * length row.old }
     ensures { IsTrue result ↔ IsMatch (star ∷ chars pattern.now) (chars text.now) }

@@ -40,7 +40,7 @@ impl Tail {
         }
     }
 
-    // Whether a set holds the character whose next item goes from `low` to `high`, with this tail behind it.
+    /// Whether a set holds the character whose next item goes from `low` to `high`, with this tail behind it.
     fn holds_from(&self, low: char, high: char, c: char) -> bool
         ensures { (set rest cs : List ℕ) → item_at set ≡ Some (record { low = low; high = high; rest = rest })
             → KnowsTail rest c cs self.now → IsTrue result ↔ SetMatches c set cs }
@@ -52,7 +52,7 @@ impl Tail {
         }
     }
 
-    // Whether what follows the next closing bracket matches, with the character in front of this tail.
+    /// Whether what follows the next closing bracket matches, with the character in front of this tail.
     fn closes(&self, p: char) -> bool
         ensures { (c : ℕ) (xs cs : List ℕ) → KnowsTail xs c cs self.now
             → IsTrue result ↔ IsMatch (behind_close (p ∷ xs)) cs }
@@ -84,8 +84,8 @@ impl Window {
         }
     }
 
-    // Whether the character and the tail, read as what is left of a set, hold c, and what follows the set matches the
-    // rest of the text.
+    /// Whether the character and the tail, read as what is left of a set, hold c, and what follows the set matches the
+    /// rest of the text.
     fn holds(&self, p: char, c: char) -> bool
         ensures { (xs cs : List ℕ) → Knows xs c cs self.now → IsTrue result ↔ SetMatches c (p ∷ xs) cs }
     {
@@ -101,7 +101,7 @@ impl Window {
         }
     }
 
-    // Whether the character and the tail match c and what is left.
+    /// Whether the character and the tail match c and what is left.
     fn takes(&self, p: char, c: char, keeps: bool) -> bool
         ensures { (xs cs : List ℕ) → Knows xs c cs self.now → IsTrue keeps ↔ IsMatch (p ∷ xs) cs
             → IsTrue result ↔ IsMatch (p ∷ xs) (c ∷ cs) }

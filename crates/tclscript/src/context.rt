@@ -73,7 +73,7 @@ pub(crate) fn script_ends(text: &str, nested: bool) -> bool
     }
 }
 
-// Whether the text is nothing, or begins with that mark.
+/// Whether the text is nothing, or begins with that mark.
 fn stands_before(text: &str, mark: u8) -> bool
     ensures { result ≡ stands_before mark text.now }
 {

@@ -15,7 +15,7 @@ use crate::tree::{Command, Part, Script, Word};
 use std::alloc::Global;
 use tclchars::{Class, Fault, ReadError, after_mark, read_backslash, split_close, split_front};
 
-// What follows the mark that closes, or the fault where it is missing.
+/// What follows the mark that closes, or the fault where it is missing.
 fn closed(text: &str, mark: u8, fault: Fault) -> Result<&str, ReadError>
     requires { mark < 128 }
     ensures { Gives stopped_by (λ rest. rest.now) result (closed mark fault text.now) }
@@ -26,7 +26,7 @@ fn closed(text: &str, mark: u8, fault: Fault) -> Result<&str, ReadError>
     }
 }
 
-// What follows a closing brace or quote, where the word ends.
+/// What follows a closing brace or quote, where the word ends.
 fn ended(text: &str, nested: bool) -> Result<&str, ReadError>
     ensures { Gives stopped_by (λ rest. rest.now) result (ended nested text.now) }
 {
@@ -37,14 +37,14 @@ fn ended(text: &str, nested: bool) -> Result<&str, ReadError>
     }
 }
 
-// How many bytes there are from a mark on, with what stands behind it.
+/// How many bytes there are from a mark on, with what stands behind it.
 fn left_with_mark(behind: &str) -> usize
     ensures { result ≡ suc (length behind.now) }
 {
     behind.len() + 1
 }
 
-// What follows the mark {*}, unless a word ends there.
+/// What follows the mark {*}, unless a word ends there.
 #[tactic(auto, unfolding(crate::specs::Reading::after_expansion))]
 fn after_expansion(text: &str, nested: bool) -> Option<&str>
     ensures { option_map (λ rest. rest.now) result ≡ after_expansion nested text.now }
@@ -57,7 +57,7 @@ fn after_expansion(text: &str, nested: bool) -> Option<&str>
     }
 }
 
-// What was read of the text before that rest.
+/// What was read of the text before that rest.
 fn taken<'a, S: Source<P>, P: Drop>(source: &S, text: &'a str, rest: &'a str) -> P
     requires text { IsEndOf (S.text source.now) text.now }
     requires rest { IsEndOf text.now rest.now }
@@ -66,7 +66,7 @@ fn taken<'a, S: Source<P>, P: Drop>(source: &S, text: &'a str, rest: &'a str) ->
     source.cut(text, text.split_at(text.len() - rest.len()).0)
 }
 
-// The run in front that stands for itself there, and what follows it.
+/// The run in front that stands for itself there, and what follows it.
 fn read_literal<'a, S: Source<P>, P: Drop>(
     source: &S,
     text: &'a str,
@@ -79,7 +79,7 @@ fn read_literal<'a, S: Source<P>, P: Drop>(
     (Part::Literal(source.cut(text, run)), rest)
 }
 
-// A name without a parenthesis, behind a dollar; without a name the dollar is itself.
+/// A name without a parenthesis, behind a dollar; without a name the dollar is itself.
 fn plain_variable<'a, S: Source<P>, P: Drop>(
     source: &S,
     text: &'a str,
@@ -98,7 +98,7 @@ fn plain_variable<'a, S: Source<P>, P: Drop>(
     }
 }
 
-// Behind a backslash, which stands in front of the text; at the text's end it is itself.
+/// Behind a backslash, which stands in front of the text; at the text's end it is itself.
 #[tactic(auto, unfolding(crate::specs::Reading::backslash_at))]
 fn read_escape<'a, S: Source<P>, P: Drop>(
     source: &S,
@@ -121,7 +121,7 @@ fn read_escape<'a, S: Source<P>, P: Drop>(
     }
 }
 
-// Behind the brace of a name.
+/// Behind the brace of a name.
 #[tactic(auto, unfolding(crate::specs::Reading::braced_name_at))]
 fn read_braced_name<'a, S: Source<P>, P: Drop>(
     source: &S,
@@ -135,7 +135,7 @@ fn read_braced_name<'a, S: Source<P>, P: Drop>(
     Ok((Part::Variable(source.cut(text, name)), rest))
 }
 
-// A word in braces, behind its first brace.
+/// A word in braces, behind its first brace.
 #[tactic(auto, unfolding(crate::specs::Reading::braced_word_at))]
 fn read_braced<'a, S: Source<P>, P: Drop>(
     alloc: Global,
@@ -156,7 +156,7 @@ fn read_braced<'a, S: Source<P>, P: Drop>(
     Ok((parts, rest))
 }
 
-// The tree of a source, where so many brackets and indexes nest at most.
+/// The tree of a source, where so many brackets and indexes nest at most.
 #[tactic(auto, unfolding(crate::specs::Reading::whole_script))]
 pub(crate) fn read_source<S: Source<P>, P: Drop>(
     alloc: Global,
@@ -169,7 +169,7 @@ pub(crate) fn read_source<S: Source<P>, P: Drop>(
     Ok(script)
 }
 
-// A script, and what follows it: nothing, or the bracket that closes where it stands in one.
+/// A script, and what follows it: nothing, or the bracket that closes where it stands in one.
 #[cycle(read)]
 fn read_script<'a, S: Source<P>, P: Drop>(
     alloc: Global,
@@ -196,7 +196,7 @@ fn read_script<'a, S: Source<P>, P: Drop>(
     }
 }
 
-// A command, whose first word stands in front, at that place of its script, and what follows it.
+/// A command, whose first word stands in front, at that place of its script, and what follows it.
 #[cycle(read)]
 fn read_command<'a, S: Source<P>, P: Drop>(
     alloc: Global,
@@ -233,7 +233,7 @@ fn read_command<'a, S: Source<P>, P: Drop>(
     }
 }
 
-// The word in front, and what follows it.
+/// The word in front, and what follows it.
 #[cycle(read)]
 #[tactic(auto, unfolding(crate::specs::Reading::word_at))]
 fn read_word<'a, S: Source<P>, P: Drop>(
@@ -271,7 +271,7 @@ fn read_word<'a, S: Source<P>, P: Drop>(
     }
 }
 
-// A word that doesn't expand.
+/// A word that doesn't expand.
 #[cycle(read)]
 #[tactic(auto, unfolding(crate::specs::Reading::plain_word_at))]
 fn read_plain_word<'a, S: Source<P>, P: Drop>(
@@ -315,7 +315,7 @@ pub fn read_quotes<'a, S: Source<P>, P: Drop>(
     Ok((parts, rest))
 }
 
-// A word in quotes, behind its first quote.
+/// A word in quotes, behind its first quote.
 #[cycle(read)]
 #[tactic(auto, unfolding(crate::specs::Reading::quoted_word_at, crate::specs::Reading::quotes_at))]
 fn read_quoted<'a, S: Source<P>, P: Drop>(
@@ -334,7 +334,7 @@ fn read_quoted<'a, S: Source<P>, P: Drop>(
     Ok((parts, rest))
 }
 
-// The parts in front up to where none follows there, and what follows them.
+/// The parts in front up to where none follows there, and what follows them.
 #[cycle(read)]
 fn read_parts<'a, S: Source<P>, P: Drop>(
     alloc: Global,
@@ -359,7 +359,7 @@ fn read_parts<'a, S: Source<P>, P: Drop>(
     }
 }
 
-// The part in front, where one is, and what follows it.
+/// The part in front, where one is, and what follows it.
 #[cycle(read)]
 #[tactic(auto, unfolding(crate::specs::Reading::part_at))]
 fn read_part<'a, S: Source<P>, P: Drop>(
@@ -418,7 +418,7 @@ pub fn read_dollar<'a, S: Source<P>, P: Drop>(
     }
 }
 
-// An element of an array, whose name stands in front of the text.
+/// An element of an array, whose name stands in front of the text.
 fn indexed<'a, S: Source<P>, P: Drop>(
     source: &S,
     text: &'a str,
@@ -433,7 +433,7 @@ fn indexed<'a, S: Source<P>, P: Drop>(
     Part::Indexed(source.cut(text, name), parts)
 }
 
-// Behind the parenthesis of an index.
+/// Behind the parenthesis of an index.
 #[cycle(read)]
 #[tactic(auto, unfolding(crate::specs::Reading::index_at, crate::specs::Reading::inner_at))]
 fn read_index<'a, S: Source<P>, P: Drop>(

@@ -107,7 +107,7 @@ fn step_name(colons: bool, b: u8, after: &[u8]) -> Option<Passing>
     }
 }
 
-// What a byte before others makes of what is passed over. None: it isn't passed.
+/// What a byte before others makes of what is passed over. None: it isn't passed.
 fn step(passing: Passing, b: u8, after: &[u8]) -> Option<Passing>
     ensures { result ≡ step passing b after.now }
 {

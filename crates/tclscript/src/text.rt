@@ -51,7 +51,7 @@ pub fn parse_pieces<S: Source<P>, P: Drop>(
     read_whole(alloc, source)
 }
 
-// The tree of a source within the limits, or its fault.
+/// The tree of a source within the limits, or its fault.
 fn read_whole<S: Source<P>, P: Drop>(alloc: Global, source: &S) -> Result<Script<P>, TextFault>
     ensures { Reads (script_view (S.shown source.now)) result (script_of (S.text source.now)) }
 {
