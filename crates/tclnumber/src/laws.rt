@@ -1,4 +1,4 @@
-//! What holds of the definitions that the contracts cite.
+//! Laws of numbers: functions that do nothing, whose contracts are theorems about the definitions.
 ghost use Rattle.std.specs.Prelude.{◌≡◌, ◌≢◌, ◌↔◌, ◌++◌, ℕ, Bool, Some, None};
 ghost use Rattle.tclchars.specs.Runs.{Text};
 ghost use Rattle.tclnumber.specs.declared.number.Numeral.TheVariants as numerals;
@@ -19,7 +19,7 @@ pub fn numeral_of_fraction()
     ensures { (t : Text) → (numeral t ≡ numerals.Fraction) ↔ IsFractional t }
 {}
 
-/// A number in an expression is the longest front that is a number, and where none is read, no front is one.
+/// A number in an expression is the longest prefix that is a number; and where none is read, no prefix is one.
 pub fn number_in_expression()
     ensures found { (bs rest : Text) → after_number bs ≡ Some rest → IsNumberIn bs rest }
     ensures none { (bs number rest : Text) → after_number bs ≡ None → bs ≡ number ++ rest → IsNumber number → ⊥ }

@@ -1,4 +1,4 @@
-//! Whole numbers as text (expr(n)).
+//! Numbers as texts: their class and value (expr(n), OPERANDS).
 ghost use Rattle.std.specs.Prelude.{◌≡◌, ◌≤◌, ◌<◌, ◌-◌, ◌^◌, min, option_map, IfSome, Some};
 ghost use Rattle.std.specs.Char.{digit_value};
 ghost use Rattle.tclchars.specs.Runs.{back};
@@ -6,12 +6,12 @@ ghost use Rattle.tclnumber.specs.Numerals.{trimmed, without_end, is_minus, witho
 ghost use Rattle.tclchars.specs.Bytes.{is_space};
 ghost use Rattle.tclnumber.specs.declared.number.Numeral.TheVariants.{Whole};
 
-/// A text as a number.
+/// What a text is as a number.
 #[derive(Clone, Copy, Debug, PartialEq, Eq)]
 pub enum Numeral {
-    /// A whole number of 64 bits with a sign.
+    /// A whole number that a signed number of 64 bits holds.
     Whole(i64),
-    /// A whole number outside 64 bits.
+    /// A whole number that does not fit into 64 bits.
     TooLarge,
     /// A number with a fraction or an exponent, an infinity, or what is not a number.
     Fraction,
@@ -19,7 +19,7 @@ pub enum Numeral {
     Text,
 }
 
-/// The class of a text as a number of Tcl, with its value where it is whole. White space may stand around it. Takes no
+/// The class of a text as a number of Tcl, with its value where it is whole. White space may be around it. Takes no
 /// memory.
 ///
 /// - `Whole`: an optional sign, then decimal digits, `0x` with hexadecimal, `0o` with octal, `0b` with binary digits,
@@ -37,7 +37,7 @@ pub fn read_number(text: &str) -> Numeral
     any_number(text.as_bytes())
 }
 
-/// The number of decimal digits alone, of at most 18; None of some texts that are larger numbers.
+/// The number of decimal digits alone; none where another byte is among them, or where it may pass 18 digits.
 fn few_digits(digits: &[u8]) -> Option<u64>
     ensures { IfSome result (λ n. (n < 2 ^ 63) × (digits_from 10 0 digits.now ≡ Some n)) }
 {
@@ -51,7 +51,7 @@ fn few_digits(digits: &[u8]) -> Option<u64>
     Some(number)
 }
 
-/// The number of decimal digits alone that begin with no 0, of at most 18: what most numbers are, read at once.
+/// The number of a few decimal digits alone, the first of which is no 0: what most numbers are, read at once.
 fn plain_decimal(text: &[u8]) -> Option<i64>
     ensures { IfSome result (λ n. numeral text.now ≡ Whole n) }
 {
@@ -61,6 +61,7 @@ fn plain_decimal(text: &[u8]) -> Option<i64>
     }
 }
 
+/// The class of any text as a number, and its value.
 fn any_number(text: &[u8]) -> Numeral
     ensures { result ≡ numeral text.now }
 {
@@ -78,18 +79,21 @@ fn any_number(text: &[u8]) -> Numeral
     }
 }
 
+/// Whether the byte is white space.
 fn is_space(b: u8) -> bool
     ensures { result ≡ is_space b }
 {
     b == b' ' || b == b'\t' || b == 11 || b == 12 || b == b'\r' || b == b'\n'
 }
 
+/// The bytes without the white space around them.
 fn trim(bytes: &[u8]) -> &[u8]
     ensures { result.now ≡ trimmed bytes.now }
 {
     trim_end(trim_start(bytes))
 }
 
+/// The bytes without the white space that they begin with.
 fn trim_start(bytes: &[u8]) -> &[u8]
     ensures { result.now ≡ back is_space bytes.now }
 {
@@ -103,6 +107,7 @@ fn trim_start(bytes: &[u8]) -> &[u8]
     rest
 }
 
+/// The bytes without the white space that they end with.
 fn trim_end(bytes: &[u8]) -> &[u8]
     ensures { result.now ≡ without_end bytes.now }
 {
@@ -116,6 +121,7 @@ fn trim_end(bytes: &[u8]) -> &[u8]
     rest
 }
 
+/// Whether the bytes begin with a minus sign.
 fn is_minus(bytes: &[u8]) -> bool
     ensures { result ≡ is_minus bytes.now }
 {
@@ -125,6 +131,7 @@ fn is_minus(bytes: &[u8]) -> bool
     }
 }
 
+/// The bytes without the sign that they begin with, if they do.
 fn without_sign(bytes: &[u8]) -> &[u8]
     ensures { result.now ≡ without_sign bytes.now }
 {
@@ -134,7 +141,7 @@ fn without_sign(bytes: &[u8]) -> &[u8]
     }
 }
 
-/// The value of a digit of bases up to 36, or 36.
+/// The value of a digit of bases up to 36; 36 for any other byte.
 fn digit_value(b: u8) -> u64
     ensures { result ≡ digit_value b }
 {
@@ -146,7 +153,8 @@ fn digit_value(b: u8) -> u64
     }
 }
 
-/// The number of these digits, or the largest `u64` where it is larger.
+/// The number that these digits of the base spell, or the largest `u64` where it is larger; none without digits, or
+/// where a byte is no digit of the base.
 fn digits_in(base: u64, digits: &[u8]) -> Option<u64>
     requires low { 1 ≤ base }
     requires high { base ≤ 16 }
@@ -166,7 +174,7 @@ fn digits_in(base: u64, digits: &[u8]) -> Option<u64>
     Some(n)
 }
 
-/// The base that the letter behind a leading zero names.
+/// The base that the letter after a leading 0 names.
 fn base_of(letter: u8) -> Option<u64>
     ensures { result ≡ base_of letter }
 {
@@ -178,7 +186,8 @@ fn base_of(letter: u8) -> Option<u64>
     }
 }
 
-/// The value of a whole number without a sign, or the largest `u64` where it is larger.
+/// The value of a whole number without a sign, or the largest `u64` where it is larger; none where the bytes are no
+/// whole number.
 fn magnitude(bytes: &[u8]) -> Option<u64>
     ensures { result ≡ option_map (λ n. min n (2 ^ 64 - 1)) (magnitude bytes.now) }
 {
@@ -190,6 +199,7 @@ fn magnitude(bytes: &[u8]) -> Option<u64>
     }
 }
 
+/// The same for the bytes after a leading 0.
 fn behind_zero(bytes: &[u8]) -> Option<u64>
     ensures { result ≡ option_map (λ n. min n (2 ^ 64 - 1)) (behind_zero bytes.now) }
 {
@@ -202,7 +212,7 @@ fn behind_zero(bytes: &[u8]) -> Option<u64>
     }
 }
 
-/// A whole number with this sign, within 64 bits.
+/// The whole number with this sign and magnitude, where 64 bits hold it.
 fn whole_of(minus: bool, magnitude: u64) -> Numeral
     ensures { result ≡ whole_of minus magnitude }
 {
@@ -219,12 +229,14 @@ fn whole_of(minus: bool, magnitude: u64) -> Numeral
     Numeral::TooLarge
 }
 
+/// Whether the byte is a decimal digit.
 fn is_digit(b: u8) -> bool
     ensures { result ≡ is_digit b }
 {
     b'0' <= b && b <= b'9'
 }
 
+/// Whether the bytes begin with a decimal digit.
 fn begins_digit(bytes: &[u8]) -> bool
     ensures { result ≡ begins_digit bytes.now }
 {
@@ -234,6 +246,7 @@ fn begins_digit(bytes: &[u8]) -> bool
     }
 }
 
+/// The bytes without the decimal digits that they begin with.
 fn after_digits(bytes: &[u8]) -> &[u8]
     ensures { result.now ≡ back is_digit bytes.now }
 {
@@ -247,12 +260,14 @@ fn after_digits(bytes: &[u8]) -> &[u8]
     rest
 }
 
+/// Whether the bytes are decimal digits alone, one at least.
 fn are_digits(bytes: &[u8]) -> bool
     ensures { result ≡ are_digits bytes.now }
 {
     begins_digit(bytes) && after_digits(bytes).is_empty()
 }
 
+/// Whether the bytes are an exponent: `e` or `E`, a sign or none, and digits.
 fn is_exponent(bytes: &[u8]) -> bool
     ensures { result ≡ is_exponent bytes.now }
 {
@@ -262,14 +277,14 @@ fn is_exponent(bytes: &[u8]) -> bool
     }
 }
 
-/// A number with a fraction, without a sign, where it is no whole number.
+/// Whether the bytes are a number with a fraction, without a sign; asked where they are no whole number.
 fn is_fraction(bytes: &[u8]) -> bool
     ensures { result ≡ is_fraction bytes.now }
 {
     is_fraction_end(bytes, after_digits(bytes)) || is_word(bytes)
 }
 
-/// Whether what follows the digits in front makes a number with a fraction.
+/// Whether the bytes are a number with a fraction, by the rest after their leading digits.
 fn is_fraction_end(bytes: &[u8], rest: &[u8]) -> bool
     ensures { result ≡ is_fraction_end bytes.now rest.now }
 {
@@ -282,12 +297,14 @@ fn is_fraction_end(bytes: &[u8], rest: &[u8]) -> bool
     }
 }
 
+/// Whether the bytes are an exponent or nothing.
 fn may_be_exponent(bytes: &[u8]) -> bool
     ensures { result ≡ may_be_exponent bytes.now }
 {
     bytes.is_empty() || is_exponent(bytes)
 }
 
+/// Whether the bytes are `inf`, `infinity` or `nan` in any case.
 fn is_word(bytes: &[u8]) -> bool
     ensures { result ≡ is_word bytes.now }
 {
