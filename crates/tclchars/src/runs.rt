@@ -17,15 +17,15 @@ pub enum Class {
     BlankOrTab,
     /// What has no meaning of its own anywhere: no white space, `;`, quote, brace, bracket, `$` or backslash.
     Plain,
-    /// What stands for itself in a bare word of a script.
+    /// What is literal in a word without quotes and braces, in a script outside of brackets.
     BareScript,
-    /// What stands for itself in a bare word of a script in brackets.
+    /// What is literal in a word without quotes and braces, in a script in brackets.
     BareBracket,
-    /// What stands for itself in the index of a variable.
+    /// What is literal in the index of an array element.
     BareIndex,
-    /// What stands for itself in quotes.
+    /// What is literal in quotes.
     BareQuote,
-    /// What stands for itself in a bare element of a list.
+    /// What is literal in an element of a list without quotes and braces.
     BareElement,
     /// Letters, digits and the underscore.
     Name,

@@ -130,6 +130,6 @@ pub enum Mark {
     Complement,
     /// `!`
     Not,
-    /// An operator between two operands. `+` and `-` also stand before one.
+    /// An operator between two operands. `+` and `-` may also come before one.
     Infix(Infix),
 }

@@ -61,7 +61,7 @@ impl<P> WithHeight<P> {
     }
 }
 
-// Not derived, so that it is dropped by one call, and no proof of a reader opens its tree at each way out.
+// Not derived, so that it is dropped by one call, and no proof of a reader opens its tree at each exit.
 impl<P: Drop> Drop for WithHeight<P> {
     fn drop(self) {
         let WithHeight {

@@ -11,7 +11,7 @@ ghost use Rattle.tcllist.specs.ListFaults.{IsFaulty, IsListFault};
 ghost use Rattle.tcllist.specs.ListReading.{list_of};
 ghost use Rattle.tcllist.specs.Lists.{list_text};
 
-/// A text is a list of the same elements, whichever way it is read.
+/// A text, as a list, has one sequence of elements at most.
 pub fn one_list()
     ensures { (bs : Text) (es fs : List Text) → IsList bs es → IsList bs fs → es ≡ fs }
 {}

@@ -45,7 +45,7 @@ fn runs(from: &str, text: &str, count: usize, to: &str) -> bool
     }
 }
 
-/// The same, where `middle` remains of the pattern after half of the characters.
+/// The same as `runs`, where `middle` remains of the pattern after half of the characters.
 #[cycle(halves)]
 fn runs_by(from: &str, text: &str, middle: &str, count: usize, to: &str) -> bool
     requires { 2 ≤ count }

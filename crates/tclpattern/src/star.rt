@@ -1,4 +1,4 @@
-//! The search for a match from a star on: the way of search by the shape and length of the pattern.
+//! The search for a match from a star on: which search is used depends on the shape and length of the pattern.
 ghost use Rattle.std.specs.Prelude.{◌≡◌, ◌↔◌, true, IsTrue};
 ghost use Rattle.std.specs.Str.{chars};
 ghost use Rattle.tclpattern.specs.Search.Plain as plain;
