@@ -7,7 +7,7 @@ ghost use Rattle.modulename.specs.Versions.{version_order, TellsApart, HasOneGre
 /// greatest member at most. A run compares with another byte as its first digit does.
 pub fn order_of_versions()
     ensures total { IsTotalOrder version_order }
-    ensures apart { TellsApart }
+    ensures same { TellsApart }
     ensures greatest { HasOneGreatest }
     ensures first_digit { ComparesByFirstDigit }
 {}

@@ -2,7 +2,7 @@
 use Rattle.std.specs.Prelude.{ℕ, zero, suc, ◌+◌, ◌*◌, [], ◌∷◌, Bool, false, ◌||◌, ◌&&◌, ◌==◌, nat_lt, nat_le, if◌then◌else◌, Option, Some, None, encode_utf8}
 use Rattle.std.specs.Char.{digit_value}
 use Rattle.tclchars.specs.Bytes.{space, tab, newline, is_continuation}
-use Rattle.tclchars.specs.Runs.{Text, front, back}
+use Rattle.tclchars.specs.Runs.{Text, take_while, drop_while}
 
 -- a b f n r t v stand for the characters 7 8 12 10 13 9 11; any other byte stands for itself
 abbrev pub letter_value : ℕ → ℕ
@@ -69,10 +69,10 @@ begins_wide (b ∷ bs) = nat_le 128 b
 abbrev pub after_backslash : Text → Option (Text × Text)
 after_backslash [] = None
 after_backslash (b ∷ bs) =
-    if b == newline then Some (space ∷ [], back is_blank_or_tab bs)
+    if b == newline then Some (space ∷ [], drop_while is_blank_or_tab bs)
     else if is_octal b then character (octal_at 3 0 (b ∷ bs))
     else if b == 120 then code_at 2 b bs
     else if b == 117 then code_at 4 b bs
     else if b == 85 then wide_code_at bs
-    else if nat_le 128 b then Some (b ∷ front is_continuation bs, back is_continuation bs)
+    else if nat_le 128 b then Some (b ∷ take_while is_continuation bs, drop_while is_continuation bs)
     else Some (letter_value b ∷ [], bs)

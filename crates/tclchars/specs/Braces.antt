@@ -13,8 +13,8 @@ pub data Balanced : Text → Type 0 where
 -- The brace that closes, as a function that computes; by the law `closing_brace` it agrees with Balanced.
 
 -- the byte put before the text that was found
-abbrev pub behind : ℕ → Option (Text × Text) → Option (Text × Text)
-behind b found = option_map (λ p. (b ∷ p.0, p.1)) found
+abbrev pub with_first : ℕ → Option (Text × Text) → Option (Text × Text)
+with_first b found = option_map (λ p. (b ∷ p.0, p.1)) found
 
 -- Inside braces, what one byte does: whether the next byte is escaped, and how many braces are then open inside. None
 -- where it closes the outer brace.
@@ -34,7 +34,7 @@ brace_step false (suc depth) b =
 -- what is found after a byte, by what the byte does
 abbrev pub after_step : ℕ → Text → (Bool → ℕ → Option (Text × Text)) → Option (Bool × ℕ) → Option (Text × Text)
 after_step b bs more None = Some ([], bs)
-after_step b bs more (Some s) = behind b (more s.0 s.1)
+after_step b bs more (Some s) = with_first b (more s.0 s.1)
 
 -- the text before the brace that closes, and the text after it
 unfoldable pub braced_at : Bool → ℕ → Text → Option (Text × Text)

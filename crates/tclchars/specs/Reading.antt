@@ -56,11 +56,11 @@ left_of (marks.BadCharacter left) = left
 left_of (marks.BadExpression left) = left
 
 -- the fault of a text of that length, with the offset of its mark
-abbrev pub placed : ℕ → Fault → TextFault
-placed len (marks.OpenBrace left) = faults.OpenBrace (len - left)
-placed len (marks.OpenQuote left) = faults.OpenQuote (len - left)
-placed len (marks.OpenBracket left) = faults.OpenBracket (len - left)
-placed len (marks.JoinedToClose left) = faults.JoinedToClose (len - left)
-placed len marks.TooDeep = faults.TooDeep
-placed len (marks.BadCharacter left) = faults.BadCharacter (len - left)
-placed len (marks.BadExpression left) = faults.BadExpression (len - left)
+abbrev pub with_offset : ℕ → Fault → TextFault
+with_offset len (marks.OpenBrace left) = faults.OpenBrace (len - left)
+with_offset len (marks.OpenQuote left) = faults.OpenQuote (len - left)
+with_offset len (marks.OpenBracket left) = faults.OpenBracket (len - left)
+with_offset len (marks.JoinedToClose left) = faults.JoinedToClose (len - left)
+with_offset len marks.TooDeep = faults.TooDeep
+with_offset len (marks.BadCharacter left) = faults.BadCharacter (len - left)
+with_offset len (marks.BadExpression left) = faults.BadExpression (len - left)

@@ -6,14 +6,14 @@ abbrev pub Text : Type 0
 Text = List ℕ
 
 -- the longest run that passes the test and that the text begins with
-abbrev pub front : (ℕ → Bool) → Text → Text
-front p [] = []
-front p (b ∷ bs) = if p b then b ∷ front p bs else []
+abbrev pub take_while : (ℕ → Bool) → Text → Text
+take_while p [] = []
+take_while p (b ∷ bs) = if p b then b ∷ take_while p bs else []
 
 -- the rest after that run
-abbrev pub back : (ℕ → Bool) → Text → Text
-back p [] = []
-back p (b ∷ bs) = if p b then back p bs else b ∷ bs
+abbrev pub drop_while : (ℕ → Bool) → Text → Text
+drop_while p [] = []
+drop_while p (b ∷ bs) = if p b then drop_while p bs else b ∷ bs
 
 -- the text begins with this byte
 abbrev pub begins : ℕ → Text → Bool

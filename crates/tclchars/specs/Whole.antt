@@ -3,7 +3,7 @@
 use Rattle.std.specs.Prelude.{◌≡◌, ◌≤◌, ◌<◌, ◌+◌, ℕ, length, nat_lt, if◌then◌else◌, Result, Ok, Err}
 use Rattle.tclchars.specs.Runs.{Text}
 use Rattle.tclchars.specs.Faults.{max_bytes}
-use Rattle.tclchars.specs.Reading.{placed}
+use Rattle.tclchars.specs.Reading.{with_offset}
 use Rattle.tclchars.specs.declared.fault.Fault.{Fault}
 use Rattle.tclchars.specs.declared.fault.Fault.TheVariants.{OpenBrace, OpenQuote, OpenBracket, JoinedToClose, TooDeep, BadCharacter, BadExpression}
 use Rattle.tclchars.specs.declared.fault.TextFault.{TextFault}
@@ -32,7 +32,7 @@ IsFaultOf Is bs faults.TooLong = max_bytes < length bs
 -- what was read of a text, or the fault with its offset
 abbrev pub at_place : {A : Type 0} → Text → Result A Fault → Result A TextFault
 at_place bs (Ok x) = Ok x
-at_place bs (Err fault) = Err (placed (length bs) fault)
+at_place bs (Err fault) = Err (with_offset (length bs) fault)
 
 -- what is read of a text within the limit
 abbrev pub whole_of : {A : Type 0} → (Text → Result A Fault) → Text → Result A TextFault

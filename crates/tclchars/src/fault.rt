@@ -2,7 +2,7 @@
 ghost use Rattle.std.specs.Prelude.{◌≡◌, ◌≤◌, Some};
 ghost use Rattle.message.specs.Messages.{text_of};
 ghost use Rattle.tclchars.specs.Faults.{fault_message, fault_number};
-ghost use Rattle.tclchars.specs.Reading.{left_of, placed};
+ghost use Rattle.tclchars.specs.Reading.{left_of, with_offset};
 ghost use Rattle.tclchars.specs.declared.fault.ReadError.TheVariants.{Memory};
 
 use message::Message;
@@ -128,9 +128,9 @@ impl<T: Drop> From<AllocFailed<T>> for ReadError {
 }
 
 /// The fault in a text of `len` bytes, with its offset from the beginning of the text.
-pub fn place(fault: Fault, len: usize) -> TextFault
+pub fn with_offset(fault: Fault, len: usize) -> TextFault
     requires { left_of fault ≤ len }
-    ensures { result ≡ placed len fault }
+    ensures { result ≡ with_offset len fault }
 {
     match fault {
         Fault::OpenBrace(left) => TextFault::OpenBrace(len - left),

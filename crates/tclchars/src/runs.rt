@@ -1,7 +1,7 @@
 //! Classes of bytes, and the runs of one class that a text begins with (Tcl(n), rules 1 to 9).
 ghost use Rattle.std.specs.Prelude.{◌≡◌, ◌<◌, ◌∷◌, false, MatchOption};
 ghost use Rattle.tclchars.specs.Bytes.{is_blank, is_end, is_gap, is_special, is_plain, is_space};
-ghost use Rattle.tclchars.specs.Runs.{front, back, begins};
+ghost use Rattle.tclchars.specs.Runs.{take_while, drop_while, begins};
 ghost use Rattle.tclchars.specs.Classes.{in_class, begins_in, is_name, is_substitution};
 
 /// A class of bytes. It has all bytes of a character of several bytes, or none of them.
@@ -110,8 +110,8 @@ pub fn begins_class(text: &str, class: Class) -> bool
 
 /// The longest run of bytes of that class that the text begins with, and the rest.
 pub fn split_front(text: &str, class: Class) -> (&str, &str)
-    ensures run { result.0.now ≡ front (in_class class) text.now }
-    ensures rest { result.1.now ≡ back (in_class class) text.now }
+    ensures run { result.0.now ≡ take_while (in_class class) text.now }
+    ensures rest { result.1.now ≡ drop_while (in_class class) text.now }
 {
     let bytes = text.as_bytes();
     let mut n = 0;

@@ -1,6 +1,6 @@
 -- White space, and the operators and parentheses of an expression (expr(n), OPERATORS).
 use Rattle.std.specs.Prelude.{ℕ, [], ◌∷◌, Bool, false, ◌||◌, ◌&&◌, ◌==◌, if◌then◌else◌, Option, Some, None}
-use Rattle.tclchars.specs.Runs.{Text, front, back, begins}
+use Rattle.tclchars.specs.Runs.{Text, take_while, drop_while, begins}
 use Rattle.tclchars.specs.Bytes.{is_space, newline, backslash, left_parenthesis, right_parenthesis, star, colon}
 use Rattle.tclchars.specs.Classes.{is_name}
 use Rattle.tclexpr.specs.declared.operators.BinaryOperator.TheVariants.{Multiply, Divide, Remainder, Add, Subtract, ShiftLeft, ShiftRight, Less, Greater, LessEqual, GreaterEqual, Equal, NotEqual, TextEqual, TextNotEqual, In, NotIn, BitAnd, BitXor, BitOr}
@@ -122,4 +122,4 @@ symbol_at (b ∷ (c ∷ bs)) =
 
 -- the mark that the text begins with, and the rest
 unfoldable pub mark_at : Text → Option (Mark × Text)
-mark_at bs = longest (before (back is_name bs) (word_mark (front is_name bs))) (symbol_at bs)
+mark_at bs = longest (before (drop_while is_name bs) (word_mark (take_while is_name bs))) (symbol_at bs)

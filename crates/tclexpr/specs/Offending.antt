@@ -18,13 +18,13 @@ TokensGoOn ts = (more : List (Token Operand)) × (h : ℕ) × (e : Expr Operand)
 -- The fault is that of a text from a token on. A wrong expression is wrong at this token: all bytes of the text remain.
 -- Any other fault is one inside the operand that begins here. That marks nest too deeply has no offset.
 abbrev pub IsFaultFrom : Fault → Text → Type 0
-IsFaultFrom (OpenBrace left) bs = (d : ℕ) × OperandFault d bs (OpenBrace left)
-IsFaultFrom (OpenQuote left) bs = (d : ℕ) × OperandFault d bs (OpenQuote left)
-IsFaultFrom (OpenBracket left) bs = (d : ℕ) × OperandFault d bs (OpenBracket left)
-IsFaultFrom (JoinedToClose left) bs = (d : ℕ) × OperandFault d bs (JoinedToClose left)
+IsFaultFrom (OpenBrace remaining) bs = (d : ℕ) × OperandFault d bs (OpenBrace remaining)
+IsFaultFrom (OpenQuote remaining) bs = (d : ℕ) × OperandFault d bs (OpenQuote remaining)
+IsFaultFrom (OpenBracket remaining) bs = (d : ℕ) × OperandFault d bs (OpenBracket remaining)
+IsFaultFrom (JoinedToClose remaining) bs = (d : ℕ) × OperandFault d bs (JoinedToClose remaining)
 IsFaultFrom TooDeep bs = Unit {0}
-IsFaultFrom (BadCharacter left) bs = (d : ℕ) × OperandFault d bs (BadCharacter left)
-IsFaultFrom (BadExpression left) bs = length bs ≡ left
+IsFaultFrom (BadCharacter remaining) bs = (d : ℕ) × OperandFault d bs (BadCharacter remaining)
+IsFaultFrom (BadExpression remaining) bs = length bs ≡ remaining
 
 -- The text begins with tokens that are the beginning of some expression, and the fault comes after them and white
 -- space.
@@ -37,4 +37,4 @@ pub record IsBehindFront (bs : Text) (f : Fault) : Type 0 where
 
 -- the same of a wrong expression, by its offset
 abbrev pub HasFrontBefore : Text → ℕ → Type 0
-HasFrontBefore bs at = (left : ℕ) × (at + left ≡ length bs) × IsBehindFront bs (BadExpression left)
+HasFrontBefore bs at = (remaining : ℕ) × (at + remaining ≡ length bs) × IsBehindFront bs (BadExpression remaining)

@@ -1,6 +1,6 @@
 -- What expr(n) has and is unsupported here, by the name that a bad token has: the operator ** and functions (own).
 use Rattle.std.specs.Prelude.{ℕ, [], ◌∷◌, Bool, false, not, ◌||◌, ◌&&◌, ◌==◌, nat_le, if◌then◌else◌, Option, Some, None, codes, bytes_eq}
-use Rattle.tclchars.specs.Runs.{Text, front, back, begins}
+use Rattle.tclchars.specs.Runs.{Text, take_while, drop_while, begins}
 use Rattle.tclchars.specs.Bytes.{star, left_parenthesis}
 use Rattle.tclchars.specs.Classes.{is_name, begins_in}
 
@@ -21,9 +21,9 @@ is_operator_word t =
 -- the text begins with the name of a function: a word that is no operator, with a parenthesis directly after it
 abbrev pub names_function : Text → Bool
 names_function t =
-    begins_in is_letter t && begins left_parenthesis (back is_name t) && not (is_operator_word (front is_name t))
+    begins_in is_letter t && begins left_parenthesis (drop_while is_name t) && not (is_operator_word (take_while is_name t))
 
 -- the name of the unsupported operator or function that the text begins with, if it does; it begins at a bad token
 abbrev pub omitted_at : Text → Option Text
 omitted_at t =
-    if begins_power t then Some (star ∷ (star ∷ [])) else if names_function t then Some (front is_name t) else None
+    if begins_power t then Some (star ∷ (star ∷ [])) else if names_function t then Some (take_while is_name t) else None

@@ -2,7 +2,7 @@
 -- substitutions, quoted and braced texts of scripts.
 use Rattle.std.specs.Prelude.{ℕ, suc, ◌+◌, [], ◌∷◌, length, Bool, true, false, not, ◌||◌, ◌&&◌, ◌==◌, nat_le, if◌then◌else◌, Option, Some, None, Result, Ok, Err}
 use Rattle.tclchars.specs.Bytes.{quote, dollar, left_parenthesis, left_bracket, left_brace}
-use Rattle.tclchars.specs.Runs.{Text, front, back, begins}
+use Rattle.tclchars.specs.Runs.{Text, take_while, drop_while, begins}
 use Rattle.tclchars.specs.Classes.{is_name, begins_in}
 use Rattle.tclchars.specs.Braces.{braced_at}
 use Rattle.tclchars.specs.Reading.{◌>>=◌, Read, read_map}
@@ -37,7 +37,7 @@ abbrev pub begins_digit : Digits → Text → Bool
 begins_digit digits bs = begins_in (is_digit digits) bs
 
 unfoldable pub after_digits : Digits → Text → Text
-after_digits digits bs = back (is_digit digits) bs
+after_digits digits bs = drop_while (is_digit digits) bs
 
 -- the digits that a letter after a leading 0 announces: x, o or b in either case
 abbrev pub announced : ℕ → Option Digits
@@ -126,28 +126,28 @@ is_truth bs = (nat_le 1 (length bs) && begins_truth bs) || (nat_le 2 (length bs)
 
 -- a substitution of a script, with how deep it nests; a literal dollar is no operand
 abbrev pub operand_of : ℕ → Part → Result (Operand × ℕ) Fault
-operand_of left (tree.variable name) = Ok (variable name, 0)
-operand_of left (tree.indexed name ps) = Ok (indexed name ps, suc (parts_nesting ps))
-operand_of left (tree.bracket s) = Ok (bracket s, suc (nesting s))
-operand_of left part = Err (BadExpression left)
+operand_of remaining (tree.variable name) = Ok (variable name, 0)
+operand_of remaining (tree.indexed name ps) = Ok (indexed name ps, suc (parts_nesting ps))
+operand_of remaining (tree.bracket s) = Ok (bracket s, suc (nesting s))
+operand_of remaining part = Err (BadExpression remaining)
 
 abbrev pub substituted : ℕ → Part × Text → Read (Operand × ℕ)
-substituted left p = operand_of left p.0 >>= (λ o. Ok (o, p.1))
+substituted remaining p = operand_of remaining p.0 >>= (λ o. Ok (o, p.1))
 
 -- A variable, after its dollar, and a script, after its bracket; the number is how many bytes remain from that mark on.
 abbrev pub variable_operand_at : ℕ → ℕ → Text → Read (Operand × ℕ)
-variable_operand_at d left bs = dollar_at (inner_at d) bs >>= substituted left
+variable_operand_at d remaining bs = dollar_at (inner_at d) bs >>= substituted remaining
 
 abbrev pub bracket_operand_at : ℕ → ℕ → Text → Read (Operand × ℕ)
-bracket_operand_at d left bs = bracket_at (inner_at d) bs >>= substituted left
+bracket_operand_at d remaining bs = bracket_at (inner_at d) bs >>= substituted remaining
 
 -- a text in quotes, after the opening quote
 unfoldable pub quoted_at : ℕ → Text → Read (Operand × ℕ)
 quoted_at d bs = read_map (λ ps. (quoted ps, parts_nesting ps)) (quotes_at (inner_at d) bs)
 
 abbrev pub operand_in_braces : ℕ → Option (Text × Text) → Read (Operand × ℕ)
-operand_in_braces left None = Err (OpenBrace left)
-operand_in_braces left (Some p) = Ok ((braced p.0, 0), p.1)
+operand_in_braces remaining None = Err (OpenBrace remaining)
+operand_in_braces remaining (Some p) = Ok ((braced p.0, 0), p.1)
 
 -- a text in braces, after the opening brace
 unfoldable pub braced_text_at : Text → Read (Operand × ℕ)
@@ -156,8 +156,8 @@ braced_text_at bs = operand_in_braces (suc (length bs)) (braced_at false 0 bs)
 -- a truth word without a parenthesis directly after it
 unfoldable pub word_at : Text → Read (Operand × ℕ)
 word_at bs =
-    if is_truth (front is_name bs) && not (begins left_parenthesis (back is_name bs))
-    then Ok ((word (front is_name bs), 0), back is_name bs)
+    if is_truth (take_while is_name bs) && not (begins left_parenthesis (drop_while is_name bs))
+    then Ok ((word (take_while is_name bs), 0), drop_while is_name bs)
     else Err (BadExpression (length bs))
 
 -- a number, by the rest after it, or a truth word

@@ -40,8 +40,8 @@ infix_of m = None
 
 -- the rest after a mark that must come next
 abbrev pub expected : (Mark → Bool) → ℕ → Option (Mark × Text) → Result Text Fault
-expected wanted left None = Err (BadExpression left)
-expected wanted left (Some p) = if wanted p.0 then Ok p.1 else Err (BadExpression left)
+expected wanted remaining None = Err (BadExpression remaining)
+expected wanted remaining (Some p) = if wanted p.0 then Ok p.1 else Err (BadExpression remaining)
 
 abbrev pub expect : (Mark → Bool) → Text → Result Text Fault
 expect wanted bs = expected wanted (length (after_white bs)) (mark_at (after_white bs))
@@ -72,8 +72,8 @@ ended e (b ∷ bs) = Err (BadExpression (length (b ∷ bs)))
 module _ {O : Type 0} (read_operand : ℕ → Text → Read (O × ℕ)) where
   -- a unary operator and its operand
   abbrev pub signed_at : (Extent → Text → Read (WithHeight O)) → ℕ → Text → Option UnaryOperator → Read (WithHeight O)
-  signed_at below left rest None = Err (BadExpression left)
-  signed_at below left rest (Some u) = read_map (λ x. (unary u x.0, suc x.1)) (below (chain 1) rest)
+  signed_at below remaining rest None = Err (BadExpression remaining)
+  signed_at below remaining rest (Some u) = read_map (λ x. (unary u x.0, suc x.1)) (below (chain 1) rest)
 
   -- an expression in parentheses, after the opening one
   abbrev pub enclosed_at : (Extent → Text → Read (WithHeight O)) → Text → Read (WithHeight O)
@@ -83,7 +83,7 @@ module _ {O : Type 0} (read_operand : ℕ → Text → Read (O × ℕ)) where
     Ok ((x.0.0, suc x.0.1), after)
 
   abbrev pub marked_at : (Extent → Text → Read (WithHeight O)) → ℕ → Mark → Text → Read (WithHeight O)
-  marked_at below left m rest = if is_open m then enclosed_at below rest else signed_at below left rest (sign_of m)
+  marked_at below remaining m rest = if is_open m then enclosed_at below rest else signed_at below remaining rest (sign_of m)
 
   -- an operand with the unary operators before it, or an expression in parentheses
   abbrev pub begun_at : ℕ → (Extent → Text → Read (WithHeight O)) → Text → Option (Mark × Text) → Read (WithHeight O)

@@ -34,6 +34,6 @@ pub fn expr_of_grammar()
 /// beginning of some expression. After them and white space comes what is wrong: an operand, a token that may not
 /// follow, or the end of the text; that is the offset of a wrong expression.
 pub fn first_offending()
-    ensures front { (d : ℕ) (bs : Text) (f : Fault) → IsFault d bs f → IsBehindFront bs f }
-    ensures place { (bs : Text) (at : ℕ) → IsTextFault bs (BadExpression at) → HasFrontBefore bs at }
+    ensures prefix { (d : ℕ) (bs : Text) (f : Fault) → IsFault d bs f → IsBehindFront bs f }
+    ensures offset { (bs : Text) (at : ℕ) → IsTextFault bs (BadExpression at) → HasFrontBefore bs at }
 {}

@@ -86,10 +86,10 @@ fn one_more(height: usize) -> usize
 }
 
 /// A substitution as an operand, with how deep it nests. A literal dollar is no operand: the expression is wrong at it,
-/// with `left` bytes remaining.
-fn operand_of<P: Drop>(part: Part<P>, left: usize) -> Result<(Operand<P>, usize), ReadError>
+/// with `remaining` bytes remaining.
+fn operand_of<P: Drop>(part: Part<P>, remaining: usize) -> Result<(Operand<P>, usize), ReadError>
     ensures { (shown : P → Text) → part_nesting (part_view shown part) ≤ usize.MAX
-        → Gives stopped_by (λ x. (operand_view shown x.0, x.1)) result (operand_of left (part_view shown part)) }
+        → Gives stopped_by (λ x. (operand_view shown x.0, x.1)) result (operand_of remaining (part_view shown part)) }
 {
     match part {
         Part::Variable(name) => Ok((Operand::Variable(name), 0)),
@@ -101,7 +101,7 @@ fn operand_of<P: Drop>(part: Part<P>, left: usize) -> Result<(Operand<P>, usize)
             let height = one_more(script_nesting(&script));
             Ok((Operand::Bracket(script), height))
         }
-        _ => Err(ReadError::Fault(Fault::BadExpression(left))),
+        _ => Err(ReadError::Fault(Fault::BadExpression(remaining))),
     }
 }
 

@@ -16,7 +16,7 @@ use crate::marks::skip_white;
 use crate::reading::read_whole;
 use crate::tree::Expr;
 use std::alloc::Global;
-use tclchars::{Fault, MAX_BYTES, MAX_NESTING, ReadError, TextFault, place};
+use tclchars::{Fault, MAX_BYTES, MAX_NESTING, ReadError, TextFault, with_offset};
 use tclscript::Source;
 
 /// The tree of an expression (expr(n)), whose pieces are slices of the text. Takes memory in proportion to the length
@@ -73,7 +73,7 @@ fn read_limited<S: Source<P>, P: Drop>(alloc: Global, source: &S) -> Result<Expr
     match read_source(alloc, source) {
         Ok(expression) => Ok(expression),
         Err(ReadError::Memory) => Err(TextFault::OutOfMemory),
-        Err(ReadError::Fault(fault)) => Err(place(fault, len)),
+        Err(ReadError::Fault(fault)) => Err(with_offset(fault, len)),
     }
 }
 
@@ -83,10 +83,10 @@ fn read_source<S: Source<P>, P: Drop>(alloc: Global, source: &S) -> Result<Expr<
         (expr_at operand_at max_nesting (S.text source.now)) }
 {
     let (expression, rest) = read_whole(alloc, source, source.as_str(), MAX_NESTING)?;
-    let left = skip_white(rest).len();
-    if left == 0 {
+    let remaining = skip_white(rest).len();
+    if remaining == 0 {
         Ok(expression.into_tree())
     } else {
-        Err(ReadError::Fault(Fault::BadExpression(left)))
+        Err(ReadError::Fault(Fault::BadExpression(remaining)))
     }
 }

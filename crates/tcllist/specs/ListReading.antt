@@ -5,7 +5,7 @@ use Rattle.std.specs.declared.vec.Vec.{Vec}
 use Rattle.std.specs.declared.string.String.{String}
 use Rattle.std.specs.declared.alloc.Global.{Global}
 use Rattle.tclchars.specs.Bytes.{backslash, is_space, quote, left_brace}
-use Rattle.tclchars.specs.Runs.{Text, back}
+use Rattle.tclchars.specs.Runs.{Text, drop_while}
 use Rattle.tclchars.specs.Backslash.{after_backslash}
 use Rattle.tclchars.specs.Braces.{braced_at}
 use Rattle.tclchars.specs.Whole.{whole_of, Reads}
@@ -75,7 +75,7 @@ text_ends (b ∷ bs) = false
 
 -- the elements of a text of any length
 unfoldable pub list_at : Text → Result (List Text) Fault
-list_at bs = items_at (back is_space) text_ends element_at (suc (length bs)) bs >>= (λ x. Ok x.0)
+list_at bs = items_at (drop_while is_space) text_ends element_at (suc (length bs)) bs >>= (λ x. Ok x.0)
 
 -- the elements of a text within the limit of length, or its fault
 unfoldable pub list_of : Text → Result (List Text) TextFault

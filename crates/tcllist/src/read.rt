@@ -1,6 +1,6 @@
 //! The elements of a list, read (Tcl(n), lindex(n)).
 ghost use Rattle.std.specs.Prelude.{◌≡◌, ℕ, suc, ◌≤◌, List, length, map, false, not, IfOk, IfErr, MatchResult, string_bytes};
-ghost use Rattle.tclchars.specs.Runs.{Text, front, back};
+ghost use Rattle.tclchars.specs.Runs.{Text, take_while, drop_while};
 ghost use Rattle.tclchars.specs.Braces.{braced_at};
 ghost use Rattle.tclchars.specs.Faults.{max_bytes};
 ghost use Rattle.tclchars.specs.Answers.{Gives};
@@ -14,8 +14,8 @@ ghost use Rattle.tcllist.specs.Ends.{ends_piece, is_plain_before};
 
 use std::alloc::Global;
 use tclchars::{
-    Class, Fault, MAX_BYTES, ReadError, TextFault, after_mark, begins_class, place, read_backslash,
-    split_close, split_front,
+    Class, Fault, MAX_BYTES, ReadError, TextFault, after_mark, begins_class, read_backslash,
+    split_close, split_front, with_offset,
 };
 
 /// The elements of a list (Tcl(n), lindex(n)), which white space separates. One in braces is taken as it is; in one in
@@ -55,7 +55,7 @@ fn read_whole(alloc: Global, text: &str) -> Result<Vec<String>, TextFault>
     match read_elements(alloc, text) {
         Ok(elements) => Ok(elements),
         Err(ReadError::Memory) => Err(TextFault::OutOfMemory),
-        Err(ReadError::Fault(fault)) => Err(place(fault, text.len())),
+        Err(ReadError::Fault(fault)) => Err(with_offset(fault, text.len())),
     }
 }
 
@@ -134,8 +134,8 @@ enum End {
 
 /// The run of literal bytes that the text begins with, in an element with that end, and the rest.
 fn split_plain(text: &str, end: End) -> (&str, &str)
-    ensures run { result.0.now ≡ front (is_plain_before end) text.now }
-    ensures rest { result.1.now ≡ back (is_plain_before end) text.now }
+    ensures run { result.0.now ≡ take_while (is_plain_before end) text.now }
+    ensures rest { result.1.now ≡ drop_while (is_plain_before end) text.now }
 {
     match end {
         End::Space => split_front(text, Class::BareElement),
@@ -152,8 +152,8 @@ fn is_plain_in_quotes(b: u8) -> bool
 
 /// The run of bytes that are literal in quotes, with which the text begins, and the rest.
 fn split_quoted(text: &str) -> (&str, &str)
-    ensures run { result.0.now ≡ front (is_plain_before Quote) text.now }
-    ensures rest { result.1.now ≡ back (is_plain_before Quote) text.now }
+    ensures run { result.0.now ≡ take_while (is_plain_before Quote) text.now }
+    ensures rest { result.1.now ≡ drop_while (is_plain_before Quote) text.now }
 {
     let bytes = text.as_bytes();
     let mut n = 0;

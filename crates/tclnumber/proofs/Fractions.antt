@@ -7,7 +7,7 @@ use Rattle.std.proofs.lemmas.Bool.Decides.{nat_tests}
 use Rattle.std.specs.Char.{digit_value}
 use Rattle.std.specs.Str.Parse.{AllDigits}
 use Rattle.tclchars.specs.Bytes.{is_space, AllPass}
-use Rattle.tclchars.specs.Runs.{Text, front, back}
+use Rattle.tclchars.specs.Runs.{Text, take_while, drop_while}
 use Rattle.tclnumber.specs.declared.number.Numeral.TheVariants as numerals
 use Rattle.tclnumber.specs.Numerals.{trimmed, is_minus, is_sign, without_sign, base_of, magnitude, is_digit, begins_digit, is_nil, are_digits, whole_of, is_exponent, may_be_exponent, is_fraction_end, is_word, is_fraction, class_of, numeral_of, numeral}
 use Rattle.tclnumber.specs.Numbers as numbers
@@ -26,43 +26,43 @@ both false u h = cc
 
 -- Runs of digits
 
-split_digits : (t : Text) → (t ≡ front is_digit t ++ back is_digit t) × AllPass is_digit (front is_digit t)
+split_digits : (t : Text) → (t ≡ take_while is_digit t ++ drop_while is_digit t) × AllPass is_digit (take_while is_digit t)
 split_digits [] = (refl, tt)
 split_digits (b ∷ t) = go (split_digits t) (is_digit b) refl where
-  go : (t ≡ front is_digit t ++ back is_digit t) × AllPass is_digit (front is_digit t) → (u : Bool) → is_digit b ≡ u
-      → (b ∷ t ≡ front is_digit (b ∷ t) ++ back is_digit (b ∷ t)) × AllPass is_digit (front is_digit (b ∷ t))
+  go : (t ≡ take_while is_digit t ++ drop_while is_digit t) × AllPass is_digit (take_while is_digit t) → (u : Bool) → is_digit b ≡ u
+      → (b ∷ t ≡ take_while is_digit (b ∷ t) ++ drop_while is_digit (b ∷ t)) × AllPass is_digit (take_while is_digit (b ∷ t))
   go k true e = rw e (ap (λ xs. b ∷ xs) k.0, (e, k.1))
   go k false e = rw e (refl, tt)
 
 -- behind digits
-over_digits : (ds rest : Text) → AllPass is_digit ds → back is_digit (ds ++ rest) ≡ back is_digit rest
+over_digits : (ds rest : Text) → AllPass is_digit ds → drop_while is_digit (ds ++ rest) ≡ drop_while is_digit rest
 over_digits [] rest all = refl
 over_digits (d ∷ ds) rest all = rw all.0 (over_digits ds rest all.1)
 
-stops : (b : ℕ) (rest : Text) → is_digit b ≡ false → back is_digit (b ∷ rest) ≡ b ∷ rest
+stops : (b : ℕ) (rest : Text) → is_digit b ≡ false → drop_while is_digit (b ∷ rest) ≡ b ∷ rest
 stops b rest h = rw h refl
 
-begins_front : (t : Text) → begins_digit t ≡ true → front is_digit t ≢ []
+begins_front : (t : Text) → begins_digit t ≡ true → take_while is_digit t ≢ []
 begins_front [] h = absurd (true_false (sym h))
 begins_front (b ∷ t) h = λ e. absurd (apart (sym (first b t h) ∙ e)) where
-  apart : b ∷ front is_digit t ≡ [] → ⊥
+  apart : b ∷ take_while is_digit t ≡ [] → ⊥
   apart h = cc
 
-  first : (b : ℕ) (t : Text) → is_digit b ≡ true → front is_digit (b ∷ t) ≡ b ∷ front is_digit t
+  first : (b : ℕ) (t : Text) → is_digit b ≡ true → take_while is_digit (b ∷ t) ≡ b ∷ take_while is_digit t
   first b t h = rw h refl
 
 begins_here : (ds rest : Text) → ds ≢ [] → AllPass is_digit ds → begins_digit (ds ++ rest) ≡ true
 begins_here [] rest some all = absurd (some refl)
 begins_here (d ∷ ds) rest some all = all.0
 
-all_nil : (ds : Text) → AllPass is_digit ds → is_nil (back is_digit ds) ≡ true
+all_nil : (ds : Text) → AllPass is_digit ds → is_nil (drop_while is_digit ds) ≡ true
 all_nil [] all = refl
 all_nil (d ∷ ds) all = rw all.0 (all_nil ds all.1)
 
-nil_all : (t : Text) → is_nil (back is_digit t) ≡ true → AllPass is_digit t
+nil_all : (t : Text) → is_nil (drop_while is_digit t) ≡ true → AllPass is_digit t
 nil_all [] h = tt
 nil_all (b ∷ t) h = go (nil_all t) (is_digit b) refl where
-  go : (is_nil (back is_digit t) ≡ true → AllPass is_digit t) → (u : Bool) → is_digit b ≡ u → AllPass is_digit (b ∷ t)
+  go : (is_nil (drop_while is_digit t) ≡ true → AllPass is_digit t) → (u : Bool) → is_digit b ≡ u → AllPass is_digit (b ∷ t)
   go more true e = (e, more (rw e at h))
   go more false e = absurd (true_false (sym (rw e at h)))
 
@@ -102,7 +102,7 @@ exponent_found : (t : Text) → is_exponent t ≡ true → IsExponent t
 exponent_found [] h = absurd (true_false (sym h))
 exponent_found (b ∷ bs) h =
     let k = both (b == 101 || b == 69) (are_digits (without_sign bs)) h in
-    let ds = both (begins_digit (without_sign bs)) (is_nil (back is_digit (without_sign bs))) k.1 in
+    let ds = both (begins_digit (without_sign bs)) (is_nil (drop_while is_digit (without_sign bs))) k.1 in
     (either b 101 69 k.0, is_minus bs, without_sign bs, signed_found bs, some (without_sign bs) ds.0, nil_all (without_sign bs) ds.1) where
       some : (t : Text) → begins_digit t ≡ true → t ≢ []
       some [] h = absurd (true_false (sym h))
@@ -244,7 +244,7 @@ exponent_letter : (b : ℕ) → (b ≡ 101) ⊎ (b ≡ 69) → BeginsNone b × (
 exponent_letter b (inl e) = subst (λ b. BeginsNone b × (is_digit b ≡ false) × ((b == 46) ≡ false) × (not (is_space b) ≡ true)) (sym e) ((lit≤ tt, refl, refl, refl), refl, refl, refl)
 exponent_letter b (inr e) = subst (λ b. BeginsNone b × (is_digit b ≡ false) × ((b == 46) ≡ false) × (not (is_space b) ≡ true)) (sym e) ((lit≤ tt, refl, refl, refl), refl, refl, refl)
 
-exponent_stops : (t : Text) → (t ≡ []) ⊎ IsExponent t → (back is_digit t ≡ t) × (may_be_exponent t ≡ true)
+exponent_stops : (t : Text) → (t ≡ []) ⊎ IsExponent t → (drop_while is_digit t ≡ t) × (may_be_exponent t ≡ true)
 exponent_stops [] h = (refl, refl)
 exponent_stops (b ∷ bs) (inl e) = cc
 exponent_stops (b ∷ bs) (inr h) = (stops b bs (exponent_letter b h.0).1, exponent_test (b ∷ bs) h)
@@ -258,13 +258,13 @@ fraction_no_magnitude (numbers.IsFraction.scaled whole exponent some all exp) = 
 fraction_no_magnitude (numbers.IsFraction.behind_zero ds all none) = no_number (48 ∷ ds) none
 fraction_no_magnitude (numbers.IsFraction.named {t} h) = let k = named_is t h in no_number t (λ n m. no_magnitude [] k.c k.rest t n m k.whole tt k.begins.0 k.begins.1)
 
-by_end : (t r : Text) → back is_digit t ≡ r → is_fraction_end t r ≡ true → is_fraction t ≡ true
-by_end t r e h = let same : is_fraction_end t (back is_digit t) ≡ true = ap (is_fraction_end t) e ∙ h in rw same refl
+by_end : (t r : Text) → drop_while is_digit t ≡ r → is_fraction_end t r ≡ true → is_fraction t ≡ true
+by_end t r e h = let same : is_fraction_end t (drop_while is_digit t) ≡ true = ap (is_fraction_end t) e ∙ h in rw same refl
 
 fraction_test : {t : Text} → IsFraction t → is_fraction t ≡ true
 fraction_test (numbers.IsFraction.pointed whole part exponent all also some exp) =
     by_end (whole ++ 46 ∷ (part ++ exponent)) (46 ∷ (part ++ exponent)) (over_digits whole (46 ∷ (part ++ exponent)) all ∙ refl) (made whole all some) where
-      rest : may_be_exponent (back is_digit (part ++ exponent)) ≡ true
+      rest : may_be_exponent (drop_while is_digit (part ++ exponent)) ≡ true
       rest = ap may_be_exponent (over_digits part exponent also ∙ (exponent_stops exponent exp).0) ∙ (exponent_stops exponent exp).1
 
       made : (whole : Text) → AllPass is_digit whole → whole ++ part ≢ [] → is_fraction_end (whole ++ 46 ∷ (part ++ exponent)) (46 ∷ (part ++ exponent)) ≡ true
@@ -279,11 +279,11 @@ fraction_test (numbers.IsFraction.scaled whole exponent some all exp) = go expon
       let begun : begins_digit (whole ++ b ∷ bs) ≡ true = begins_here whole (b ∷ bs) some all in
       by_end (whole ++ b ∷ bs) (b ∷ bs) (over_digits whole (b ∷ bs) all ∙ stops b bs k.1) (rw (k.2, begun, test) refl)
 fraction_test (numbers.IsFraction.behind_zero ds all none) = by_end (48 ∷ ds) [] (end ds all) refl where
-  end : (ds : Text) → AllPass is_digit ds → back is_digit ds ≡ []
+  end : (ds : Text) → AllPass is_digit ds → drop_while is_digit ds ≡ []
   end [] all = refl
   end (d ∷ ds) all = rw all.0 (end ds all.1)
-fraction_test (numbers.IsFraction.named {t} h) = go (is_fraction_end t (back is_digit t)) refl where
-  go : (u : Bool) → is_fraction_end t (back is_digit t) ≡ u → is_fraction t ≡ true
+fraction_test (numbers.IsFraction.named {t} h) = go (is_fraction_end t (drop_while is_digit t)) refl where
+  go : (u : Bool) → is_fraction_end t (drop_while is_digit t) ≡ u → is_fraction t ≡ true
   go true e = rw e refl
   go false e = rw (e, h) refl
 
@@ -291,8 +291,8 @@ either_true : (t u : Bool) → (t || u) ≡ true → (t ≡ true) ⊎ (u ≡ tru
 either_true true u h = inl refl
 either_true false u h = inr h
 
-end_found : (t r : Text) → t ≡ front is_digit t ++ r → AllPass is_digit (front is_digit t) → magnitude t ≡ None → is_fraction_end t r ≡ true → IsFraction t
-end_found t [] whole all none h = led t (subst (AllPass is_digit) (sym (whole ∙ append-nil (front is_digit t))) all) none h where
+end_found : (t r : Text) → t ≡ take_while is_digit t ++ r → AllPass is_digit (take_while is_digit t) → magnitude t ≡ None → is_fraction_end t r ≡ true → IsFraction t
+end_found t [] whole all none h = led t (subst (AllPass is_digit) (sym (whole ∙ append-nil (take_while is_digit t))) all) none h where
   led : (t : Text) → AllPass is_digit t → magnitude t ≡ None → is_fraction_end t [] ≡ true → IsFraction t
   led [] all none h = absurd (true_false (sym h))
   led (b ∷ bs) all none h =
@@ -311,19 +311,19 @@ end_found t (b ∷ bs) whole all none h = go (b == 46) refl where
   go : (u : Bool) → (b == 46) ≡ u → IsFraction t
   go true e =
       let same : b ≡ 46 = grind (arith, nat_tests) in
-      let k = both (begins_digit t || begins_digit bs) (may_be_exponent (back is_digit bs)) (rw e at h) in
+      let k = both (begins_digit t || begins_digit bs) (may_be_exponent (drop_while is_digit bs)) (rw e at h) in
       let parts = split_digits bs in
-      let some : (front is_digit t ≢ []) ⊎ (front is_digit bs ≢ []) = elim (either_true (begins_digit t) (begins_digit bs) k.0) [ inl x ↦ inl (begins_front t x) | inr x ↦ inr (begins_front bs x) ] in
-      subst IsFraction (ap (λ c. front is_digit t ++ c ∷ (front is_digit bs ++ back is_digit bs)) (sym same) ∙ ap (λ xs. front is_digit t ++ b ∷ xs) (sym parts.0) ∙ sym whole)
-      (numbers.IsFraction.pointed (front is_digit t) (front is_digit bs) (back is_digit bs) all parts.1 (nonempty (front is_digit t) (front is_digit bs) some) (exponents (back is_digit bs) k.1))
+      let some : (take_while is_digit t ≢ []) ⊎ (take_while is_digit bs ≢ []) = elim (either_true (begins_digit t) (begins_digit bs) k.0) [ inl x ↦ inl (begins_front t x) | inr x ↦ inr (begins_front bs x) ] in
+      subst IsFraction (ap (λ c. take_while is_digit t ++ c ∷ (take_while is_digit bs ++ drop_while is_digit bs)) (sym same) ∙ ap (λ xs. take_while is_digit t ++ b ∷ xs) (sym parts.0) ∙ sym whole)
+      (numbers.IsFraction.pointed (take_while is_digit t) (take_while is_digit bs) (drop_while is_digit bs) all parts.1 (nonempty (take_while is_digit t) (take_while is_digit bs) some) (exponents (drop_while is_digit bs) k.1))
   go false e =
       let k = both (begins_digit t) (is_exponent (b ∷ bs)) (rw e at h) in
-      subst IsFraction (sym whole) (numbers.IsFraction.scaled (front is_digit t) (b ∷ bs) (begins_front t k.0) all (exponent_found (b ∷ bs) k.1))
+      subst IsFraction (sym whole) (numbers.IsFraction.scaled (take_while is_digit t) (b ∷ bs) (begins_front t k.0) all (exponent_found (b ∷ bs) k.1))
 
 fraction_found : (t : Text) → magnitude t ≡ None → is_fraction t ≡ true → IsFraction t
-fraction_found t none h = go (is_fraction_end t (back is_digit t)) refl where
-  go : (u : Bool) → is_fraction_end t (back is_digit t) ≡ u → IsFraction t
-  go true e = (let k = split_digits t in end_found t (back is_digit t) k.0 k.1 none e)
+fraction_found t none h = go (is_fraction_end t (drop_while is_digit t)) refl where
+  go : (u : Bool) → is_fraction_end t (drop_while is_digit t) ≡ u → IsFraction t
+  go true e = (let k = split_digits t in end_found t (drop_while is_digit t) k.0 k.1 none e)
   go false e = numbers.IsFraction.named (rw e at h)
 
 -- Signs and white space
@@ -394,10 +394,10 @@ signed_begun (numbers.IsSigned.with_minus {t}) k = (refl, refl, λ e. cc)
 
 unspaced : (t : Text) → t ≢ [] → NoSpaces t → Unspaced t
 unspaced [] some h = absurd (some refl)
-unspaced (b ∷ []) some h = record { c = b; cs = []; front = []; last = b; begins = refl; finishes = refl; no_space_first = not_true (is_space b) h.0; no_space_last = not_true (is_space b) h.0 }
+unspaced (b ∷ []) some h = record { c = b; cs = []; initial = []; last = b; begins = refl; finishes = refl; no_space_first = not_true (is_space b) h.0; no_space_last = not_true (is_space b) h.0 }
 unspaced (b ∷ (d ∷ t)) some h =
     let k = unspaced (d ∷ t) (λ e. cc) h.1 in
-    record { c = b; cs = d ∷ t; front = b ∷ k.front; last = k.last; begins = refl; finishes = ap (λ xs. b ∷ xs) k.finishes; no_space_first = not_true (is_space b) h.0; no_space_last = k.no_space_last }
+    record { c = b; cs = d ∷ t; initial = b ∷ k.initial; last = k.last; begins = refl; finishes = ap (λ xs. b ∷ xs) k.finishes; no_space_first = not_true (is_space b) h.0; no_space_last = k.no_space_last }
 
 -- The law
 

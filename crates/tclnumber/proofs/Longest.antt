@@ -4,7 +4,7 @@ use Rattle.std.proofs.lemmas.Bool.Decides.{nat_tests}
 use Rattle.std.specs.Char.{digit_value}
 use Rattle.std.specs.Str.Parse.{AllDigits, digits_value}
 use Rattle.tclchars.specs.Bytes.{AllPass}
-use Rattle.tclchars.specs.Runs.{Text, front, back}
+use Rattle.tclchars.specs.Runs.{Text, take_while, drop_while}
 use Rattle.tclexpr.specs.declared.numbers.Digits.{Digits}
 use Rattle.tclexpr.specs.declared.numbers.Digits.TheVariants.{Binary, Octal, Decimal, Hexadecimal}
 use Rattle.tclexpr.specs.Operands as operands
@@ -58,21 +58,21 @@ announced_by c base h = go (c == 120 || c == 88) (c == 111 || c == 79) (c == 98 
 
 -- Runs
 
-back_shorter : (p : ℕ → Bool) (t : Text) → length (back p t) ≤ length t
+back_shorter : (p : ℕ → Bool) (t : Text) → length (drop_while p t) ≤ length t
 back_shorter p [] = omega arith
 back_shorter p (b ∷ t) = go (back_shorter p t) (p b) refl where
-  go : length (back p t) ≤ length t → (u : Bool) → p b ≡ u → length (back p (b ∷ t)) ≤ length (b ∷ t)
+  go : length (drop_while p t) ≤ length t → (u : Bool) → p b ≡ u → length (drop_while p (b ∷ t)) ≤ length (b ∷ t)
   go k true e = rw e (omega (arith, k))
   go k false e = rw e (omega arith)
 
-run_split : (p : ℕ → Bool) (t : Text) → (t ≡ front p t ++ back p t) × AllPass p (front p t)
+run_split : (p : ℕ → Bool) (t : Text) → (t ≡ take_while p t ++ drop_while p t) × AllPass p (take_while p t)
 run_split p [] = (refl, tt)
 run_split p (b ∷ t) = go (run_split p t) (p b) refl where
-  go : (t ≡ front p t ++ back p t) × AllPass p (front p t) → (u : Bool) → p b ≡ u → (b ∷ t ≡ front p (b ∷ t) ++ back p (b ∷ t)) × AllPass p (front p (b ∷ t))
+  go : (t ≡ take_while p t ++ drop_while p t) × AllPass p (take_while p t) → (u : Bool) → p b ≡ u → (b ∷ t ≡ take_while p (b ∷ t) ++ drop_while p (b ∷ t)) × AllPass p (take_while p (b ∷ t))
   go k true e = rw e (ap (λ xs. b ∷ xs) k.0, (e, k.1))
   go k false e = rw e (refl, tt)
 
-over : (p : ℕ → Bool) (ds rest : Text) → AllPass p ds → back p (ds ++ rest) ≡ back p rest
+over : (p : ℕ → Bool) (ds rest : Text) → AllPass p ds → drop_while p (ds ++ rest) ≡ drop_while p rest
 over p [] rest all = refl
 over p (d ∷ ds) rest all = rw all.0 (over p ds rest all.1)
 
@@ -131,13 +131,13 @@ tail_of_point t = refl
 
 -- digits behind a sign or none
 abbrev SignedDigits : Text → Text → Type 0
-SignedDigits t other = (begins_digit Decimal (after_sign (t ++ other)) ≡ true) × (back (operands.is_digit Decimal) (after_sign (t ++ other)) ≡ back (operands.is_digit Decimal) other)
+SignedDigits t other = (begins_digit Decimal (after_sign (t ++ other)) ≡ true) × (drop_while (operands.is_digit Decimal) (after_sign (t ++ other)) ≡ drop_while (operands.is_digit Decimal) other)
 
 exponent_read : (t other : Text) → IsExponent t → after_exponent (t ++ other) ≡ after_digits Decimal other
 unfolding after_digits
 exponent_read [] other h = absurd h
 exponent_read (b ∷ bs) other h = made (signed h.3 h.4 h.5) where
-  begun : (ds : Text) → ds ≢ [] → AllPass numerals.is_digit ds → (begins_digit Decimal (ds ++ other) ≡ true) × (back (operands.is_digit Decimal) (ds ++ other) ≡ back (operands.is_digit Decimal) other)
+  begun : (ds : Text) → ds ≢ [] → AllPass numerals.is_digit ds → (begins_digit Decimal (ds ++ other) ≡ true) × (drop_while (operands.is_digit Decimal) (ds ++ other) ≡ drop_while (operands.is_digit Decimal) other)
   begun [] some all = absurd (some refl)
   begun (d ∷ ds) some all = (all.0, over (operands.is_digit Decimal) (d ∷ ds) other all)
 
@@ -148,11 +148,11 @@ exponent_read (b ∷ bs) other h = made (signed h.3 h.4 h.5) where
     byte d h = grind (arith, nat_tests)
 
   signed : {t : Text} {m : Bool} {ds : Text} → IsSigned t m ds → ds ≢ [] → AllPass numerals.is_digit ds → SignedDigits t other
-  signed (numbers.IsSigned.without_sign {t}) some all = let k = begun t some all in (ap (begins_digit Decimal) (plain t some all) ∙ k.0, ap (back (operands.is_digit Decimal)) (plain t some all) ∙ k.1)
+  signed (numbers.IsSigned.without_sign {t}) some all = let k = begun t some all in (ap (begins_digit Decimal) (plain t some all) ∙ k.0, ap (drop_while (operands.is_digit Decimal)) (plain t some all) ∙ k.1)
   signed (numbers.IsSigned.with_plus {t}) some all = begun t some all
   signed (numbers.IsSigned.with_minus {t}) some all = begun t some all
 
-  made : SignedDigits bs other → after_exponent ((b ∷ bs) ++ other) ≡ back (operands.is_digit Decimal) other
+  made : SignedDigits bs other → after_exponent ((b ∷ bs) ++ other) ≡ drop_while (operands.is_digit Decimal) other
   made k = let letter : (b == 101 || b == 69) ≡ true = letters h.0 in rw (letter, k.0) k.1 where
     letters : (b ≡ 101) ⊎ (b ≡ 69) → (b == 101 || b == 69) ≡ true
     letters (inl e) = rw e refl
@@ -181,18 +181,18 @@ letter_stops : (t other : Text) → IsExponent t → (after_digits Decimal (t ++
 unfolding after_digits
 letter_stops [] other h = absurd h
 letter_stops (b ∷ bs) other h = go h.0 where
-  go : (b ≡ 101) ⊎ (b ≡ 69) → (back (operands.is_digit Decimal) (b ∷ (bs ++ other)) ≡ b ∷ (bs ++ other)) × (after_fraction (b ∷ (bs ++ other)) ≡ b ∷ (bs ++ other))
+  go : (b ≡ 101) ⊎ (b ≡ 69) → (drop_while (operands.is_digit Decimal) (b ∷ (bs ++ other)) ≡ b ∷ (bs ++ other)) × (after_fraction (b ∷ (bs ++ other)) ≡ b ∷ (bs ++ other))
   go (inl e) = rw e (refl, refl)
   go (inr e) = rw e (refl, refl)
 
 part_shorter : (part exponent other : Text) → AllPass (operands.is_digit Decimal) part → (exponent ≡ []) ⊎ IsExponent exponent → length (after_exponent (after_digits Decimal ((part ++ exponent) ++ other))) ≤ length other
 unfolding after_digits
 part_shorter part exponent other all exp = go exponent exp where
-  whole : (exponent : Text) → back (operands.is_digit Decimal) ((part ++ exponent) ++ other) ≡ back (operands.is_digit Decimal) (exponent ++ other)
-  whole exponent = ap (back (operands.is_digit Decimal)) (append_assoc part exponent other) ∙ over (operands.is_digit Decimal) part (exponent ++ other) all
+  whole : (exponent : Text) → drop_while (operands.is_digit Decimal) ((part ++ exponent) ++ other) ≡ drop_while (operands.is_digit Decimal) (exponent ++ other)
+  whole exponent = ap (drop_while (operands.is_digit Decimal)) (append_assoc part exponent other) ∙ over (operands.is_digit Decimal) part (exponent ++ other) all
 
-  go : (exponent : Text) → (exponent ≡ []) ⊎ IsExponent exponent → length (after_exponent (back (operands.is_digit Decimal) ((part ++ exponent) ++ other))) ≤ length other
-  go [] exp = omega (arith, ap (λ t. length (after_exponent t)) (whole []), after_exponent_shorter (back (operands.is_digit Decimal) other), back_shorter (operands.is_digit Decimal) other)
+  go : (exponent : Text) → (exponent ≡ []) ⊎ IsExponent exponent → length (after_exponent (drop_while (operands.is_digit Decimal) ((part ++ exponent) ++ other))) ≤ length other
+  go [] exp = omega (arith, ap (λ t. length (after_exponent t)) (whole []), after_exponent_shorter (drop_while (operands.is_digit Decimal) other), back_shorter (operands.is_digit Decimal) other)
   go (b ∷ bs) (inl e) = absurd (some e) where
     some : b ∷ bs ≡ [] → ⊥
     some e = cc
@@ -344,12 +344,12 @@ number_shorter u other (inl (n, numbers.IsMagnitude.octal {ds} h)) = digits_numb
 number_shorter u other (inl (n, numbers.IsMagnitude.based {b} {base} {ds} is h)) =
     let k = announced_by b base is in
     let all : AllPass (operands.is_digit k.0) ds = all_pass k.0 ds (subst (λ m. AllDigits m ds) k.2 h.1) in
-    let found : after_based (48 ∷ (b ∷ (ds ++ other))) ≡ Some (back (operands.is_digit k.0) (ds ++ other)) = ap (after_announced (ds ++ other)) k.1 ∙ begun k.0 ds h.0 all in (
-      back (operands.is_digit k.0) (ds ++ other),
+    let found : after_based (48 ∷ (b ∷ (ds ++ other))) ≡ Some (drop_while (operands.is_digit k.0) (ds ++ other)) = ap (after_announced (ds ++ other)) k.1 ∙ begun k.0 ds h.0 all in (
+      drop_while (operands.is_digit k.0) (ds ++ other),
       ap (λ f. first_of_both f (after_decimal (48 ∷ (b ∷ (ds ++ other))))) found,
       omega (arith, ap length (over (operands.is_digit k.0) ds other all), back_shorter (operands.is_digit k.0) other),
     ) where
-      begun : (d : Digits) (ds : Text) → ds ≢ [] → AllPass (operands.is_digit d) ds → after_announced (ds ++ other) (Some d) ≡ Some (back (operands.is_digit d) (ds ++ other))
+      begun : (d : Digits) (ds : Text) → ds ≢ [] → AllPass (operands.is_digit d) ds → after_announced (ds ++ other) (Some d) ≡ Some (drop_while (operands.is_digit d) (ds ++ other))
       begun d [] some all = absurd (some refl)
       begun d (x ∷ ds) some all = rw all.0 refl
 number_shorter u other (inr (f, word)) = of_decimal u other (fraction_shorter u other f word) (based_no_longer u other (some f) (fraction_second f word)) where
@@ -366,7 +366,7 @@ sign_split (b ∷ bs) = go (b == 43) (b == 45) refl refl where
   go false true x y = let same : b ≡ 45 = grind (arith, nat_tests) in (45 ∷ [], rw (x, y) (ap (λ c. c ∷ bs) same), λ ds. (true, numbers.IsSigned.with_minus))
   go false false x y = ([], rw (x, y) refl, λ ds. (false, numbers.IsSigned.without_sign))
 
-front_some : (t : Text) → begins_digit Decimal t ≡ true → front (operands.is_digit Decimal) t ≢ []
+front_some : (t : Text) → begins_digit Decimal t ≡ true → take_while (operands.is_digit Decimal) t ≢ []
 front_some [] h = absurd (apart h) where
   apart : false ≡ true → ⊥
   apart h = cc
@@ -386,10 +386,10 @@ exponent_split (b ∷ bs) = go ((b == 101 || b == 69) && begins_digit Decimal (a
       let k = both (b == 101 || b == 69) (begins_digit Decimal (after_sign bs)) x in
       let s = sign_split bs in
       let run = run_split (operands.is_digit Decimal) (after_sign bs) in
-      let ds = front (operands.is_digit Decimal) (after_sign bs) in
+      let ds = take_while (operands.is_digit Decimal) (after_sign bs) in
       let m = s.2 ds in (
         b ∷ (s.0 ++ ds),
-        rw x (ap (λ xs. b ∷ xs) (s.1 ∙ ap (λ xs. s.0 ++ xs) run.0 ∙ sym (append_assoc s.0 ds (back (operands.is_digit Decimal) (after_sign bs))))),
+        rw x (ap (λ xs. b ∷ xs) (s.1 ∙ ap (λ xs. s.0 ++ xs) run.0 ∙ sym (append_assoc s.0 ds (drop_while (operands.is_digit Decimal) (after_sign bs))))),
         inr (either b 101 69 k.0, m.0, ds, m.1, front_some (after_sign bs) k.1, run.1),
       )
 
@@ -428,18 +428,18 @@ Found bs rest = (t : Text) × (bs ≡ t ++ rest) × IsNumber t
 
 decimal_found : (bs : Text) → (begins_digit Decimal bs || begins_point bs) ≡ true → Found bs (tail_of bs)
 unfolding after_digits
-decimal_found bs begun = (let run = run_split (operands.is_digit Decimal) bs in go (front (operands.is_digit Decimal) bs) (back (operands.is_digit Decimal) bs) run.0 run.1 whole_some) where
+decimal_found bs begun = (let run = run_split (operands.is_digit Decimal) bs in go (take_while (operands.is_digit Decimal) bs) (drop_while (operands.is_digit Decimal) bs) run.0 run.1 whole_some) where
   either_true : (t u : Bool) → (t || u) ≡ true → (t ≡ true) ⊎ (u ≡ true)
   either_true true u h = inl refl
   either_true false u h = inr h
 
-  whole_some : (front (operands.is_digit Decimal) bs ≢ []) ⊎ (begins_point bs ≡ true)
+  whole_some : (take_while (operands.is_digit Decimal) bs ≢ []) ⊎ (begins_point bs ≡ true)
   whole_some = elim (either_true (begins_digit Decimal bs) (begins_point bs) begun) [ inl h ↦ inl (front_some bs h) | inr h ↦ inr h ]
 
   point_digit : (x : Text) → begins_point (46 ∷ x) ≡ true → begins_digit Decimal x ≡ true
   point_digit x h = h
 
-  pointed_some : (whole x : Text) → bs ≡ whole ++ 46 ∷ x → (whole ≢ []) ⊎ (begins_point bs ≡ true) → whole ++ front (operands.is_digit Decimal) x ≢ []
+  pointed_some : (whole x : Text) → bs ≡ whole ++ 46 ∷ x → (whole ≢ []) ⊎ (begins_point bs ≡ true) → whole ++ take_while (operands.is_digit Decimal) x ≢ []
   pointed_some [] x e (inl some) = absurd (some refl)
   pointed_some [] x e (inr h) = front_some x (point_digit x (subst (λ t. begins_point t ≡ true) e h))
   pointed_some (w ∷ whole) x e some = λ k. cc
@@ -476,8 +476,8 @@ decimal_found bs begun = (let run = run_split (operands.is_digit Decimal) bs in 
     on true k =
         let same : b ≡ 46 = grind (arith, nat_tests) in
         let run = run_split (operands.is_digit Decimal) x in
-        let part = front (operands.is_digit Decimal) x in
-        let left = back (operands.is_digit Decimal) x in
+        let part = take_while (operands.is_digit Decimal) x in
+        let left = drop_while (operands.is_digit Decimal) x in
         let exp = exponent_split left in
         let at : bs ≡ whole ++ 46 ∷ x = e ∙ ap (λ c. whole ++ c ∷ x) same in
         rw k (
@@ -497,13 +497,13 @@ number_found bs rest h = go (after_based bs) refl where
       let same : r ≡ rest = some_same r (sym (ap (λ f. first_of_both f (after_decimal bs)) e) ∙ h) in
       let k = based_at bs r e in
       let run = run_split (operands.is_digit k.2) k.1 in
-      let ds = front (operands.is_digit k.2) k.1 in
+      let ds = take_while (operands.is_digit k.2) k.1 in
       let whole : bs ≡ (48 ∷ (k.0 ∷ ds)) ++ r = k.3 ∙ ap (λ xs. 48 ∷ (k.0 ∷ xs)) (run.0 ∙ ap (λ xs. ds ++ xs) (sym k.6)) in (
         48 ∷ (k.0 ∷ ds),
         whole ∙ ap (λ xs. (48 ∷ (k.0 ∷ ds)) ++ xs) same,
         inl (digits_value (base_number k.2) ds, numbers.IsMagnitude.based (announced_is k.0 k.2 k.4) (some k.2 k.1 k.5, all_digits k.2 ds run.1, refl)),
       ) where
-        some : (d : Digits) (t : Text) → begins_digit d t ≡ true → front (operands.is_digit d) t ≢ []
+        some : (d : Digits) (t : Text) → begins_digit d t ≡ true → take_while (operands.is_digit d) t ≢ []
         some d [] h = absurd (apart h) where
           apart : false ≡ true → ⊥
           apart h = cc

@@ -6,7 +6,7 @@ use Rattle.std.specs.Prelude.{pos}
 use Rattle.std.specs.Char.{digit_value}
 use Rattle.std.specs.Str.Parse.{AllDigits, digits_value_after}
 use Rattle.tclchars.specs.Bytes.{is_space, AllPass, DoesBegin}
-use Rattle.tclchars.specs.Runs.{Text, front, back}
+use Rattle.tclchars.specs.Runs.{Text, take_while, drop_while}
 use Rattle.tclnumber.specs.declared.number.Numeral.TheVariants as numerals
 use Rattle.tclnumber.specs.Numerals.{before_space, without_end, trimmed, is_minus, is_sign, without_sign, digits_from, digits_in, base_of, prefixed, behind_zero, magnitude, is_fraction, whole_of, class_of, numeral_of, numeral}
 use Rattle.tclnumber.specs.Numbers as numbers
@@ -125,19 +125,19 @@ no_sign b h = (grind (arith, nat_tests), grind (arith, nat_tests), grind (arith,
 pub record Ends (ds : Text) : Type 0 where
   pub b : ℕ
   pub bs : Text
-  pub front : Text
+  pub initial : Text
   pub last : ℕ
   pub begins : ds ≡ b ∷ bs
-  pub finishes : ds ≡ front ++ last ∷ []
+  pub finishes : ds ≡ initial ++ last ∷ []
   pub first_digit : digit_value b < 36
   pub last_digit : digit_value last < 36
 
 pub digits_end : (base : ℕ) (d : ℕ) (ds : Text) → base ≤ 36 → AllDigits base (d ∷ ds) → Ends (d ∷ ds)
-digits_end base d [] small all = (let less = all.0 in record { b = d; bs = []; front = []; last = d; begins = refl; finishes = refl; first_digit = omega (arith, small, less); last_digit = omega (arith, small, less) })
+digits_end base d [] small all = (let less = all.0 in record { b = d; bs = []; initial = []; last = d; begins = refl; finishes = refl; first_digit = omega (arith, small, less); last_digit = omega (arith, small, less) })
 digits_end base d (e ∷ ds) small all =
     let k = digits_end base e ds small all.1 in
     let less = all.0 in
-    record { b = d; bs = e ∷ ds; front = d ∷ k.front; last = k.last; begins = refl; finishes = ap (λ xs. d ∷ xs) k.finishes; first_digit = omega (arith, small, less); last_digit = k.last_digit }
+    record { b = d; bs = e ∷ ds; initial = d ∷ k.initial; last = k.last; begins = refl; finishes = ap (λ xs. d ∷ xs) k.finishes; first_digit = omega (arith, small, less); last_digit = k.last_digit }
 
 some_digits_end : (base n : ℕ) (ds : Text) → base ≤ 36 → IsDigits base ds n → Ends ds
 some_digits_end base n [] small h = absurd (h.0 refl)
@@ -158,7 +158,7 @@ small_base b base h = go (b == 120 || b == 88) (b == 111 || b == 79) (b == 98 ||
   go false false false x y z = absurd (none_some (rw (x, y, z) at h))
 
 behind_first : (c : ℕ) (ds : Text) → digit_value c < 36 → Ends ds → Ends (c ∷ ds)
-behind_first c ds less k = record { b = c; bs = ds; front = c ∷ k.front; last = k.last; begins = refl; finishes = ap (λ xs. c ∷ xs) k.finishes; first_digit = less; last_digit = k.last_digit }
+behind_first c ds less k = record { b = c; bs = ds; initial = c ∷ k.initial; last = k.last; begins = refl; finishes = ap (λ xs. c ∷ xs) k.finishes; first_digit = less; last_digit = k.last_digit }
 
 pub letter_digit : (b base : ℕ) → base_of b ≡ Some base → digit_value b < 36
 letter_digit b base h = go (b == 120 || b == 88) (b == 111 || b == 79) (b == 98 || b == 66) refl refl refl where
@@ -176,7 +176,7 @@ letter_digit b base h = go (b == 120 || b == 88) (b == 111 || b == 79) (b == 98 
 
 magnitude_ends : {ds : Text} {n : ℕ} → IsMagnitude ds n → Ends ds
 magnitude_ends (numbers.IsMagnitude.decimal {ds} {n} starts h) = some_digits_end 10 n ds (lit≤ tt) h
-magnitude_ends numbers.IsMagnitude.zero = record { b = 48; bs = []; front = []; last = 48; begins = refl; finishes = refl; first_digit = lit< tt; last_digit = lit< tt }
+magnitude_ends numbers.IsMagnitude.zero = record { b = 48; bs = []; initial = []; last = 48; begins = refl; finishes = refl; first_digit = lit< tt; last_digit = lit< tt }
 magnitude_ends (numbers.IsMagnitude.octal {ds} {n} h) = behind_first 48 ds (lit< tt) (some_digits_end 8 n ds (lit≤ tt) h)
 magnitude_ends (numbers.IsMagnitude.based {b} {base} {ds} {n} e h) = behind_first 48 (b ∷ ds) (lit< tt) (behind_first b ds (letter_digit b base e) (some_digits_end base n ds (small_base b base e) h))
 
@@ -184,10 +184,10 @@ magnitude_ends (numbers.IsMagnitude.based {b} {base} {ds} {n} e h) = behind_firs
 pub record Unspaced (core : Text) : Type 0 where
   pub c : ℕ
   pub cs : Text
-  pub front : Text
+  pub initial : Text
   pub last : ℕ
   pub begins : core ≡ c ∷ cs
-  pub finishes : core ≡ front ++ last ∷ []
+  pub finishes : core ≡ initial ++ last ∷ []
   pub no_space_first : is_space c ≡ false
   pub no_space_last : is_space last ≡ false
 
@@ -197,16 +197,16 @@ signed_read (numbers.IsSigned.without_sign {t}) k =
     let last = no_sign k.last k.last_digit in (
       ap is_minus k.begins ∙ no.1,
       ap without_sign k.begins ∙ plain k.b k.bs no.0 ∙ sym k.begins,
-      record { c = k.b; cs = k.bs; front = k.front; last = k.last; begins = k.begins; finishes = k.finishes; no_space_first = no.2; no_space_last = last.2 },
+      record { c = k.b; cs = k.bs; initial = k.initial; last = k.last; begins = k.begins; finishes = k.finishes; no_space_first = no.2; no_space_last = last.2 },
     ) where
       plain : (b : ℕ) (bs : Text) → is_sign b ≡ false → without_sign (b ∷ bs) ≡ b ∷ bs
       plain b bs h = rw h refl
 signed_read (numbers.IsSigned.with_plus {t}) k =
     let last = no_sign k.last k.last_digit in
-    (refl, refl, record { c = 43; cs = t; front = 43 ∷ k.front; last = k.last; begins = refl; finishes = ap (λ xs. 43 ∷ xs) k.finishes; no_space_first = refl; no_space_last = last.2 })
+    (refl, refl, record { c = 43; cs = t; initial = 43 ∷ k.initial; last = k.last; begins = refl; finishes = ap (λ xs. 43 ∷ xs) k.finishes; no_space_first = refl; no_space_last = last.2 })
 signed_read (numbers.IsSigned.with_minus {t}) k =
     let last = no_sign k.last k.last_digit in
-    (refl, refl, record { c = 45; cs = t; front = 45 ∷ k.front; last = k.last; begins = refl; finishes = ap (λ xs. 45 ∷ xs) k.finishes; no_space_first = refl; no_space_last = last.2 })
+    (refl, refl, record { c = 45; cs = t; initial = 45 ∷ k.initial; last = k.last; begins = refl; finishes = ap (λ xs. 45 ∷ xs) k.finishes; no_space_first = refl; no_space_last = last.2 })
 
 pub signed_found : (core : Text) → IsSigned core (is_minus core) (without_sign core)
 signed_found [] = numbers.IsSigned.without_sign
@@ -218,7 +218,7 @@ signed_found (b ∷ bs) = go (b == 43) (b == 45) refl refl where
 
 -- White space
 
-pub back_over : (before x : Text) → AllPass is_space before → back is_space (before ++ x) ≡ back is_space x
+pub back_over : (before x : Text) → AllPass is_space before → drop_while is_space (before ++ x) ≡ drop_while is_space x
 back_over [] x all = refl
 back_over (b ∷ before) x all = rw all.0 (back_over before x all.1)
 
@@ -229,19 +229,19 @@ without_after xs (b ∷ after) all = ap without_end (sym (append_assoc xs (b ∷
 pub trimmed_is : (t core : Text) → IsSpaced t core → Unspaced core → trimmed t ≡ core
 trimmed_is t core s k =
     let after = s.1 in
-    let begun : back is_space (core ++ after) ≡ core ++ after = ap (λ xs. back is_space (xs ++ after)) k.begins ∙ stop k.c (k.cs ++ after) k.no_space_first ∙ ap (λ xs. xs ++ after) (sym k.begins) in
-    ap (λ xs. without_end (back is_space xs)) s.2
+    let begun : drop_while is_space (core ++ after) ≡ core ++ after = ap (λ xs. drop_while is_space (xs ++ after)) k.begins ∙ stop k.c (k.cs ++ after) k.no_space_first ∙ ap (λ xs. xs ++ after) (sym k.begins) in
+    ap (λ xs. without_end (drop_while is_space xs)) s.2
     ∙ ap without_end (back_over s.0 (core ++ after) s.3 ∙ begun)
     ∙ without_after core after s.4
-    ∙ ap without_end k.finishes ∙ without_end-other k.front k.last k.no_space_last ∙ sym k.finishes where
-      stop : (c : ℕ) (xs : Text) → is_space c ≡ false → back is_space (c ∷ xs) ≡ c ∷ xs
+    ∙ ap without_end k.finishes ∙ without_end-other k.initial k.last k.no_space_last ∙ sym k.finishes where
+      stop : (c : ℕ) (xs : Text) → is_space c ≡ false → drop_while is_space (c ∷ xs) ≡ c ∷ xs
       stop c xs h = rw h refl
 
-front_spaces : (t : Text) → (t ≡ front is_space t ++ back is_space t) × AllPass is_space (front is_space t)
+front_spaces : (t : Text) → (t ≡ take_while is_space t ++ drop_while is_space t) × AllPass is_space (take_while is_space t)
 front_spaces [] = (refl, tt)
 front_spaces (b ∷ t) = go (front_spaces t) (is_space b) refl where
-  go : (t ≡ front is_space t ++ back is_space t) × AllPass is_space (front is_space t) → (u : Bool) → is_space b ≡ u
-      → (b ∷ t ≡ front is_space (b ∷ t) ++ back is_space (b ∷ t)) × AllPass is_space (front is_space (b ∷ t))
+  go : (t ≡ take_while is_space t ++ drop_while is_space t) × AllPass is_space (take_while is_space t) → (u : Bool) → is_space b ≡ u
+      → (b ∷ t ≡ take_while is_space (b ∷ t) ++ drop_while is_space (b ∷ t)) × AllPass is_space (take_while is_space (b ∷ t))
   go k true e = rw e (ap (λ xs. b ∷ xs) k.0, (e, k.1))
   go k false e = rw e (refl, tt)
 
@@ -256,8 +256,8 @@ end_spaces (b ∷ t) = (let k = end_spaces t in go k.0 (without_end t) k.1 k.2 (
 pub spaced : (t : Text) → IsSpaced t (trimmed t)
 spaced t =
     let f = front_spaces t in
-    let k = end_spaces (back is_space t) in
-    (front is_space t, k.0, f.0 ∙ ap (λ xs. front is_space t ++ xs) k.1, f.1, k.2)
+    let k = end_spaces (drop_while is_space t) in
+    (take_while is_space t, k.0, f.0 ∙ ap (λ xs. take_while is_space t ++ xs) k.1, f.1, k.2)
 
 -- The law
 

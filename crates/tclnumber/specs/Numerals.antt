@@ -3,7 +3,7 @@ use Rattle.std.specs.Prelude.{ℕ, pos, negsuc, zero, suc, ◌+◌, ◌*◌, ◌
 use Rattle.std.specs.Char.{digit_value, to_ascii_lowercase}
 use Rattle.tclchars.specs.Bytes.{is_space}
 use Rattle.tclchars.specs.Runs.{Text}
-use Rattle.tclchars.specs.Runs.{back, begins}
+use Rattle.tclchars.specs.Runs.{drop_while, begins}
 use Rattle.tclnumber.specs.declared.number.Numeral.{Numeral}
 use Rattle.tclnumber.specs.declared.number.Numeral.TheVariants as numerals
 
@@ -19,7 +19,7 @@ without_end (b ∷ bs) = before_space b (without_end bs)
 
 -- the text without white space around it
 abbrev pub trimmed : Text → Text
-trimmed t = without_end (back is_space t)
+trimmed t = without_end (drop_while is_space t)
 
 abbrev pub is_minus : Text → Bool
 is_minus t = begins 45 t
@@ -79,7 +79,7 @@ is_nil (b ∷ bs) = false
 
 -- decimal digits alone, one at least
 abbrev pub are_digits : Text → Bool
-are_digits t = begins_digit t && is_nil (back is_digit t)
+are_digits t = begins_digit t && is_nil (drop_while is_digit t)
 
 -- an exponent: the letter, then digits, which may have a sign
 abbrev pub is_exponent : Text → Bool
@@ -96,7 +96,7 @@ may_be_exponent (b ∷ bs) = is_exponent (b ∷ bs)
 abbrev pub is_fraction_end : Text → Text → Bool
 is_fraction_end t [] = begins 48 t
 is_fraction_end t (b ∷ bs) =
-    if b == 46 then (begins_digit t || begins_digit bs) && may_be_exponent (back is_digit bs)
+    if b == 46 then (begins_digit t || begins_digit bs) && may_be_exponent (drop_while is_digit bs)
     else begins_digit t && is_exponent (b ∷ bs)
 
 -- inf, infinity or nan in any case
@@ -107,7 +107,7 @@ is_word t =
 
 -- a number with a fraction, without a sign; asked where the text is no whole number
 abbrev pub is_fraction : Text → Bool
-is_fraction t = is_fraction_end t (back is_digit t) || is_word t
+is_fraction t = is_fraction_end t (drop_while is_digit t) || is_word t
 
 -- a whole number with this sign, within 64 bits
 abbrev pub whole_of : Bool → ℕ → Numeral

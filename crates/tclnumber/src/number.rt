@@ -1,7 +1,7 @@
 //! Numbers as texts: their class and value (expr(n), OPERANDS).
 ghost use Rattle.std.specs.Prelude.{◌≡◌, ◌≤◌, ◌<◌, ◌-◌, ◌^◌, min, option_map, IfSome, Some};
 ghost use Rattle.std.specs.Char.{digit_value};
-ghost use Rattle.tclchars.specs.Runs.{back};
+ghost use Rattle.tclchars.specs.Runs.{drop_while};
 ghost use Rattle.tclnumber.specs.Numerals.{trimmed, without_end, is_minus, without_sign, digits_in, base_of, magnitude, digits_from, behind_zero, is_digit, begins_digit, are_digits, is_exponent, may_be_exponent, is_fraction_end, is_word, is_fraction, whole_of, numeral};
 ghost use Rattle.tclchars.specs.Bytes.{is_space};
 ghost use Rattle.tclnumber.specs.declared.number.Numeral.TheVariants.{Whole};
@@ -95,7 +95,7 @@ fn trim(bytes: &[u8]) -> &[u8]
 
 /// The bytes without the white space that they begin with.
 fn trim_start(bytes: &[u8]) -> &[u8]
-    ensures { result.now ≡ back is_space bytes.now }
+    ensures { result.now ≡ drop_while is_space bytes.now }
 {
     let mut rest = bytes;
     while let [b, after @ ..] = rest {
@@ -248,7 +248,7 @@ fn begins_digit(bytes: &[u8]) -> bool
 
 /// The bytes without the decimal digits that they begin with.
 fn after_digits(bytes: &[u8]) -> &[u8]
-    ensures { result.now ≡ back is_digit bytes.now }
+    ensures { result.now ≡ drop_while is_digit bytes.now }
 {
     let mut rest = bytes;
     while let [b, after @ ..] = rest {

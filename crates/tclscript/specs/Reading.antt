@@ -2,7 +2,7 @@
 -- the code follows step by step. By the law `script_of_grammar` they agree with the grammar. A fault has the number of
 -- bytes that remain from its mark on.
 use Rattle.std.specs.Prelude.{ℕ, zero, suc, ◌-◌, List, [], ◌∷◌, length, take, Bool, true, false, ◌==◌, if◌then◌else◌, Option, Some, None, Result, Ok, Err}
-use Rattle.tclchars.specs.Runs.{Text, front, back}
+use Rattle.tclchars.specs.Runs.{Text, take_while, drop_while}
 use Rattle.tclchars.specs.Bytes as bytes
 use Rattle.tclchars.specs.Bytes.{quote, dollar, left_parenthesis, right_parenthesis, star, left_bracket, right_bracket, left_brace, right_brace}
 use Rattle.tclchars.specs.Classes.{in_class}
@@ -58,8 +58,8 @@ index_at inner bs = do
 -- after the opening brace of a name
 unfoldable pub braced_name_at : Text → Read Part
 braced_name_at bs = do
-  rest ← closed right_brace (OpenBrace (suc (length bs))) (back (in_class InName) bs)
-  Ok (variable (front (in_class InName) bs), rest)
+  rest ← closed right_brace (OpenBrace (suc (length bs))) (drop_while (in_class InName) bs)
+  Ok (variable (take_while (in_class InName) bs), rest)
 
 -- a name without an index; without a name the dollar is literal
 abbrev pub plain_variable : Text → Part
@@ -87,7 +87,7 @@ backslash_at bs = escaped bs (after_backslash bs)
 
 -- a run of literal text
 abbrev pub literal_at : Context → Text → Read Part
-literal_at context bs = Ok (literal (front (in_class (class_of context)) bs), back (in_class (class_of context)) bs)
+literal_at context bs = Ok (literal (take_while (in_class (class_of context)) bs), drop_while (in_class (class_of context)) bs)
 
 -- one part, where the parts do not end
 unfoldable pub part_at : Context → Inner → Text → Read Part

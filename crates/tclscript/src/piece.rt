@@ -20,10 +20,10 @@ pub trait Source<P> {
 
     /// The piece that `rest` begins with; `rest` is a suffix of the source.
     fn cut(&self, rest: &str, piece: &str) -> P
-        requires end { IsEndOf (text self.now) rest.now }
-        requires front { IsFrontOf rest.now piece.now }
+        requires suffix { IsEndOf (text self.now) rest.now }
+        requires prefix { IsFrontOf rest.now piece.now }
         ensures text { shown self.now result ≡ piece.now }
-        ensures place { (start : ℕ) → start + length rest.now ≡ length (text self.now)
+        ensures offsets { (start : ℕ) → start + length rest.now ≡ length (text self.now)
             → stands self.now result start (start + length piece.now) };
 }
 

@@ -13,7 +13,7 @@ use crate::piece::Source;
 use crate::reading::read_source;
 use crate::tree::Script;
 use std::alloc::Global;
-use tclchars::{MAX_BYTES, MAX_NESTING, ReadError, TextFault, place};
+use tclchars::{MAX_BYTES, MAX_NESTING, ReadError, TextFault, with_offset};
 
 /// The tree of a script (Tcl(n)), whose pieces are slices of the text. Takes time and memory in proportion to the
 /// length of the text, and copies no text.
@@ -68,6 +68,6 @@ fn read_whole<S: Source<P>, P: Drop>(alloc: Global, source: &S) -> Result<Script
     match read_source(alloc, source, MAX_NESTING) {
         Ok(script) => Ok(script),
         Err(ReadError::Memory) => Err(TextFault::OutOfMemory),
-        Err(ReadError::Fault(fault)) => Err(place(fault, len)),
+        Err(ReadError::Fault(fault)) => Err(with_offset(fault, len)),
     }
 }
