@@ -23,7 +23,7 @@ begins_digit (b ∷ bs) = is_digit b
 
 -- the text is digits, and then the rest
 abbrev pub FollowsDigits : List ℕ → List ℕ → Type 0
-FollowsDigits text rest = (front : List ℕ) × (text ≡ front ++ rest) × (are_digits front ≡ true)
+FollowsDigits text rest = (prefix : List ℕ) × (text ≡ prefix ++ rest) × (are_digits prefix ≡ true)
 
 abbrev pub begins_zero : List ℕ → Bool
 begins_zero [] = false

@@ -13,7 +13,8 @@ abbrev mutual
 
   pub behind_backslash : Text → Text
   behind_backslash [] = backslash ∷ []
-  behind_backslash (b ∷ bs) = if b == newline then space ∷ behind_newline bs else backslash ∷ (b ∷ braced_text bs)
+  behind_backslash (b ∷ bs) =
+      if b == newline then space ∷ behind_newline bs else backslash ∷ (b ∷ braced_text bs)
 
   pub behind_newline : Text → Text
   behind_newline [] = []

@@ -14,7 +14,8 @@ use Rattle.tclchars.specs.declared.fault.TextFault.TheVariants as faults
 
 -- the first fault of a text within the limit, whose mark has that offset
 abbrev pub IsFaultAt : (Text → Fault → Type 0) → Text → ℕ → (ℕ → Fault) → Type 0
-IsFaultAt Is bs at mark = (length bs ≤ max_bytes) × (left : ℕ) × (at + left ≡ length bs) × Is bs (mark left)
+IsFaultAt Is bs at mark =
+    (length bs ≤ max_bytes) × (left : ℕ) × (at + left ≡ length bs) × Is bs (mark left)
 
 -- What is wrong with a text: one past the limit is too long, whatever else is wrong; else it is its first fault. Want
 -- of memory says nothing of the text.

@@ -48,7 +48,8 @@ mutual
     in_condition : {d : ℕ} {bs : Text} {f : Fault} → ChainFault O IsOperand OperandFault d 13 bs f
         → ExprFault O IsOperand OperandFault d bs f
     deep_choice : {d : ℕ} {bs : Text} (cs : List (Token O)) (c : Expr O) (after : Text) → IsChain O d 13 cs c
-        → IsRow O IsOperand bs after (cs ++ mark marks.Question ∷ []) → ExprFault O IsOperand OperandFault d bs TooDeep
+        → IsRow O IsOperand bs after (cs ++ mark marks.Question ∷ [])
+        → ExprFault O IsOperand OperandFault d bs TooDeep
     in_yes : {d : ℕ} {bs : Text} {f : Fault} (cs : List (Token O)) (c : Expr O) (h : ℕ) (after : Text)
         → IsChain O h 13 cs c → h ≤ d → IsRow O IsOperand bs after (cs ++ mark marks.Question ∷ [])
         → ExprFault O IsOperand OperandFault d after f → ExprFault O IsOperand OperandFault (suc d) bs f

@@ -37,4 +37,5 @@ pub record IsBehindFront (bs : Text) (f : Fault) : Type 0 where
 
 -- the same of a wrong expression, by its offset
 abbrev pub HasFrontBefore : Text → ℕ → Type 0
-HasFrontBefore bs at = (remaining : ℕ) × (at + remaining ≡ length bs) × IsBehindFront bs (BadExpression remaining)
+HasFrontBefore bs at =
+    (remaining : ℕ) × (at + remaining ≡ length bs) × IsBehindFront bs (BadExpression remaining)

@@ -21,7 +21,8 @@ is_operator_word t =
 -- the text begins with the name of a function: a word that is no operator, with a parenthesis directly after it
 abbrev pub names_function : Text → Bool
 names_function t =
-    begins_in is_letter t && begins left_parenthesis (drop_while is_name t) && not (is_operator_word (take_while is_name t))
+    begins_in is_letter t && begins left_parenthesis (drop_while is_name t)
+    && not (is_operator_word (take_while is_name t))
 
 -- the name of the unsupported operator or function that the text begins with, if it does; it begins at a bad token
 abbrev pub omitted_at : Text → Option Text

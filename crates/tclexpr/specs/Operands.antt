@@ -104,20 +104,20 @@ abbrev pub lower : ℕ → ℕ
 lower b = if nat_le 65 b && nat_le b 90 then b + 32 else b
 
 -- the first text, in lower case, is a prefix of the other
-abbrev pub is_front : Text → Text → Bool
-is_front [] bs = true
-is_front (a ∷ xs) [] = false
-is_front (a ∷ xs) (b ∷ bs) = (lower a == b) && is_front xs bs
+abbrev pub is_prefix : Text → Text → Bool
+is_prefix [] bs = true
+is_prefix (a ∷ xs) [] = false
+is_prefix (a ∷ xs) (b ∷ bs) = (lower a == b) && is_prefix xs bs
 
 -- a prefix of true, false, yes or no
 abbrev pub begins_truth : Text → Bool
 begins_truth bs =
-    is_front bs (116 ∷ (114 ∷ (117 ∷ (101 ∷ [])))) || is_front bs (102 ∷ (97 ∷ (108 ∷ (115 ∷ (101 ∷ [])))))
-    || is_front bs (121 ∷ (101 ∷ (115 ∷ []))) || is_front bs (110 ∷ (111 ∷ []))
+    is_prefix bs (116 ∷ (114 ∷ (117 ∷ (101 ∷ [])))) || is_prefix bs (102 ∷ (97 ∷ (108 ∷ (115 ∷ (101 ∷ [])))))
+    || is_prefix bs (121 ∷ (101 ∷ (115 ∷ []))) || is_prefix bs (110 ∷ (111 ∷ []))
 
 -- a prefix of on or off
 abbrev pub begins_switch : Text → Bool
-begins_switch bs = is_front bs (111 ∷ (110 ∷ [])) || is_front bs (111 ∷ (102 ∷ (102 ∷ [])))
+begins_switch bs = is_prefix bs (111 ∷ (110 ∷ [])) || is_prefix bs (111 ∷ (102 ∷ (102 ∷ [])))
 
 unfoldable pub is_truth : Text → Bool
 is_truth bs = (nat_le 1 (length bs) && begins_truth bs) || (nat_le 2 (length bs) && begins_switch bs)

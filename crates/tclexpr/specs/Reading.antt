@@ -83,7 +83,8 @@ module _ {O : Type 0} (read_operand : ℕ → Text → Read (O × ℕ)) where
     Ok ((x.0.0, suc x.0.1), after)
 
   abbrev pub marked_at : (Extent → Text → Read (WithHeight O)) → ℕ → Mark → Text → Read (WithHeight O)
-  marked_at below remaining m rest = if is_open m then enclosed_at below rest else signed_at below remaining rest (sign_of m)
+  marked_at below remaining m rest =
+      if is_open m then enclosed_at below rest else signed_at below remaining rest (sign_of m)
 
   -- an operand with the unary operators before it, or an expression in parentheses
   abbrev pub begun_at : ℕ → (Extent → Text → Read (WithHeight O)) → Text → Option (Mark × Text) → Read (WithHeight O)

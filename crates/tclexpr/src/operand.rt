@@ -7,7 +7,7 @@ ghost use Rattle.tclscript.specs.Pieces.{IsEndOf};
 ghost use Rattle.tclscript.specs.Tree.{part_nesting};
 ghost use Rattle.tclscript.specs.Reading.{taken};
 ghost use Rattle.tclscript.specs.View.{part_view};
-ghost use Rattle.tclexpr.specs.Operands.{after_number, lower, is_front, begins_truth, begins_switch, is_truth, operand_of, variable_operand_at, bracket_operand_at, quoted_at, braced_text_at, word_at, numeric, operand_at};
+ghost use Rattle.tclexpr.specs.Operands.{after_number, lower, is_prefix, begins_truth, begins_switch, is_truth, operand_of, variable_operand_at, bracket_operand_at, quoted_at, braced_text_at, word_at, numeric, operand_at};
 ghost use Rattle.tclexpr.specs.View.{operand_view};
 
 use crate::nesting::{parts_nesting, script_nesting};
@@ -25,14 +25,14 @@ fn lower(b: u8) -> u8
 }
 
 /// Whether the word, in lower case, is a prefix of the other.
-fn is_front(word: &[u8], whole: &[u8]) -> bool
-    ensures { result ≡ is_front word.now whole.now }
+fn is_prefix(word: &[u8], whole: &[u8]) -> bool
+    ensures { result ≡ is_prefix word.now whole.now }
 {
     match word {
         [] => true,
         [a, word @ ..] => match whole {
             [] => false,
-            [b, whole @ ..] => lower(*a) == *b && is_front(word, whole),
+            [b, whole @ ..] => lower(*a) == *b && is_prefix(word, whole),
         },
     }
 }
@@ -41,17 +41,17 @@ fn is_front(word: &[u8], whole: &[u8]) -> bool
 fn begins_truth(word: &[u8]) -> bool
     ensures { result ≡ begins_truth word.now }
 {
-    is_front(word, b"true")
-        || is_front(word, b"false")
-        || is_front(word, b"yes")
-        || is_front(word, b"no")
+    is_prefix(word, b"true")
+        || is_prefix(word, b"false")
+        || is_prefix(word, b"yes")
+        || is_prefix(word, b"no")
 }
 
 /// Whether the word is a prefix of `on` or `off`.
 fn begins_switch(word: &[u8]) -> bool
     ensures { result ≡ begins_switch word.now }
 {
-    is_front(word, b"on") || is_front(word, b"off")
+    is_prefix(word, b"on") || is_prefix(word, b"off")
 }
 
 /// Whether a word is a truth word: a prefix of `true`, `false`, `yes` or `no`, or `on`, `of` or `off`, in any case.
@@ -124,8 +124,8 @@ fn read_variable<'a, S: Source<P>, P: Drop>(
     Ok((operand, height, rest))
 }
 
-/// A script in brackets, with how deep it nests, and the rest; the text begins with its bracket, and `behind` is what
-/// follows that.
+/// A script in brackets, with how deep it nests, and the rest; the text begins with its bracket, and `behind`
+/// is what follows that.
 fn read_script<'a, S: Source<P>, P: Drop>(
     alloc: Global,
     source: &S,

@@ -107,8 +107,8 @@ impl Window {
         }
     }
 
-    /// Whether `p` and then the rest match the text from the character `c` on; `keeps` is whether they match the text
-    /// after it.
+    /// Whether `p` and then the rest match the text from the character `c` on; `keeps` is whether they
+    /// match the text after it.
     fn takes(&self, p: char, c: char, keeps: bool) -> bool
         ensures { (xs cs : List ℕ) → Knows xs c cs self.now → IsTrue keeps ↔ IsMatch (p ∷ xs) cs
             → IsTrue result ↔ IsMatch (p ∷ xs) (c ∷ cs) }
@@ -122,7 +122,8 @@ impl Window {
         }
     }
 
-    /// What is known of the rest with `p` before it; `keeps` is whether that matches the text after the character `c`.
+    /// What is known of the rest with `p` before it; `keeps` is whether that matches the text after the
+    /// character `c`.
     pub(crate) fn before(&self, p: char, c: char, keeps: bool) -> Window
         ensures { (xs cs : List ℕ) → Knows xs c cs self.now → IsTrue keeps ↔ IsMatch (p ∷ xs) cs
             → Knows (p ∷ xs) c cs result }

@@ -56,8 +56,8 @@ mutual
 
   -- in a word, with the mark {*} before it or without
   pub data WordFault : ℕ → Bool → Text → Fault → Type 0 where
-    plain : {d : ℕ} {nested : Bool} {bs : Text} {f : Fault} → (Expands nested bs → ⊥) → PlainFault d nested bs f
-        → WordFault d nested bs f
+    plain : {d : ℕ} {nested : Bool} {bs : Text} {f : Fault} → (Expands nested bs → ⊥)
+        → PlainFault d nested bs f → WordFault d nested bs f
     expanding : {d : ℕ} {nested : Bool} {body : Text} {f : Fault} → word_ends nested body ≡ false
         → PlainFault d nested body f
         → WordFault d nested (left_brace ∷ (star ∷ (right_brace ∷ body))) f

@@ -72,7 +72,8 @@ IsPlainVariable name bs after =
 
 -- ${name}
 abbrev pub IsBracedVariable : Text → Text → Type 0
-IsBracedVariable name bs = (bs ≡ dollar ∷ (left_brace ∷ (name ++ right_brace ∷ []))) × AllPass (in_class InName) name
+IsBracedVariable name bs =
+    (bs ≡ dollar ∷ (left_brace ∷ (name ++ right_brace ∷ []))) × AllPass (in_class InName) name
 
 -- the text is a first part and a second one
 pub record Split (bs : Text) (First : Text → Text → Type 0) (Second : Text → Type 0) : Type 0 where
@@ -133,9 +134,11 @@ abbrev mutual
       (λ more. Split more (λ body rest. IsWord nested w body (rest ++ after)) (λ rest. IsWords nested ws rest after))
 
   pub IsWord : Bool → Word → Text → Text → Type 0
-  IsWord nested (word_of false ps) bs after = IsPlainWord nested ps (λ c inside more. IsParts c ps inside more) bs after
+  IsWord nested (word_of false ps) bs after =
+      IsPlainWord nested ps (λ c inside more. IsParts c ps inside more) bs after
   IsWord nested (word_of true ps) bs after =
-      IsExpanding nested (λ body. IsPlainWord nested ps (λ c inside more. IsParts c ps inside more) body after) bs after
+      IsExpanding nested
+      (λ body. IsPlainWord nested ps (λ c inside more. IsParts c ps inside more) body after) bs after
 
   -- parts, up to where no more can follow
   pub IsParts : Context → Parts → Text → Text → Type 0

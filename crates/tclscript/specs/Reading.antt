@@ -87,7 +87,8 @@ backslash_at bs = escaped bs (after_backslash bs)
 
 -- a run of literal text
 abbrev pub literal_at : Context → Text → Read Part
-literal_at context bs = Ok (literal (take_while (in_class (class_of context)) bs), drop_while (in_class (class_of context)) bs)
+literal_at context bs =
+    Ok (literal (take_while (in_class (class_of context)) bs), drop_while (in_class (class_of context)) bs)
 
 -- one part, where the parts do not end
 unfoldable pub part_at : Context → Inner → Text → Read Part
@@ -105,7 +106,8 @@ parts_with context inner bs =
 -- a word in braces, by the text that they enclose
 abbrev pub word_in_braces : Bool → ℕ → Option (Text × Text) → Read Parts
 word_in_braces nested left None = Err (OpenBrace left)
-word_in_braces nested left (Some p) = ended nested p.1 >>= (λ rest. Ok (part (braced p.0) no_parts, rest))
+word_in_braces nested left (Some p) =
+    ended nested p.1 >>= (λ rest. Ok (part (braced p.0) no_parts, rest))
 
 -- a word in braces, after the opening brace
 unfoldable pub braced_word_at : Bool → Text → Read Parts

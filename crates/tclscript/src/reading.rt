@@ -107,7 +107,8 @@ fn read_escape<'a, S: Source<P>, P: Drop>(
 ) -> Result<(Part<P>, &'a str), ReadError>
     requires text { IsEndOf (S.text source.now) text.now }
     requires mark { text.now ≡ backslash ∷ behind.now }
-    ensures { Gives stopped_by (λ x. (part_view (S.shown source.now) x.0, x.1.now)) result (backslash_at behind.now) }
+    ensures { Gives stopped_by (λ x. (part_view (S.shown source.now) x.0, x.1.now)) result
+        (backslash_at behind.now) }
 {
     match read_backslash(behind) {
         Some((c, rest)) => Ok((Part::Backslash(c), rest)),
@@ -385,12 +386,12 @@ fn read_part<'a, S: Source<P>, P: Drop>(
     }
 }
 
-/// The variable that the text begins with, and the rest (Tcl(n), rule 8): `$name`, `$name(index)` or `${name}`, of
-/// which `behind` is what follows the dollar. Before anything else the dollar is literal. At most `depth` brackets and
-/// indexes may nest.
+/// The variable that the text begins with, and the rest (Tcl(n), rule 8): `$name`, `$name(index)` or `${name}`,
+/// of which `behind` is what follows the dollar. Before anything else the dollar is literal. At most `depth`
+/// brackets and indexes may nest.
 ///
-/// The fault is `OpenBrace` at the brace of a name, `BadCharacter` at the parenthesis of an index, or the first that is
-/// met inside.
+/// The fault is `OpenBrace` at the brace of a name, `BadCharacter` at the parenthesis of an index, or the first
+/// that is met inside.
 #[cycle(read)]
 #[tactic(auto, unfolding(crate::specs::Reading::dollar_at))]
 pub fn read_dollar<'a, S: Source<P>, P: Drop>(
