@@ -1,21 +1,22 @@
--- The text of a message: a word between two texts.
+-- The text of a message (own): an inserted text between two others.
 use Rattle.std.specs.Prelude.{ℕ, List, [], ◌++◌, codes, decimal}
 use Rattle.message.specs.declared.Word.{Word}
 use Rattle.message.specs.declared.Word.TheVariants.{Nothing, Name, Number, Line}
 use Rattle.message.specs.declared.Message.{Message}
 
+-- a text is its bytes
 abbrev pub Text : Type 0
 Text = List ℕ
 
--- a word between two texts
+-- a text between two others
 abbrev pub around : Text → Text → Text → Text
 around before word after = before ++ (word ++ after)
 
--- a message that names a place in bytes
+-- a message and a byte offset after it
 abbrev pub at_byte : Text → ℕ → Text
 at_byte before at = around before (decimal at) []
 
--- what stands behind a message that has a line
+-- what is written after a message that is about a line
 abbrev pub line_text : ℕ → Text
 line_text line = codes " (line " ++ (decimal line ++ codes ")")
 
@@ -23,11 +24,11 @@ line_text line = codes " (line " ++ (decimal line ++ codes ")")
 abbrev pub at_line : Text → ℕ → Text
 at_line text line = text ++ line_text line
 
--- a message that ends with a quoted word
+-- a message that ends with a quoted name
 abbrev pub quoting : Text → Text → Text
 quoting before word = around before word (codes "'")
 
--- what a word shows
+-- the text that is inserted
 abbrev pub word_text : Word → Text
 word_text Nothing = []
 word_text (Name name) = name.now

@@ -1,7 +1,7 @@
-//! Messages of faults, in parts, so that they are shown and written without taking memory.
-//!
-//! The fault of a layer has one function that makes its message, with a clause that names its text. Its `Display` and
-//! the error line of a command are both made from it.
+//! The texts of faults and reports: a message has parts, so that it is shown and written without taking memory.
+//! Touches nothing but the text or writer that it is shown on, and takes no memory.
+//! Used by every crate whose faults have a text: a fault has one function `message`, whose clause states the text, and
+//! its `Display` and the error line of a command are both made from it.
 #![tactic(auto)]
 
 ghost use Rattle.std.specs.Prelude.{◌≡◌, Some};
@@ -12,21 +12,21 @@ ghost use Rattle.message.specs.Messages.{around, text_of, word_text};
 use itoa::Buffer;
 use std::fmt;
 
-/// The word that a message is about.
+/// What a message is about: what is inserted between its two texts.
 #[derive(Clone, Copy, Debug, PartialEq, Eq)]
 pub enum Word<'a> {
-    /// None.
+    /// Nothing is inserted.
     Nothing,
     /// A name, a path or a word of a command line.
     Name(&'a str),
     /// A number, in decimal digits.
     Number(usize),
-    /// The line, in decimal digits from 1, of what the text before it says: ` (line N)`.
+    /// A line number, from 1, in decimal digits: ` (line N)`, after the text that is about this line.
     Line(usize),
 }
 
 impl<'a> Word<'a> {
-    /// The text of the word, in three parts. The digits of a number stand in the buffer.
+    /// The inserted text, in three parts. The digits of a number are written to the buffer.
     pub fn parts<'b>(&'b self, digits: &'b mut Buffer) -> [&'b str; 3]
         ensures { flat_map (λ part. part.now) result ≡ word_text self.now }
     {
@@ -42,19 +42,19 @@ impl<'a> Word<'a> {
     }
 }
 
-/// A message: a word between two texts.
+/// A message: two texts, and what is inserted between them.
 #[derive(Clone, Copy, Debug, PartialEq, Eq)]
 pub struct Message<'a> {
-    /// What stands before the word.
+    /// The text before the inserted one.
     pub before: &'a str,
-    /// The word.
+    /// What is inserted.
     pub word: Word<'a>,
-    /// What stands behind the word.
+    /// The text after the inserted one.
     pub after: &'a str,
 }
 
 impl<'a> Message<'a> {
-    /// This text.
+    /// A message of one text, with nothing inserted.
     pub fn plain(text: &'a str) -> Message<'a>
         ensures { text_of result ≡ text.now }
     {
@@ -76,14 +76,14 @@ impl<'a> Message<'a> {
         }
     }
 
-    /// A text, a name and a quote behind it.
+    /// A text, a name and a closing quote.
     pub fn quoting(before: &'a str, name: &'a str) -> Message<'a>
         ensures { text_of result ≡ messages.quoting before.now name.now }
     {
         Message::around(before, name, "'")
     }
 
-    /// A text and a place in bytes behind it.
+    /// A text and a byte offset after it.
     pub fn at_byte(before: &'a str, at: usize) -> Message<'a>
         ensures { text_of result ≡ messages.at_byte before.now at }
     {
@@ -105,7 +105,7 @@ impl<'a> Message<'a> {
         }
     }
 
-    /// The text, in five parts. The digits of a number stand in the buffer.
+    /// The whole text, in five parts. The digits of a number are written to the buffer.
     pub fn parts<'b>(&'b self, digits: &'b mut Buffer) -> [&'b str; 5]
         ensures { flat_map (λ part. part.now) result ≡ text_of self.now }
     {

@@ -1,2 +1,5 @@
 pub mod Fronts
 pub mod NameLemmas
+pub mod OrderLemmas
+pub mod RunLemmas
+pub mod GreatestLemmas

@@ -1,1 +1,4 @@
 pub mod ModuleName
+pub mod Versions
+-- for this crate's own contracts alone
+pub mod DigitRuns

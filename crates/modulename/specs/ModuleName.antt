@@ -14,10 +14,11 @@ is_white b = b == 32 || (nat_le 9 b && nat_le b 13)
 abbrev pub is_forbidden : ℕ → Bool
 is_forbidden b = b == 0 || is_white b || b == 58 || b == 38 || b == 124 || b == 92 || b == 64
 
--- between the parts of a name stands a slash
+-- the byte between the parts of a name
 abbrev pub slash : ℕ
 slash = 47
 
+-- the texts between the slashes of a name
 abbrev pub parts : Text → List Text
 parts name = slice_split (λ b. b == slash) name
 

@@ -1,68 +1,14 @@
-//! How the name of a module is spelled, and which modules a name means (modulefile(5), module(1)).
+//! The names of modules: how they are spelled, which modules a name means, and the order of versions.
+//! Touches nothing and takes no memory.
+//! Used by whatever handles names: the environment's stacks and loaded list, modulefiles, the search, and requests.
 #![tactic(auto)]
 
-ghost use Rattle.std.specs.Prelude.{◌≡◌, length, not};
-ghost use Rattle.std.specs.List.{list_all};
-ghost use Rattle.modulename.specs.ModuleName.{is_white, is_forbidden, is_part, parts, is_module_name, means};
+mod digits;
+mod laws;
+mod name;
+mod piece;
+mod version;
 
-/// The most parts that a name has.
-pub const MOST_PARTS: usize = 4;
-
-fn is_white(b: u8) -> bool
-    ensures { result ≡ is_white b }
-{
-    b == b' ' || (9 <= b && b <= 13)
-}
-
-fn is_forbidden(b: u8) -> bool
-    ensures { result ≡ is_forbidden b }
-{
-    b == 0 || is_white(b) || b == b':' || b == b'&' || b == b'|' || b == b'\\' || b == b'@'
-}
-
-fn holds_no_forbidden(part: &[u8]) -> bool
-    ensures { result ≡ list_all (λ c. not (is_forbidden c)) part.now }
-{
-    part.iter().all(|b| !is_forbidden(*b))
-}
-
-fn is_part(part: &str) -> bool
-    ensures { result ≡ is_part part.now }
-{
-    let bytes = part.as_bytes();
-    match bytes {
-        [] => false,
-        [first, ..] => *first != b'.' && holds_no_forbidden(bytes),
-    }
-}
-
-fn are_parts(name: &str) -> bool
-    ensures { result ≡ list_all is_part (parts name.now) }
-{
-    name.split('/').all(|part| is_part(part))
-}
-
-fn part_count(name: &str) -> usize
-    ensures { result ≡ length (parts name.now) }
-{
-    name.split('/').count()
-}
-
-/// Whether the text is spelled as the name of a module: one to four parts joined by `/`, none of them empty
-/// or beginning with a point, and no NUL, no white space and none of `: & | \ @` in it.
-pub fn is_module_name(name: &str) -> bool
-    ensures { result ≡ is_module_name name.now }
-{
-    are_parts(name) && part_count(name) <= MOST_PARTS
-}
-
-/// Whether the name means this module: it is the module's name, or the front of it up to a `/`.
-pub fn means(name: &str, full_name: &str) -> bool
-    ensures { result ≡ means name.now full_name.now }
-{
-    match full_name.as_bytes().strip_prefix(name.as_bytes()) {
-        Some([]) => true,
-        Some([next, ..]) => *next == b'/',
-        None => false,
-    }
-}
+pub use laws::{order_of_versions, rows_of_versions};
+pub use name::{MOST_PARTS, is_module_name, means};
+pub use version::version_order;

@@ -2,14 +2,14 @@
 use Rattle.std.proofs.Common.{◌≡◌, ◌≢◌, ℕ, zero, suc, ◌+◌, ◌*◌, ◌-◌, ◌^◌, ◌<◌, ◌≤◌, [], ◌∷◌, ◌++◌, length, Bool, true, false, Some, refl, sym, ap, ap₂, subst, ◌∙◌, ◌/◌, ◌%◌, ◌==◌, nat_lt, nat_le, arith}
 use Rattle.std.proofs.lemmas.Bool.Decides.{nat_tests}
 use Rattle.std.specs.Char.{digit_value}
-use Rattle.tclchars.specs.Runs.{Text, front, back}
+use Rattle.tclchars.specs.Runs.{Text, take_while, drop_while}
 use Rattle.std.specs.List.{slice_index}
 use lib.Utf8.{encode}
 use Rattle.tclchars.specs.Bytes.{is_continuation}
 use lib.Dec.{T, ltb, ltb→lt}
 use Rattle.std.proofs.lemmas.Str.{encode_ascii}
 use Rattle.tclchars.specs.Backslash.{digit_at, letter_value, is_octal, after_backslash, begins_wide}
-use Rattle.tclchars.proofs.RunLemmas.{front-cons_true, front-cons_false, back-cons_true, back-cons_false}
+use Rattle.tclchars.proofs.RunLemmas.{take_while-cons_true, take_while-cons_false, drop_while-cons_true, drop_while-cons_false}
 
 pub digit_small : (b : ℕ) → digit_value b < 36 → b < 128
 digit_small b h = grind (arith, nat_tests)
@@ -46,7 +46,7 @@ no_test b c k h = grind (arith, nat_tests)
 wide_test : (b : ℕ) → 128 ≤ b → nat_le 128 b ≡ true
 wide_test b h = grind (arith, nat_tests)
 
-wide_start : (b : ℕ) (bs : Text) → 128 ≤ b → after_backslash (b ∷ bs) ≡ Some (b ∷ front is_continuation bs, back is_continuation bs)
+wide_start : (b : ℕ) (bs : Text) → 128 ≤ b → after_backslash (b ∷ bs) ≡ Some (b ∷ take_while is_continuation bs, drop_while is_continuation bs)
 wide_start b bs h = rw (no_test b 10 (omega arith) h, octal_none b h, no_test b 120 (omega arith) h, no_test b 117 (omega arith) h, no_test b 85 (omega arith) h, wide_test b h) refl
 
 goes_on : (n : ℕ) → is_continuation (128 + n % 64) ≡ true
@@ -63,16 +63,16 @@ stops b h = cases (nat_le 128 b) refl where
   cases false e = grind (arith, nat_tests)
 
 abbrev Runs : Text → Text → Type 0
-Runs xs rest = (front is_continuation (xs ++ rest) ≡ xs) × (back is_continuation (xs ++ rest) ≡ rest)
+Runs xs rest = (take_while is_continuation (xs ++ rest) ≡ xs) × (drop_while is_continuation (xs ++ rest) ≡ rest)
 
 runs_none : (rest : Text) → Clean rest → Runs [] rest
 runs_none [] h = (refl, refl)
-runs_none (b ∷ bs) h = let e = stops b (h (omega arith)) in (front-cons_false is_continuation b bs e, back-cons_false is_continuation b bs e)
+runs_none (b ∷ bs) h = let e = stops b (h (omega arith)) in (take_while-cons_false is_continuation b bs e, drop_while-cons_false is_continuation b bs e)
 
 runs_more : (n : ℕ) (xs rest : Text) → Runs xs rest → Runs ((128 + n % 64) ∷ xs) rest
 runs_more n xs rest h = (
-  front-cons_true is_continuation (128 + n % 64) (xs ++ rest) (goes_on n) ∙ ap (λ ys. (128 + n % 64) ∷ ys) h.0,
-  back-cons_true is_continuation (128 + n % 64) (xs ++ rest) (goes_on n) ∙ h.1,
+  take_while-cons_true is_continuation (128 + n % 64) (xs ++ rest) (goes_on n) ∙ ap (λ ys. (128 + n % 64) ∷ ys) h.0,
+  drop_while-cons_true is_continuation (128 + n % 64) (xs ++ rest) (goes_on n) ∙ h.1,
 )
 
 wide_runs : (b : ℕ) (xs rest : Text) → 128 ≤ b → Runs xs rest → after_backslash (b ∷ (xs ++ rest)) ≡ Some (b ∷ xs, rest)

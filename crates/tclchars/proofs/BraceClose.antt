@@ -1,7 +1,7 @@
 -- The brace that closes is the first one behind a text whose braces match.
 use Rattle.std.proofs.Common.{◌≡◌, ◌≢◌, ℕ, zero, suc, List, [], ◌∷◌, ◌++◌, Bool, true, false, ◌==◌, Option, Some, None, refl, sym, ap, ap₂, subst, ◌∙◌, arith, append_assoc, append-nil}
 use Rattle.std.proofs.lemmas.Bool.Decides.{nat_tests}
-use Rattle.tclchars.specs.Braces.{Balanced, nothing, other, escaped, inner, brace_step, after_step, behind, braced_at}
+use Rattle.tclchars.specs.Braces.{Balanced, nothing, other, escaped, inner, brace_step, after_step, with_first, braced_at}
 use Rattle.tclchars.proofs.BraceLemmas.{Found, behind_all, behind_all-nil, braced_at-nil, braced_at-cons}
 
 -- Braces: what closes behind so many more
@@ -30,7 +30,7 @@ closes_inner (suc d) inside bs i h =
 closes_open : (d : ℕ) (bs : List ℕ) → Closes (suc d) bs → Closes d (123 ∷ bs)
 closes_open d bs h = rw (h.2) (closes_inner d h.0 h.1 h.3 h.4)
 
-behind_some : (b : ℕ) (found : Option (List ℕ × List ℕ)) (f r : List ℕ) → behind b found ≡ Some (f, r) → (g : List ℕ) × (found ≡ Some (g, r)) × (f ≡ b ∷ g)
+behind_some : (b : ℕ) (found : Option (List ℕ × List ℕ)) (f r : List ℕ) → with_first b found ≡ Some (f, r) → (g : List ℕ) × (found ≡ Some (g, r)) × (f ≡ b ∷ g)
 behind_some b None f r h = cc
 behind_some b (Some p) f r h =
     let e : (b ∷ p.0, p.1) ≡ (f, r) = cc in
@@ -67,13 +67,13 @@ pub brace_step-less : (d b : ℕ) → (b == 92) ≡ false → (b == 123) ≡ fal
 brace_step-less d b h k l = rw (h, k, l) refl
 
 -- one byte that doesn't close
-close_more : (b : ℕ) (bs : List ℕ) (e : Bool) (d : ℕ) (f r : List ℕ) → AllClose bs → behind b (braced_at e d bs) ≡ Some (f, r) → (g : List ℕ) × (f ≡ b ∷ g) × (b ∷ bs ≡ f ++ 125 ∷ r) × ClosesAfter e d g
+close_more : (b : ℕ) (bs : List ℕ) (e : Bool) (d : ℕ) (f r : List ℕ) → AllClose bs → with_first b (braced_at e d bs) ≡ Some (f, r) → (g : List ℕ) × (f ≡ b ∷ g) × (b ∷ bs ≡ f ++ 125 ∷ r) × ClosesAfter e d g
 close_more b bs e d f r all h =
     let found = behind_some b (braced_at e d bs) f r h in
     let so = all e d found.0 r found.1 in
     (found.0, found.2, ap (λ xs. b ∷ xs) so.0 ∙ ap (λ xs. xs ++ 125 ∷ r) (sym found.2), so.1)
 
-after_some : (b : ℕ) (bs : List ℕ) (e : Bool) (d : ℕ) (step : Option (Bool × ℕ)) (f r : List ℕ) → step ≡ Some (e, d) → after_step b bs (λ e d. braced_at e d bs) step ≡ Some (f, r) → behind b (braced_at e d bs) ≡ Some (f, r)
+after_some : (b : ℕ) (bs : List ℕ) (e : Bool) (d : ℕ) (step : Option (Bool × ℕ)) (f r : List ℕ) → step ≡ Some (e, d) → after_step b bs (λ e d. braced_at e d bs) step ≡ Some (f, r) → with_first b (braced_at e d bs) ≡ Some (f, r)
 after_some b bs e d step f r is h = sym (ap (after_step b bs (λ e d. braced_at e d bs)) is) ∙ h
 
 close_cases : (b : ℕ) (bs : List ℕ) (d : ℕ) (f r : List ℕ) (t u v : Bool) → (b == 92) ≡ t → (b == 123) ≡ u → (b == 125) ≡ v → AllClose bs
@@ -111,7 +111,7 @@ close_sound [] e d f r h = absurd (none_some (f, r) (sym (braced_at-nil e d) ∙
 close_sound (b ∷ bs) e d f r h = close_step b bs e d f r (close_sound bs) (sym (braced_at-cons e d b bs) ∙ h)
 
 -- Braces
-behind_all-cons : (b : ℕ) (bs : List ℕ) (found : Found) → behind b (behind_all bs found) ≡ behind_all (b ∷ bs) found
+behind_all-cons : (b : ℕ) (bs : List ℕ) (found : Found) → with_first b (behind_all bs found) ≡ behind_all (b ∷ bs) found
 behind_all-cons b bs None = refl
 behind_all-cons b bs (Some p) = refl
 
@@ -122,21 +122,21 @@ behind_all-append xs ys (Some p) = ap (λ zs. Some (zs, p.1)) (sym (append_assoc
 no_test : (b c : ℕ) → b ≢ c → (b == c) ≡ false
 no_test b c h = grind (arith, nat_tests)
 
-step_on : (e e' : Bool) (d d' b : ℕ) (bs : List ℕ) → brace_step e d b ≡ Some (e', d') → braced_at e d (b ∷ bs) ≡ behind b (braced_at e' d' bs)
+step_on : (e e' : Bool) (d d' b : ℕ) (bs : List ℕ) → brace_step e d b ≡ Some (e', d') → braced_at e d (b ∷ bs) ≡ with_first b (braced_at e' d' bs)
 step_on e e' d d' b bs h = braced_at-cons e d b bs ∙ ap (after_step b bs (λ e d. braced_at e d bs)) h
 
 pub balanced_read : {bs : List ℕ} → Balanced bs → (d : ℕ) (rest : List ℕ) → braced_at false d (bs ++ rest) ≡ behind_all bs (braced_at false d rest)
 balanced_read nothing d rest = behind_all-nil _
 balanced_read (other {b} {bs} x y z h) d rest =
     step_on false false d d b (bs ++ rest) (brace_step-other d b (no_test b 92 x) (no_test b 123 y) (no_test b 125 z))
-    ∙ ap (behind b) (balanced_read h d rest) ∙ behind_all-cons b bs _
+    ∙ ap (with_first b) (balanced_read h d rest) ∙ behind_all-cons b bs _
 balanced_read (escaped {b} {bs} h) d rest =
     step_on false true d d 92 (b ∷ (bs ++ rest)) (brace_step-escape d 92 refl)
-    ∙ ap (behind 92) (step_on true false d d b (bs ++ rest) refl ∙ ap (behind b) (balanced_read h d rest) ∙ behind_all-cons b bs _) ∙ behind_all-cons 92 (b ∷ bs) _
+    ∙ ap (with_first 92) (step_on true false d d b (bs ++ rest) refl ∙ ap (with_first b) (balanced_read h d rest) ∙ behind_all-cons b bs _) ∙ behind_all-cons 92 (b ∷ bs) _
 balanced_read (inner {inside} {bs} h k) d rest =
     ap (λ xs. braced_at false d (123 ∷ xs)) (append_assoc inside (125 ∷ bs) rest)
     ∙ step_on false false d (suc d) 123 (inside ++ 125 ∷ (bs ++ rest)) (brace_step-open d 123 refl refl)
-    ∙ ap (behind 123) (balanced_read h (suc d) (125 ∷ (bs ++ rest)) ∙ ap (behind_all inside) (step_on false false (suc d) d 125 (bs ++ rest) (brace_step-less d 125 refl refl refl) ∙ ap (behind 125) (balanced_read k d rest) ∙ behind_all-cons 125 bs _) ∙ behind_all-append inside (125 ∷ bs) _)
+    ∙ ap (with_first 123) (balanced_read h (suc d) (125 ∷ (bs ++ rest)) ∙ ap (behind_all inside) (step_on false false (suc d) d 125 (bs ++ rest) (brace_step-less d 125 refl refl refl) ∙ ap (with_first 125) (balanced_read k d rest) ∙ behind_all-cons 125 bs _) ∙ behind_all-append inside (125 ∷ bs) _)
     ∙ behind_all-cons 123 (inside ++ 125 ∷ bs) _
 
 pub found_close : (inside rest : List ℕ) → Balanced inside → braced_at false 0 (inside ++ 125 ∷ rest) ≡ Some (inside, rest)

@@ -2,7 +2,7 @@
 use Rattle.std.proofs.Common.{◌≡◌, ℕ, zero, suc, ◌+◌, ◌<◌, ◌≤◌, List, [], ◌∷◌, ◌++◌, length, get_or, take, drop, Bool, true, false, Option, Some, None, refl, sym, ap, ◌∙◌, arith, append_assoc, option_map}
 use Rattle.std.proofs.lemmas.List.{drop_more, take_more}
 use Rattle.std.proofs.lemmas.Bool.Decides.{nat_tests}
-use Rattle.tclchars.specs.Braces.{brace_step, braced_at, behind, after_step}
+use Rattle.tclchars.specs.Braces.{brace_step, braced_at, with_first, after_step}
 
 abbrev pub Found : Type 0
 Found = Option (List ℕ × List ℕ)
@@ -15,7 +15,7 @@ pub behind_all-nil : (found : Found) → found ≡ behind_all [] found
 behind_all-nil None = refl
 behind_all-nil (Some p) = refl
 
-pub behind_all-push : (bs : List ℕ) (b : ℕ) (found : Found) → behind_all bs (behind b found) ≡ behind_all (bs ++ b ∷ []) found
+pub behind_all-push : (bs : List ℕ) (b : ℕ) (found : Found) → behind_all bs (with_first b found) ≡ behind_all (bs ++ b ∷ []) found
 behind_all-push bs b None = refl
 behind_all-push bs b (Some p) = ap (λ xs. Some (xs, p.1)) (sym (append_assoc bs (b ∷ []) p.0))
 
@@ -36,7 +36,7 @@ brace-more bs i e e' d d' all h step so =
     so ∙ ap (λ ys. behind_all (take i bs) (braced_at e d ys)) (drop_more bs i 0 h)
     ∙ ap (behind_all (take i bs)) (braced_at-cons e d b rest ∙ ap (after_step b rest (λ e d. braced_at e d rest)) step)
     ∙ behind_all-push (take i bs) b (braced_at e' d' rest)
-    ∙ ap (λ front. behind_all front (braced_at e' d' rest)) (sym (take_more bs i 0 h))
+    ∙ ap (λ prefix. behind_all prefix (braced_at e' d' rest)) (sym (take_more bs i 0 h))
 
 pub brace-closed : (bs : List ℕ) (i : ℕ) (e : Bool) (d : ℕ) (all : Found) → i < length bs → brace_step e d (get_or bs i 0) ≡ None
     → all ≡ behind_all (take i bs) (braced_at e d (drop i bs)) → all ≡ Some (take i bs ++ [], drop (i + 1) bs)

@@ -5,33 +5,33 @@ use Rattle.std.proofs.lemmas.Bool.Decides.{nat_tests}
 use borrow.Author.Count.{below_more}
 use Rattle.std.specs.Str.{IsUtf8, IsCharBoundary}
 use Rattle.std.proofs.lemmas.Str.{IsCharBoundary-start, IsCharBoundary-after_ascii, IsCharBoundary-before_ascii, IsUtf8-drop}
-use Rattle.tclchars.specs.Runs.{front, back}
+use Rattle.tclchars.specs.Runs.{take_while, drop_while}
 use Rattle.tclchars.specs.Classes.{in_class}
 use Rattle.tclchars.specs.declared.runs.Class.{Class}
 use Rattle.tclchars.specs.declared.runs.Class.TheVariants.{Blank, Gap, Space, BlankOrTab, Plain, BareScript, BareBracket, BareIndex, BareQuote, BareElement, Name, InName, Unescaped}
 
-pub front-cons_true : (p : ℕ → Bool) (b : ℕ) (bs : List ℕ) → p b ≡ true → front p (b ∷ bs) ≡ b ∷ front p bs
-front-cons_true p b bs h = rw h refl
+pub take_while-cons_true : (p : ℕ → Bool) (b : ℕ) (bs : List ℕ) → p b ≡ true → take_while p (b ∷ bs) ≡ b ∷ take_while p bs
+take_while-cons_true p b bs h = rw h refl
 
-pub front-cons_false : (p : ℕ → Bool) (b : ℕ) (bs : List ℕ) → p b ≡ false → front p (b ∷ bs) ≡ []
-front-cons_false p b bs h = rw h refl
+pub take_while-cons_false : (p : ℕ → Bool) (b : ℕ) (bs : List ℕ) → p b ≡ false → take_while p (b ∷ bs) ≡ []
+take_while-cons_false p b bs h = rw h refl
 
-pub back-cons_true : (p : ℕ → Bool) (b : ℕ) (bs : List ℕ) → p b ≡ true → back p (b ∷ bs) ≡ back p bs
-back-cons_true p b bs h = rw h refl
+pub drop_while-cons_true : (p : ℕ → Bool) (b : ℕ) (bs : List ℕ) → p b ≡ true → drop_while p (b ∷ bs) ≡ drop_while p bs
+drop_while-cons_true p b bs h = rw h refl
 
-pub back-cons_false : (p : ℕ → Bool) (b : ℕ) (bs : List ℕ) → p b ≡ false → back p (b ∷ bs) ≡ b ∷ bs
-back-cons_false p b bs h = rw h refl
+pub drop_while-cons_false : (p : ℕ → Bool) (b : ℕ) (bs : List ℕ) → p b ≡ false → drop_while p (b ∷ bs) ≡ b ∷ bs
+drop_while-cons_false p b bs h = rw h refl
 
-pub front-nil : (p : ℕ → Bool) → front p [] ≡ []
-front-nil p = refl
+pub take_while-nil : (p : ℕ → Bool) → take_while p [] ≡ []
+take_while-nil p = refl
 
-pub back-nil : (p : ℕ → Bool) → back p [] ≡ []
-back-nil p = refl
+pub drop_while-nil : (p : ℕ → Bool) → drop_while p [] ≡ []
+drop_while-nil p = refl
 
 -- what was passed so far, and the rest
 pub record Passed (p : ℕ → Bool) (bs : List ℕ) (n : ℕ) : Type 0 where
-  pub run : front p bs ≡ take n bs ++ front p (drop n bs)
-  pub rest : back p bs ≡ back p (drop n bs)
+  pub run : take_while p bs ≡ take n bs ++ take_while p (drop n bs)
+  pub rest : drop_while p bs ≡ drop_while p (drop n bs)
   pub each : (k : ℕ) → k < n → p (get_or bs k 0) ≡ true
 
 pub passed-none : (p : ℕ → Bool) (bs : List ℕ) → Passed p bs 0
@@ -44,18 +44,18 @@ passed-more p bs n h t s =
     let more = drop (n + 1) bs in
     record {
       run =
-          s.run ∙ ap (λ ys. take n bs ++ front p ys) here ∙ ap (λ ys. take n bs ++ ys) (front-cons_true p x more t)
-          ∙ sym (ap (λ ys. ys ++ front p more) (take_more bs n 0 h) ∙ append_assoc (take n bs) (x ∷ []) (front p more));
-      rest = s.rest ∙ ap (back p) here ∙ back-cons_true p x more t;
+          s.run ∙ ap (λ ys. take n bs ++ take_while p ys) here ∙ ap (λ ys. take n bs ++ ys) (take_while-cons_true p x more t)
+          ∙ sym (ap (λ ys. ys ++ take_while p more) (take_more bs n 0 h) ∙ append_assoc (take n bs) (x ∷ []) (take_while p more));
+      rest = s.rest ∙ ap (drop_while p) here ∙ drop_while-cons_true p x more t;
       each = below_more _ _ s.each t;
     }
 
-stops : (p : ℕ → Bool) (ys : List ℕ) → (0 < length ys → p (get_or ys 0 0) ≡ false) → (front p ys ≡ []) × (back p ys ≡ ys)
-stops p [] h = (front-nil p, back-nil p)
-stops p (y ∷ ys) h = (front-cons_false p y ys (h (omega arith)), back-cons_false p y ys (h (omega arith)))
+stops : (p : ℕ → Bool) (ys : List ℕ) → (0 < length ys → p (get_or ys 0 0) ≡ false) → (take_while p ys ≡ []) × (drop_while p ys ≡ ys)
+stops p [] h = (take_while-nil p, drop_while-nil p)
+stops p (y ∷ ys) h = (take_while-cons_false p y ys (h (omega arith)), drop_while-cons_false p y ys (h (omega arith)))
 
 -- where the next byte fails the test, the two parts are those of a cut there
-pub passed-end : (p : ℕ → Bool) (bs : List ℕ) (n : ℕ) → Passed p bs n → n ≤ length bs → (n < length bs → p (get_or bs n 0) ≡ false) → (take n bs ≡ front p bs) × (drop n bs ≡ back p bs)
+pub passed-end : (p : ℕ → Bool) (bs : List ℕ) (n : ℕ) → Passed p bs n → n ≤ length bs → (n < length bs → p (get_or bs n 0) ≡ false) → (take n bs ≡ take_while p bs) × (drop n bs ≡ drop_while p bs)
 passed-end p bs n s le stop =
     let here = stops p (drop n bs) (λ h. rw (get_or-drop) (simp add-zero (stop (omega (arith, length-drop n bs))))) in
     (sym (s.run ∙ ap (λ ys. take n bs ++ ys) here.0 ∙ append-nil (take n bs)), sym (s.rest ∙ here.1))

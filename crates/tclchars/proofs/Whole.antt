@@ -4,7 +4,7 @@ use Rattle.std.specs.Prelude.{nat_lt, IfOk, IfErr, MatchResult}
 use Rattle.std.proofs.lemmas.Bool.Decides.{nat_tests}
 use Rattle.tclchars.specs.Runs.{Text}
 use Rattle.tclchars.specs.Faults.{max_bytes}
-use Rattle.tclchars.specs.Reading.{left_of, placed}
+use Rattle.tclchars.specs.Reading.{left_of, with_offset}
 use Rattle.tclchars.specs.Whole.{IsFaultAt, IsFaultOf, at_place, whole_of, FailsWith, Reads}
 use Rattle.tclchars.specs.declared.fault.Fault.{Fault}
 use Rattle.tclchars.specs.declared.fault.Fault.TheVariants as marks
@@ -21,7 +21,7 @@ long_or_not n = go (nat_lt max_bytes n) refl where
 place_same : (len at left : ℕ) → at + left ≡ len → len - left ≡ at
 place_same len at left h = omega arith
 
-no_memory_placed : (len : ℕ) (f : Fault) → placed len f ≢ OutOfMemory
+no_memory_placed : (len : ℕ) (f : Fault) → with_offset len f ≢ OutOfMemory
 no_memory_placed len (marks.OpenBrace left) = λ h. cc
 no_memory_placed len (marks.OpenQuote left) = λ h. cc
 no_memory_placed len (marks.OpenBracket left) = λ h. cc
@@ -31,7 +31,7 @@ no_memory_placed len (marks.BadCharacter left) = λ h. cc
 no_memory_placed len (marks.BadExpression left) = λ h. cc
 
 -- the fault that is met, at its place
-placed_is : (Is : Text → Fault → Type 0) (bs : Text) (f : Fault) → length bs ≤ max_bytes → left_of f ≤ length bs → Is bs f → IsFaultOf Is bs (placed (length bs) f)
+placed_is : (Is : Text → Fault → Type 0) (bs : Text) (f : Fault) → length bs ≤ max_bytes → left_of f ≤ length bs → Is bs f → IsFaultOf Is bs (with_offset (length bs) f)
 placed_is Is bs (marks.OpenBrace left) short inside h = (short, left, omega arith, h)
 placed_is Is bs (marks.OpenQuote left) short inside h = (short, left, omega arith, h)
 placed_is Is bs (marks.OpenBracket left) short inside h = (short, left, omega arith, h)
@@ -49,11 +49,11 @@ module _ {A : Type 0} (read : Text → Result A Fault) where
 
   found_value : (bs : Text) (r : Result A Fault) (x : A) → at_place bs r ≡ Ok x → r ≡ Ok x
   found_value bs (Ok y) x h = ap (λ z. Ok z) (ok_same y x h)
-  found_value bs (Err f) x h = absurd (err_ok x (placed (length bs) f) h)
+  found_value bs (Err f) x h = absurd (err_ok x (with_offset (length bs) f) h)
 
-  found_fault : (bs : Text) (r : Result A Fault) (f : TextFault) → at_place bs r ≡ Err f → (g : Fault) × (r ≡ Err g) × (placed (length bs) g ≡ f)
+  found_fault : (bs : Text) (r : Result A Fault) (f : TextFault) → at_place bs r ≡ Err f → (g : Fault) × (r ≡ Err g) × (with_offset (length bs) g ≡ f)
   found_fault bs (Ok y) f h = absurd (ok_err y f h)
-  found_fault bs (Err g) f h = (g, refl, err_same {A = A} (placed (length bs) g) f h)
+  found_fault bs (Err g) f h = (g, refl, err_same {A = A} (with_offset (length bs) g) f h)
 
   -- the value of a whole text is what is read of it within the limit
   pub value_is : (bs : Text) (x : A) → whole_of read bs ≡ Ok x → (read bs ≡ Ok x) × (length bs ≤ max_bytes)
@@ -79,7 +79,7 @@ module _ {A : Type 0} (read : Text → Result A Fault) (Is : Text → Fault → 
     long_memory : TooLong ≢ OutOfMemory
     long_memory = λ h. cc
 
-  placed_met : (bs : Text) (at : ℕ) (mark : ℕ → Fault) (said : ℕ → TextFault) → ((left : ℕ) → placed (length bs) (mark left) ≡ said (length bs - left)) → IsFaultAt Is bs at mark → whole_of read bs ≡ Err (said at)
+  placed_met : (bs : Text) (at : ℕ) (mark : ℕ → Fault) (said : ℕ → TextFault) → ((left : ℕ) → with_offset (length bs) (mark left) ≡ said (length bs - left)) → IsFaultAt Is bs at mark → whole_of read bs ≡ Err (said at)
   placed_met bs at mark said same h =
       not_long read bs h.0 ∙ ap (at_place bs) (met bs (mark h.1) h.3) ∙ ap (λ f. Err f) (same h.1 ∙ ap said (place_same (length bs) at h.1 h.2))
 

@@ -2,7 +2,7 @@
 use Rattle.std.specs.Prelude.{ℕ, zero, suc, ◌+◌, ◌*◌, [], ◌∷◌, Bool, false, ◌||◌, ◌&&◌, ◌==◌, nat_lt, nat_le, if◌then◌else◌, Option, Some, None, encode_utf8}
 use Rattle.std.specs.Char.{digit_value}
 use Rattle.tclchars.specs.Bytes.{space, tab, newline, is_continuation}
-use Rattle.tclchars.specs.Runs.{Text, front, back}
+use Rattle.tclchars.specs.Runs.{Text, take_while, drop_while}
 
 -- a b f n r t v stand for the characters 7 8 12 10 13 9 11; any other byte stands for itself
 abbrev pub letter_value : ℕ → ℕ
@@ -19,12 +19,12 @@ is_hexadecimal b = nat_lt (digit_value b) 16
 abbrev pub is_blank_or_tab : ℕ → Bool
 is_blank_or_tab b = b == space || b == tab
 
--- the value of a first digit of the base, and what follows it
+-- the value of a first digit of the base, and the rest
 abbrev pub digit_at : ℕ → Text → Option (ℕ × Text)
 digit_at base [] = None
 digit_at base (b ∷ bs) = if nat_lt (digit_value b) base then Some (digit_value b, bs) else None
 
--- the number that goes on with so many octal digits at most, while it stays below 256, and what follows them
+-- the number with so many octal digits more at most, while it stays below 256, and the rest
 abbrev pub octal_on : (ℕ → Text → ℕ × Text) → ℕ → Text → Option (ℕ × Text) → ℕ × Text
 octal_on more v bs None = (v, bs)
 octal_on more v bs (Some d) = if nat_lt (v * 8 + d.0) 256 then more (v * 8 + d.0) d.1 else (v, bs)
@@ -33,7 +33,7 @@ abbrev pub octal_at : ℕ → ℕ → Text → ℕ × Text
 octal_at zero v bs = (v, bs)
 octal_at (suc n) v bs = octal_on (octal_at n) v bs (digit_at 8 bs)
 
--- the number that goes on with so many hexadecimal digits at most, and what follows them
+-- the number with so many hexadecimal digits more at most, and the rest
 abbrev pub hexadecimal_on : (ℕ → Text → ℕ × Text) → ℕ → Text → Option (ℕ × Text) → ℕ × Text
 hexadecimal_on more v bs None = (v, bs)
 hexadecimal_on more v bs (Some d) = more (v * 16 + d.0) d.1
@@ -46,32 +46,33 @@ abbrev pub begins_hexadecimal : Text → Bool
 begins_hexadecimal [] = false
 begins_hexadecimal (b ∷ bs) = is_hexadecimal b
 
--- the character of a code, but for half of a pair of UTF-16, before what follows
+-- the character with a code, unless that is half of a pair of UTF-16, and the rest
 abbrev pub character : ℕ × Text → Option (Text × Text)
 character r = if nat_le 55296 r.0 && nat_lt r.0 57344 then None else Some (encode_utf8 r.0, r.1)
 
--- a letter that begins a code of so many hexadecimal digits at most; without digits it is itself
+-- a letter before a code of so many hexadecimal digits at most; without digits it is itself
 abbrev pub code_at : ℕ → ℕ → Text → Option (Text × Text)
 code_at n b bs = if begins_hexadecimal bs then character (hexadecimal_at n 0 bs) else Some (b ∷ [], bs)
 
--- \U before a hexadecimal digit stands for nothing
+-- \U before a hexadecimal digit stands for nothing (own: unsupported)
 abbrev pub wide_code_at : Text → Option (Text × Text)
 wide_code_at bs = if begins_hexadecimal bs then None else Some (85 ∷ [], bs)
 
+-- the text begins with a character of several bytes
 abbrev pub begins_wide : Text → Bool
 begins_wide [] = false
 begins_wide (b ∷ bs) = nat_le 128 b
 
--- What a backslash and what is read behind it stand for, and what follows; None at the text's end, and where they stand
--- for nothing. A newline takes the blanks and tabs behind it along and stands for one space; a character of several
--- bytes is its first byte and those that go on with it
+-- What a backslash stands for with the characters after it, and the rest of the text; None at the end of the text, and
+-- where they stand for nothing. A newline takes the blanks and tabs after it with it, and stands for one space; a
+-- character of several bytes is its first byte and its continuation bytes.
 abbrev pub after_backslash : Text → Option (Text × Text)
 after_backslash [] = None
 after_backslash (b ∷ bs) =
-    if b == newline then Some (space ∷ [], back is_blank_or_tab bs)
+    if b == newline then Some (space ∷ [], drop_while is_blank_or_tab bs)
     else if is_octal b then character (octal_at 3 0 (b ∷ bs))
     else if b == 120 then code_at 2 b bs
     else if b == 117 then code_at 4 b bs
     else if b == 85 then wide_code_at bs
-    else if nat_le 128 b then Some (b ∷ front is_continuation bs, back is_continuation bs)
+    else if nat_le 128 b then Some (b ∷ take_while is_continuation bs, drop_while is_continuation bs)
     else Some (letter_value b ∷ [], bs)

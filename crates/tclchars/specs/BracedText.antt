@@ -1,5 +1,5 @@
--- What the text between the braces of a word stands for (Tcl(n), rules 6 and 9): itself, but that a backslash before a
--- newline and the blanks and tabs behind them are one space. A backslash and any other character are passed over
+-- The value of a text in braces (Tcl(n), rules 6 and 9): the text itself, but that a backslash before a newline
+-- becomes, with the blanks and tabs after them, one space. A backslash and any other character are passed over
 -- together.
 use Rattle.std.specs.Prelude.{[], ◌∷◌, ◌==◌, if◌then◌else◌}
 use Rattle.tclchars.specs.Bytes.{space, newline, backslash}
@@ -13,7 +13,8 @@ abbrev mutual
 
   pub behind_backslash : Text → Text
   behind_backslash [] = backslash ∷ []
-  behind_backslash (b ∷ bs) = if b == newline then space ∷ behind_newline bs else backslash ∷ (b ∷ braced_text bs)
+  behind_backslash (b ∷ bs) =
+      if b == newline then space ∷ behind_newline bs else backslash ∷ (b ∷ braced_text bs)
 
   pub behind_newline : Text → Text
   behind_newline [] = []

@@ -1,4 +1,4 @@
--- The characters that mean something in the texts of Tcl, by their codes, and what a text may begin with.
+-- The bytes that mean something in texts of Tcl, by their codes, and their classes (Tcl(n), rules 1 to 9).
 use Rattle.std.specs.Prelude.{◌≡◌, ℕ, List, [], ◌∷◌, Bool, true, not, ◌||◌, ◌&&◌, ◌==◌, nat_le, nat_lt}
 
 abbrev pub tab : ℕ
@@ -58,7 +58,7 @@ left_brace = 123
 abbrev pub right_brace : ℕ
 right_brace = 125
 
--- what parts the words of a command: space, tab, vertical tab, form feed and carriage return
+-- what separates the words of a command: space, tab, vertical tab, form feed and carriage return
 abbrev pub is_blank : ℕ → Bool
 is_blank b = b == space || b == tab || b == vertical_tab || b == form_feed || b == carriage_return
 
@@ -66,7 +66,7 @@ is_blank b = b == space || b == tab || b == vertical_tab || b == form_feed || b 
 abbrev pub is_end : ℕ → Bool
 is_end b = b == newline || b == semicolon
 
--- what may stand between commands
+-- what may be between commands
 abbrev pub is_gap : ℕ → Bool
 is_gap b = is_blank b || is_end b
 
@@ -76,10 +76,11 @@ is_special b =
     b == quote || b == dollar || b == left_bracket || b == right_bracket || b == left_brace || b == right_brace
     || b == backslash
 
--- what has none anywhere
+-- what has no meaning of its own anywhere
 abbrev pub is_plain : ℕ → Bool
 is_plain b = not (is_gap b || is_special b)
 
+-- each byte passes the test
 abbrev pub AllPass : (ℕ → Bool) → List ℕ → Type 0
 AllPass p [] = Unit {0}
 AllPass p (b ∷ bs) = (p b ≡ true) × AllPass p bs
@@ -98,6 +99,6 @@ DoesBegin p (b ∷ bs) = p b ≡ true
 abbrev pub is_space : ℕ → Bool
 is_space b = is_blank b || b == newline
 
--- what goes on with a character of several bytes
+-- a byte of a character of several bytes, after its first
 abbrev pub is_continuation : ℕ → Bool
 is_continuation b = nat_le 128 b && nat_lt b 192

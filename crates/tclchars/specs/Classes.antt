@@ -1,4 +1,4 @@
--- The classes of bytes that runs are made of.
+-- The classes of bytes that runs are made of (Tcl(n), rules 1 to 9), by the code's names for them.
 use Rattle.std.specs.Prelude.{ℕ, [], ◌∷◌, Bool, false, not, ◌||◌, ◌&&◌, ◌==◌, nat_le}
 use Rattle.tclchars.specs.Bytes.{quote, dollar, right_parenthesis, left_bracket, right_bracket, right_brace, is_blank, is_gap, is_plain, is_space, backslash}
 use Rattle.tclchars.specs.Runs.{Text}
@@ -14,6 +14,7 @@ is_name b = (nat_le 48 b && nat_le b 57) || (nat_le 65 b && nat_le b 90) || (nat
 abbrev pub is_substitution : ℕ → Bool
 is_substitution b = b == dollar || b == left_bracket || b == backslash
 
+-- which bytes a class has
 abbrev pub in_class : Class → ℕ → Bool
 in_class Blank b = is_blank b
 in_class Gap b = is_gap b

@@ -1,4 +1,4 @@
--- What is wrong with a text, by number, and the limits of a text that is parsed.
+-- The faults of texts by number and message, and the limits of a text that is parsed (own).
 use Rattle.std.specs.Prelude.{ℕ, codes}
 use Rattle.message.specs.Messages.{Text, at_byte}
 use Rattle.tclchars.specs.declared.fault.TextFault.{TextFault}
@@ -24,7 +24,7 @@ fault_number (BadCharacter at) = 7
 fault_number (BadExpression at) = 8
 fault_number TooLong = 9
 
--- what a fault says, with its place in bytes
+-- the message of a fault, with its byte offset
 abbrev pub fault_message : TextFault → Text
 fault_message OutOfMemory = codes "Out of memory"
 fault_message (OpenBrace at) = at_byte (codes "Missing close-brace at byte ") at

@@ -1,4 +1,5 @@
--- Readers: what they give of a text, and the fault that stops them. A fault has the number of bytes from its mark on.
+-- Readers (own): what a reader finds at the beginning of a text, with the rest, or the fault that stops it. A fault has
+-- the number of bytes that remain from its mark on.
 use Rattle.std.specs.Prelude.{◌≡◌, ℕ, zero, suc, ◌-◌, List, [], ◌∷◌, Bool, true, false, Option, Some, None, IfSome, Result, Ok, Err}
 use Rattle.tclchars.specs.Runs.{Text}
 use Rattle.tclchars.specs.declared.fault.Fault.{Fault}
@@ -8,6 +9,7 @@ use Rattle.tclchars.specs.declared.fault.ReadError.TheVariants as errors
 use Rattle.tclchars.specs.declared.fault.TextFault.{TextFault}
 use Rattle.tclchars.specs.declared.fault.TextFault.TheVariants as faults
 
+-- one reader after another: the first fault ends them
 infixl 10 ◌>>=◌
 abbrev pub ◌>>=◌ : {A B : Type 0} → Result A Fault → (A → Result B Fault) → Result B Fault
 (Ok x) >>= f = f x
@@ -18,31 +20,32 @@ abbrev pub stopped_by : ReadError → Option Fault
 stopped_by errors.Memory = None
 stopped_by (errors.Fault f) = Some f
 
--- a reading has the fault that stopped the reader, unless memory ran out
+-- the reading has the fault that stopped the reader, unless memory ran out
 abbrev pub Fails : {Y : Type 0} → ReadError → Result Y Fault → Type 0
 Fails e read = IfSome (stopped_by e) (λ f. read ≡ Err f)
 
--- a value and what follows it
+-- a value and the rest of the text, or a fault
 abbrev pub Read : Type 0 → Type 0
 Read A = Result (A × Text) Fault
 
--- what was read, seen otherwise
+-- the same reading, with its value seen by f
 abbrev pub read_map : {A B : Type 0} → (A → B) → Read A → Read B
 read_map f found = found >>= (λ x. Ok (f x.0, x.1))
 
--- items, where skip passes what stands before each, and ends says that none follows.
--- The number bounds the turns: one more than the length is enough
+-- One turn of reading items: the end, or one item and then more.
 abbrev pub items_step : {X : Type 0} → (Text → Read X) → (Text → Read (List X)) → Text → Bool → Read (List X)
 items_step one more bs true = Ok ([], bs)
 items_step one more bs false = do
   x ← one bs
   read_map (λ xs. x.0 ∷ xs) (more x.1)
 
+-- Items: skip gives the text without what separates them, and ends says that no item follows. The number bounds the
+-- turns: one more than the length is enough.
 abbrev pub items_at : {X : Type 0} → (Text → Text) → (Text → Bool) → (Text → Read X) → ℕ → Text → Read (List X)
 items_at skip ends one zero bs = Err marks.TooDeep
 items_at skip ends one (suc n) bs = items_step one (items_at skip ends one n) (skip bs) (ends (skip bs))
 
--- how many bytes there are from the mark on
+-- how many bytes remain from the mark on
 abbrev pub left_of : Fault → ℕ
 left_of (marks.OpenBrace left) = left
 left_of (marks.OpenQuote left) = left
@@ -52,12 +55,12 @@ left_of marks.TooDeep = 0
 left_of (marks.BadCharacter left) = left
 left_of (marks.BadExpression left) = left
 
--- the fault of a text of that length, with the place of its mark from the front
-abbrev pub placed : ℕ → Fault → TextFault
-placed len (marks.OpenBrace left) = faults.OpenBrace (len - left)
-placed len (marks.OpenQuote left) = faults.OpenQuote (len - left)
-placed len (marks.OpenBracket left) = faults.OpenBracket (len - left)
-placed len (marks.JoinedToClose left) = faults.JoinedToClose (len - left)
-placed len marks.TooDeep = faults.TooDeep
-placed len (marks.BadCharacter left) = faults.BadCharacter (len - left)
-placed len (marks.BadExpression left) = faults.BadExpression (len - left)
+-- the fault of a text of that length, with the offset of its mark
+abbrev pub with_offset : ℕ → Fault → TextFault
+with_offset len (marks.OpenBrace left) = faults.OpenBrace (len - left)
+with_offset len (marks.OpenQuote left) = faults.OpenQuote (len - left)
+with_offset len (marks.OpenBracket left) = faults.OpenBracket (len - left)
+with_offset len (marks.JoinedToClose left) = faults.JoinedToClose (len - left)
+with_offset len marks.TooDeep = faults.TooDeep
+with_offset len (marks.BadCharacter left) = faults.BadCharacter (len - left)
+with_offset len (marks.BadExpression left) = faults.BadExpression (len - left)

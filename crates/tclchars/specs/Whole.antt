@@ -1,22 +1,24 @@
--- What a parser answers of a whole text within the limit of length: what is read of it, or its first fault with the
--- place.
+-- What a parser answers of a whole text (own): within the limit of length what is read of it, or its first fault with
+-- the offset.
 use Rattle.std.specs.Prelude.{◌≡◌, ◌≤◌, ◌<◌, ◌+◌, ℕ, length, nat_lt, if◌then◌else◌, Result, Ok, Err}
 use Rattle.tclchars.specs.Runs.{Text}
 use Rattle.tclchars.specs.Faults.{max_bytes}
-use Rattle.tclchars.specs.Reading.{placed}
+use Rattle.tclchars.specs.Reading.{with_offset}
 use Rattle.tclchars.specs.declared.fault.Fault.{Fault}
 use Rattle.tclchars.specs.declared.fault.Fault.TheVariants.{OpenBrace, OpenQuote, OpenBracket, JoinedToClose, TooDeep, BadCharacter, BadExpression}
 use Rattle.tclchars.specs.declared.fault.TextFault.{TextFault}
 use Rattle.tclchars.specs.declared.fault.TextFault.TheVariants as faults
 
--- Is bs f says that f is the first fault of the text, with the number of bytes from its mark on.
+-- In these definitions `Is bs f` means that f is the first fault of the text bs, with the number of bytes that remain
+-- from its mark on.
 
--- the first fault of a text within the limit, whose mark stands at that place from the front
+-- the first fault of a text within the limit, whose mark has that offset
 abbrev pub IsFaultAt : (Text → Fault → Type 0) → Text → ℕ → (ℕ → Fault) → Type 0
-IsFaultAt Is bs at mark = (length bs ≤ max_bytes) × (left : ℕ) × (at + left ≡ length bs) × Is bs (mark left)
+IsFaultAt Is bs at mark =
+    (length bs ≤ max_bytes) × (left : ℕ) × (at + left ≡ length bs) × Is bs (mark left)
 
--- What is wrong with a text, by the limit and the first fault: one past the limit is too long, whatever else is wrong.
--- Want of memory says nothing of the text.
+-- What is wrong with a text: one past the limit is too long, whatever else is wrong; else it is its first fault. Want
+-- of memory says nothing of the text.
 abbrev pub IsFaultOf : (Text → Fault → Type 0) → Text → TextFault → Type 0
 IsFaultOf Is bs faults.OutOfMemory = Unit {0}
 IsFaultOf Is bs (faults.OpenBrace at) = IsFaultAt Is bs at (λ left. OpenBrace left)
@@ -28,16 +30,16 @@ IsFaultOf Is bs (faults.BadCharacter at) = IsFaultAt Is bs at (λ left. BadChara
 IsFaultOf Is bs (faults.BadExpression at) = IsFaultAt Is bs at (λ left. BadExpression left)
 IsFaultOf Is bs faults.TooLong = max_bytes < length bs
 
--- what was read of a text, with the place of the fault
+-- what was read of a text, or the fault with its offset
 abbrev pub at_place : {A : Type 0} → Text → Result A Fault → Result A TextFault
 at_place bs (Ok x) = Ok x
-at_place bs (Err fault) = Err (placed (length bs) fault)
+at_place bs (Err fault) = Err (with_offset (length bs) fault)
 
 -- what is read of a text within the limit
 abbrev pub whole_of : {A : Type 0} → (Text → Result A Fault) → Text → Result A TextFault
 whole_of read bs = if nat_lt max_bytes (length bs) then Err faults.TooLong else at_place bs (read bs)
 
--- what a function returned, seen by view, is the result, unless memory ran out
+-- a call's fault is that of the reading, unless memory ran out
 abbrev pub FailsWith : {Y : Type 0} → TextFault → Result Y TextFault → Type 0
 FailsWith faults.OutOfMemory read = Unit {0}
 FailsWith (faults.OpenBrace at) read = read ≡ Err (faults.OpenBrace at)
@@ -49,6 +51,7 @@ FailsWith (faults.BadCharacter at) read = read ≡ Err (faults.BadCharacter at)
 FailsWith (faults.BadExpression at) read = read ≡ Err (faults.BadExpression at)
 FailsWith faults.TooLong read = read ≡ Err faults.TooLong
 
+-- what a call answered, seen by view, is the reading, unless memory ran out
 abbrev pub Reads : {X Y : Type 0} → (X → Y) → Result X TextFault → Result Y TextFault → Type 0
 Reads view (Ok x) read = read ≡ Ok (view x)
 Reads view (Err fault) read = FailsWith fault read

@@ -1,13 +1,15 @@
-//! What a backslash and the characters behind it stand for (Tcl(n), rule 9).
+//! What a backslash and the characters after it stand for (Tcl(n), rule 9).
 ghost use Rattle.std.specs.Prelude.{true, ◌≡◌, ◌<◌, ◌≤◌, ◌^◌, ◌-◌, encode_utf8, option_map};
 ghost use Rattle.std.specs.Char.{digit_value};
 ghost use Rattle.tclchars.specs.Backslash.{after_backslash, letter_value, is_octal, begins_wide, digit_at, octal_at, hexadecimal_at, character, code_at, wide_code_at, begins_hexadecimal};
 
 use crate::runs::{Class, split_front};
 
-/// The character that a backslash and what stands behind it stand for (Tcl(n), rule 9), and what follows, of a text
-/// behind a backslash. None at the text's end, at a code of half a pair of UTF-16, and at `U` before a hexadecimal
-/// digit. Takes no memory.
+/// The character that a backslash stands for (Tcl(n), rule 9), and the rest of the text; `text` is what follows the
+/// backslash. Takes no memory.
+///
+/// None where a backslash stands for no character: at the end of the text, before a code from D800 to DFFF (half of a
+/// pair of UTF-16), and before `U` and a hexadecimal digit.
 pub fn read_backslash(text: &str) -> Option<(char, &str)>
     ensures { option_map (λ p. (encode_utf8 p.0, p.1.now)) result ≡ after_backslash text.now }
 {
@@ -38,7 +40,7 @@ pub fn read_backslash(text: &str) -> Option<(char, &str)>
     Some((letter(b), rest))
 }
 
-// A character of several bytes stands for itself.
+/// A character of several bytes, which stands for itself, and the rest.
 fn wide_character(text: &str) -> Option<(char, &str)>
     requires { begins_wide text.now ≡ true }
     ensures { option_map (λ p. (encode_utf8 p.0, p.1.now)) result ≡ after_backslash text.now }
@@ -47,13 +49,15 @@ fn wide_character(text: &str) -> Option<(char, &str)>
     Some((chars.next()?, chars.as_str()))
 }
 
+/// Whether the byte is an octal digit.
 fn is_octal(b: u8) -> bool
     ensures { result ≡ is_octal b }
 {
     matches!(b, b'0'..=b'7')
 }
 
-// What a letter stands for.
+/// The character that an ASCII character after a backslash stands for: a control character for one of `abfnrtv`, else
+/// itself.
 fn letter(b: u8) -> char
     requires { b < 128 }
     ensures { result ≡ letter_value b }
@@ -70,7 +74,7 @@ fn letter(b: u8) -> char
     }
 }
 
-// The value of a first digit of that base, and what follows it.
+/// The value of the digit of that base that the text begins with, and the rest.
 fn digit(text: &str, base: u32) -> Option<(u32, &str)>
     requires low { 2 ≤ base }
     requires high { base ≤ 16 }
@@ -82,7 +86,7 @@ fn digit(text: &str, base: u32) -> Option<(u32, &str)>
     }
 }
 
-// The value of a digit of bases up to 36, or 36.
+/// The value of a digit of bases up to 36; 36 for any other byte.
 fn digit_value(b: u8) -> u32
     ensures { result ≡ digit_value b }
 {
@@ -94,7 +98,8 @@ fn digit_value(b: u8) -> u32
     }
 }
 
-// The number that goes on with so many octal digits at most, while it stays below 256.
+/// The number whose first digits gave `value`, with `digits` more octal digits at most, while it stays below 256; and
+/// the rest.
 fn octal(text: &str, digits: u32, value: u32) -> (u32, &str)
     requires { value < 256 }
     ensures number { (result.0, result.1.now) ≡ octal_at digits value text.now }
@@ -109,7 +114,7 @@ fn octal(text: &str, digits: u32, value: u32) -> (u32, &str)
     }
 }
 
-// The number that goes on with so many hexadecimal digits at most.
+/// The number whose first digits gave `value`, with `digits` more hexadecimal digits at most; and the rest.
 fn hexadecimal(text: &str, digits: u32, value: u32) -> (u32, &str)
     requires few { digits ≤ 4 }
     requires within { value < 16 ^ (4 - digits) }
@@ -125,7 +130,7 @@ fn hexadecimal(text: &str, digits: u32, value: u32) -> (u32, &str)
     }
 }
 
-// The character of a code, but for half of a pair of UTF-16.
+/// The character with that code, before the rest; none for half of a pair of UTF-16.
 fn character(value: u32, rest: &str) -> Option<(char, &str)>
     requires { value < 16 ^ 4 }
     ensures { option_map (λ p. (encode_utf8 p.0, p.1.now)) result ≡ character (value, rest.now) }
@@ -133,7 +138,8 @@ fn character(value: u32, rest: &str) -> Option<(char, &str)>
     Some((char::from_u32(value)?, rest))
 }
 
-// A letter that begins a code of so many hexadecimal digits; without digits it is itself.
+/// The character of `digits` hexadecimal digits at most, after the letter `x` or `u`; without digits the letter stands
+/// for itself.
 fn code(text: &str, digits: u32, letter: char) -> Option<(char, &str)>
     requires few { digits ≤ 4 }
     requires ascii { letter < 128 }
@@ -146,7 +152,7 @@ fn code(text: &str, digits: u32, letter: char) -> Option<(char, &str)>
     character(value, rest)
 }
 
-// `U` stands for nothing before a hexadecimal digit, else for itself.
+/// `U`, which stands for itself; before a hexadecimal digit it is unsupported, and stands for nothing.
 fn wide_code(text: &str) -> Option<(char, &str)>
     ensures { option_map (λ p. (encode_utf8 p.0, p.1.now)) result ≡ wide_code_at text.now }
 {

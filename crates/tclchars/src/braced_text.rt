@@ -1,12 +1,12 @@
-//! The text that braces enclose (Tcl(n), rule 6).
+//! The value of a text in braces (Tcl(n), rules 6 and 9).
 ghost use Rattle.std.specs.Prelude.{◌≡◌, ◌≤◌, ◌++◌, length, IfOk, OnOk, string_bytes};
 ghost use Rattle.tclchars.specs.BracedText.{braced_text, behind_backslash};
 
 use crate::runs::{Class, after_mark, split_front};
 use std::alloc::AllocError;
 
-/// Adds to `value` what the text between the braces of a word stands for: itself, but that a backslash before a newline
-/// and the blanks and tabs behind them are one space (Tcl(n), rules 6 and 9).
+/// Adds the value of a text in braces, given without them: the text itself, but that a backslash before a newline
+/// becomes, with the blanks and tabs after them, one space (Tcl(n), rules 6 and 9).
 pub fn push_braced_text(value: &mut String, inside: &str) -> Result<(), AllocError>
     ensures { OnOk result (string_bytes value.new ≡ string_bytes value.old ++ braced_text inside.now) }
 {
@@ -21,7 +21,8 @@ pub fn push_braced_text(value: &mut String, inside: &str) -> Result<(), AllocErr
     Ok(())
 }
 
-// Adds what a backslash and what it escapes stand for, and gives what follows.
+/// Adds the value of a backslash and the character that it escapes, and answers the rest; `after` is what follows the
+/// backslash.
 fn push_escape<'a>(value: &mut String, after: &'a str) -> Result<&'a str, AllocError>
     ensures shorter { IfOk result (λ rest. length rest.now ≤ length after.now) }
     ensures text { IfOk result

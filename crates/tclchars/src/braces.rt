@@ -2,7 +2,8 @@
 ghost use Rattle.std.specs.Prelude.{◌≡◌, ◌<◌, false, option_map};
 ghost use Rattle.tclchars.specs.Braces.{brace_step, braced_at};
 
-// What one byte inside braces does: whether the next is escaped, and how many braces are open inside. None: it closes.
+/// What one byte inside braces does: whether the next byte is escaped, and how many braces are then open inside. None
+/// where the byte closes the outer brace.
 fn brace_step(escaped: bool, depth: usize, b: u8) -> Option<(bool, usize)>
     requires { depth < usize.MAX }
     ensures { result ≡ brace_step escaped depth b }
@@ -24,7 +25,8 @@ fn brace_step(escaped: bool, depth: usize, b: u8) -> Option<(bool, usize)>
     }
 }
 
-/// What stands before the brace that closes, and what follows it, of a text behind an opening brace. Takes no memory.
+/// The text before the brace that closes, and the text after it, of a text that follows an opening brace. None where no
+/// brace closes it. Takes no memory.
 pub fn split_close(text: &str) -> Option<(&str, &str)>
     ensures { option_map (λ p. (p.0.now, p.1.now)) result ≡ braced_at false 0 text.now }
 {

@@ -1,8 +1,8 @@
-//! What can be wrong with a text, and where.
+//! The faults of texts, with their byte offsets.
 ghost use Rattle.std.specs.Prelude.{◌≡◌, ◌≤◌, Some};
 ghost use Rattle.message.specs.Messages.{text_of};
 ghost use Rattle.tclchars.specs.Faults.{fault_message, fault_number};
-ghost use Rattle.tclchars.specs.Reading.{left_of, placed};
+ghost use Rattle.tclchars.specs.Reading.{left_of, with_offset};
 ghost use Rattle.tclchars.specs.declared.fault.ReadError.TheVariants.{Memory};
 
 use message::Message;
@@ -11,24 +11,24 @@ use std::error::Error;
 use std::fmt;
 use std::fmt::Display;
 
-/// What is wrong with a text. A place is in bytes, from 0.
+/// What is wrong with a text. A byte offset counts from 0, at the text's first byte.
 #[derive(Debug, Drop)]
 pub enum TextFault {
-    /// Memory ran out.
+    /// Memory ran out; this says nothing about the text.
     OutOfMemory,
-    /// No brace closes the one at this place.
+    /// No brace closes the one at this offset.
     OpenBrace(usize),
-    /// No quote closes the one at this place.
+    /// No quote closes the one at this offset.
     OpenQuote(usize),
-    /// No bracket closes the one at this place.
+    /// No bracket closes the one at this offset.
     OpenBracket(usize),
-    /// The character at this place follows a closing quote or brace directly.
+    /// The character at this offset follows a closing quote or brace directly.
     JoinedToClose(usize),
     /// Substitutions, parentheses and operators nest past the limit.
     TooDeep,
-    /// The character at this place can't stand there.
+    /// The character at this offset is not allowed there.
     BadCharacter(usize),
-    /// The expression is wrong at this place.
+    /// The expression is wrong at this offset.
     BadExpression(usize),
     /// The text has more than 1,048,576 bytes.
     TooLong,
@@ -52,7 +52,7 @@ impl TextFault {
         }
     }
 
-    /// What the fault says.
+    /// The text of the fault.
     pub fn message(&self) -> Message<'static>
         ensures { text_of result ≡ fault_message self.now }
     {
@@ -82,7 +82,8 @@ impl fmt::Display for TextFault {
 
 impl Error for TextFault {}
 
-/// What stops a reader, with the number of bytes from the mark on to the text's end.
+/// What stops a reader. Each number is how many bytes remain from the mark that the fault is about to the end of the
+/// text.
 #[derive(Clone, Copy, Debug, PartialEq, Eq)]
 pub enum Fault {
     /// No brace closes this one.
@@ -95,7 +96,7 @@ pub enum Fault {
     JoinedToClose(usize),
     /// Substitutions, parentheses and operators nest past the limit.
     TooDeep,
-    /// This character can't stand here.
+    /// This character is not allowed here.
     BadCharacter(usize),
     /// The expression is wrong here.
     BadExpression(usize),
@@ -126,10 +127,10 @@ impl<T: Drop> From<AllocFailed<T>> for ReadError {
     }
 }
 
-/// The fault of a text of `len` bytes, with its place from the front.
-pub fn place(fault: Fault, len: usize) -> TextFault
+/// The fault in a text of `len` bytes, with its offset from the beginning of the text.
+pub fn with_offset(fault: Fault, len: usize) -> TextFault
     requires { left_of fault ≤ len }
-    ensures { result ≡ placed len fault }
+    ensures { result ≡ with_offset len fault }
 {
     match fault {
         Fault::OpenBrace(left) => TextFault::OpenBrace(len - left),

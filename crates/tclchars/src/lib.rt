@@ -1,5 +1,7 @@
-//! The characters of Tcl texts: which bytes mean something, what backslashes stand for, which braces match, and what
-//! can be wrong with a text.
+//! The characters of Tcl's texts: classes of bytes, what a backslash stands for, which braces match, and the faults of
+//! texts.
+//! Touches nothing but a text that grows; takes memory for that alone.
+//! Used by all crates that read or write texts of Tcl.
 #![tactic(auto)]
 
 mod backslash;
@@ -13,7 +15,7 @@ mod runs;
 pub use backslash::read_backslash;
 pub use braced_text::push_braced_text;
 pub use braces::split_close;
-pub use fault::{Fault, ReadError, TextFault, place};
+pub use fault::{Fault, ReadError, TextFault, with_offset};
 pub use laws::closing_brace;
 pub use limits::{MAX_BYTES, MAX_NESTING};
 pub use runs::{Class, after_mark, begins_class, split_front};

@@ -1,4 +1,4 @@
-//! How long a text may be, and how deep it may nest.
+//! The limits of a text that is parsed: its length, and how deep it nests.
 
 /// The longest text that is parsed, in bytes.
 pub const MAX_BYTES: usize = 1_048_576;

@@ -1,76 +1,83 @@
-//! Runs of characters of one class (Tcl(n), rules 1 to 9).
+//! Classes of bytes, and the runs of one class that a text begins with (Tcl(n), rules 1 to 9).
 ghost use Rattle.std.specs.Prelude.{◌≡◌, ◌<◌, ◌∷◌, false, MatchOption};
 ghost use Rattle.tclchars.specs.Bytes.{is_blank, is_end, is_gap, is_special, is_plain, is_space};
-ghost use Rattle.tclchars.specs.Runs.{front, back, begins};
+ghost use Rattle.tclchars.specs.Runs.{take_while, drop_while, begins};
 ghost use Rattle.tclchars.specs.Classes.{in_class, begins_in, is_name, is_substitution};
 
-/// Which bytes a run is made of. Each class holds all bytes of a character of several bytes, or none.
+/// A class of bytes. It has all bytes of a character of several bytes, or none of them.
 #[derive(Clone, Copy, Debug, PartialEq, Eq)]
 pub enum Class {
-    /// What parts the words of a command: white space but newline.
+    /// What separates the words of a command: white space without the newline.
     Blank,
-    /// What may stand between commands: white space and semicolons.
+    /// What may be between commands: white space and semicolons.
     Gap,
     /// White space.
     Space,
-    /// What a backslash and a newline take along.
+    /// Blanks and tabs: what a backslash before a newline takes with it.
     BlankOrTab,
-    /// What means nothing anywhere: no white space, `;`, quote, brace, bracket, `$` or backslash.
+    /// What has no meaning of its own anywhere: no white space, `;`, quote, brace, bracket, `$` or backslash.
     Plain,
-    /// What stands for itself in a bare word of a script.
+    /// What is literal in a word without quotes and braces, in a script outside of brackets.
     BareScript,
-    /// What stands for itself in a bare word of a script in brackets.
+    /// What is literal in a word without quotes and braces, in a script in brackets.
     BareBracket,
-    /// What stands for itself in the index of a variable.
+    /// What is literal in the index of an array element.
     BareIndex,
-    /// What stands for itself in quotes.
+    /// What is literal in quotes.
     BareQuote,
-    /// What stands for itself in a bare element of a list.
+    /// What is literal in an element of a list without quotes and braces.
     BareElement,
     /// Letters, digits and the underscore.
     Name,
-    /// What stands in a name in braces.
+    /// What a name in braces may hold.
     InName,
     /// What is no backslash.
     Unescaped,
 }
 
+/// Whether the byte separates words.
 fn is_blank(b: u8) -> bool
     ensures { result ≡ is_blank b }
 {
     b == b' ' || b == b'\t' || b == 11 || b == 12 || b == b'\r'
 }
 
+/// Whether the byte may be between commands.
 fn is_gap(b: u8) -> bool
     ensures { result ≡ is_gap b }
 {
     is_blank(b) || b == b'\n' || b == b';'
 }
 
+/// Whether the byte is white space.
 fn is_space(b: u8) -> bool
     ensures { result ≡ is_space b }
 {
     is_blank(b) || b == b'\n'
 }
 
+/// Whether the byte has a meaning of its own somewhere in a script.
 fn is_special(b: u8) -> bool
     ensures { result ≡ is_special b }
 {
     b == b'"' || b == b'$' || b == b'[' || b == b']' || b == b'{' || b == b'}' || b == b'\\'
 }
 
+/// Whether the byte begins a substitution.
 fn is_substitution(b: u8) -> bool
     ensures { result ≡ is_substitution b }
 {
     b == b'$' || b == b'[' || b == b'\\'
 }
 
+/// Whether names of variables are made of the byte.
 fn is_name(b: u8) -> bool
     ensures { result ≡ is_name b }
 {
     b.is_ascii_alphanumeric() || b == b'_'
 }
 
+/// Whether the byte is of that class.
 fn in_class(class: Class, b: u8) -> bool
     ensures { result ≡ in_class class b }
 {
@@ -101,10 +108,10 @@ pub fn begins_class(text: &str, class: Class) -> bool
     }
 }
 
-/// The run of bytes of that class at the front, and what follows it.
+/// The longest run of bytes of that class that the text begins with, and the rest.
 pub fn split_front(text: &str, class: Class) -> (&str, &str)
-    ensures run { result.0.now ≡ front (in_class class) text.now }
-    ensures rest { result.1.now ≡ back (in_class class) text.now }
+    ensures run { result.0.now ≡ take_while (in_class class) text.now }
+    ensures rest { result.1.now ≡ drop_while (in_class class) text.now }
 {
     let bytes = text.as_bytes();
     let mut n = 0;
@@ -114,7 +121,7 @@ pub fn split_front(text: &str, class: Class) -> (&str, &str)
     text.split_at(n)
 }
 
-/// What follows the first byte, which is ASCII, where it is this one.
+/// The rest of the text after the mark, an ASCII byte, where the text begins with it.
 pub fn after_mark(text: &str, mark: u8) -> Option<&str>
     requires { mark < 128 }
     ensures { MatchOption result (begins mark text.now ≡ false) (λ rest. text.now ≡ mark ∷ rest.now) }

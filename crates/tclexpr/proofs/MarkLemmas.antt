@@ -1,10 +1,10 @@
 -- Steps over white space, digits and marks.
 use Rattle.std.proofs.Common.{◌≡◌, ◌<◌, ℕ, [], ◌∷◌, length, drop, get_or, Bool, true, false, ◌||◌, ◌&&◌, ◌==◌, Some, None, refl, ap, arith}
 use Rattle.std.proofs.lemmas.Bool.Decides.{nat_tests}
-use Rattle.tclchars.specs.Runs.{Text, front, back, begins}
+use Rattle.tclchars.specs.Runs.{Text, take_while, drop_while, begins}
 use Rattle.tclchars.specs.Bytes.{is_space, newline, backslash}
 use Rattle.tclchars.specs.Classes.{is_name}
-use Rattle.tclchars.proofs.RunLemmas.{back-nil, back-cons_true, back-cons_false}
+use Rattle.tclchars.proofs.RunLemmas.{drop_while-nil, drop_while-cons_true, drop_while-cons_false}
 use Rattle.tclexpr.specs.declared.operators.Mark.{Mark}
 use Rattle.tclexpr.specs.declared.numbers.Digits.{Digits}
 use Rattle.tclexpr.specs.declared.numbers.Digits.TheVariants as digits
@@ -52,18 +52,18 @@ digit_ascii k (b ∷ bs) h = digit_byte k b h
 pub digits_more : (k : Digits) (bs : Text) → begins_digit k bs ≡ true → after_digits k bs ≡ after_digits k (drop 1 bs)
 unfolding after_digits
 digits_more k [] h = cc
-digits_more k (b ∷ bs) h = back-cons_true (is_digit k) b bs h
+digits_more k (b ∷ bs) h = drop_while-cons_true (is_digit k) b bs h
 
 pub digits_end : (k : Digits) (bs : Text) → begins_digit k bs ≡ false → after_digits k bs ≡ bs
 unfolding after_digits
-digits_end k [] h = back-nil (is_digit k)
-digits_end k (b ∷ bs) h = back-cons_false (is_digit k) b bs h
+digits_end k [] h = drop_while-nil (is_digit k)
+digits_end k (b ∷ bs) h = drop_while-cons_false (is_digit k) b bs h
 
 -- Marks
-pub mark_word : (bs : Text) (m : Mark) → word_mark (front is_name bs) ≡ Some m → mark_at bs ≡ Some (m, back is_name bs)
+pub mark_word : (bs : Text) (m : Mark) → word_mark (take_while is_name bs) ≡ Some m → mark_at bs ≡ Some (m, drop_while is_name bs)
 unfolding mark_at
-mark_word bs m h = ap (λ s. longest (before (back is_name bs) s) (symbol_at bs)) h
+mark_word bs m h = ap (λ s. longest (before (drop_while is_name bs) s) (symbol_at bs)) h
 
-pub mark_symbol : (bs : Text) → word_mark (front is_name bs) ≡ None → mark_at bs ≡ symbol_at bs
+pub mark_symbol : (bs : Text) → word_mark (take_while is_name bs) ≡ None → mark_at bs ≡ symbol_at bs
 unfolding mark_at
-mark_symbol bs h = ap (λ s. longest (before (back is_name bs) s) (symbol_at bs)) h
+mark_symbol bs h = ap (λ s. longest (before (drop_while is_name bs) s) (symbol_at bs)) h

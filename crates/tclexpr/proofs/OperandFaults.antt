@@ -1,7 +1,7 @@
 -- Where no operand begins, the fault that is met is the one that is there; and an operand that is there is read.
 use Rattle.std.proofs.Common.{◌≡◌, ℕ, zero, suc, ◌≤◌, [], ◌∷◌, ◌++◌, length, take, Bool, true, false, cond, not, ◌||◌, ◌&&◌, ◌==◌, Option, Some, None, Result, Ok, Err, refl, sym, ap, ap₂, subst, ◌∙◌, arith, append_assoc, inl, inr}
 use Rattle.std.proofs.lemmas.Bool.Decides.{nat_tests}
-use Rattle.tclchars.specs.Runs.{Text, front, back, begins}
+use Rattle.tclchars.specs.Runs.{Text, take_while, drop_while, begins}
 use Rattle.tclchars.specs.Bytes.{AllPass, MayBegin, DoesBegin}
 use Rattle.tclchars.specs.Classes.{is_name, in_class}
 use Rattle.tclchars.specs.Braces.{braced_at}
@@ -164,7 +164,7 @@ word_opens (b ∷ t) rest h = name_byte b h
 
 word_there : (bs t rest : Text) → bs ≡ t ++ rest → IsTruthWord t rest → word_at bs ≡ Ok ((word t, 0), rest)
 word_there bs t rest e h =
-    word-read bs t rest t (sym (ap (front is_name) e ∙ front_run is_name t rest h.0 h.1)) (sym (ap (back is_name) e ∙ back_run is_name t rest h.0 h.1)) h.2 h.3 refl
+    word-read bs t rest t (sym (ap (take_while is_name) e ∙ front_run is_name t rest h.0 h.1)) (sym (ap (drop_while is_name) e ∙ back_run is_name t rest h.0 h.1)) h.2 h.3 refl
 
 word_again : (d : ℕ) (bs rest t : Text) (k : ℕ) → IsOperand bs rest (word t) k → operand_at d bs ≡ Ok ((word t, k), rest)
 word_again d bs rest t k h =
@@ -292,9 +292,9 @@ brace_faulty d xs f (Some p) is h = absurd (ok_err ((braced p.0, 0), p.1) f h)
 
 word_fault : (bs : Text) (f : Fault) → word_at bs ≡ Err f → BadExpression (length bs) ≡ f
 unfolding word_at
-word_fault bs f h = go (is_truth (front is_name bs) && not (begins 40 (back is_name bs))) h where
-  go : (t : Bool) → cond t (let ok : Read (Operand × ℕ) = Ok ((word (front is_name bs), 0), back is_name bs) in ok) (Err (BadExpression (length bs))) ≡ Err f → BadExpression (length bs) ≡ f
-  go true h = absurd (ok_err ((word (front is_name bs), 0), back is_name bs) f h)
+word_fault bs f h = go (is_truth (take_while is_name bs) && not (begins 40 (drop_while is_name bs))) h where
+  go : (t : Bool) → cond t (let ok : Read (Operand × ℕ) = Ok ((word (take_while is_name bs), 0), drop_while is_name bs) in ok) (Err (BadExpression (length bs))) ≡ Err f → BadExpression (length bs) ≡ f
+  go true h = absurd (ok_err ((word (take_while is_name bs), 0), drop_while is_name bs) f h)
   go false h = err_one {A = (Operand × ℕ) × Text} (BadExpression (length bs)) f h
 
 numeric_faulty : (d : ℕ) (bs : Text) (f : Fault) → MayBegin (λ b. not (is_opening b)) bs → (found : Option Text) → after_number bs ≡ found → numeric bs found ≡ Err f → OperandFault d bs f
@@ -343,18 +343,18 @@ none_found bs None is h = is
 none_found bs (Some p) is h = let so = close_sound bs false zero p.0 p.1 is in absurd (h p.0 p.1 so.0 so.1)
 
 no_word_there : (bs : Text) → ((t rest : Text) → bs ≡ t ++ rest → IsTruthWord t rest → ⊥) → word_at bs ≡ Err (BadExpression (length bs))
-no_word_there bs none = go (is_truth (front is_name bs)) refl (begins 40 (back is_name bs)) refl where
-  run : (bs ≡ front is_name bs ++ back is_name bs) × AllPass is_name (front is_name bs) × MayBegin (λ b. not (is_name b)) (back is_name bs)
+no_word_there bs none = go (is_truth (take_while is_name bs)) refl (begins 40 (drop_while is_name bs)) refl where
+  run : (bs ≡ take_while is_name bs ++ drop_while is_name bs) × AllPass is_name (take_while is_name bs) × MayBegin (λ b. not (is_name b)) (drop_while is_name bs)
   run = run_taken is_name bs
 
   called : (r : Text) → begins 40 r ≡ true → (rest : Text) × (r ≡ 40 ∷ rest)
   called [] h = cc
   called (b ∷ r) h = (r, ap (λ c. c ∷ r) (is_byte b 40 h))
 
-  go : (s : Bool) → is_truth (front is_name bs) ≡ s → (t : Bool) → begins 40 (back is_name bs) ≡ t → word_at bs ≡ Err (BadExpression (length bs))
-  go false s t' t = word-false bs (front is_name bs) refl s
-  go true s true t = let k = called (back is_name bs) t in word-called bs (front is_name bs) (back is_name bs) k.0 refl refl s k.1
-  go true s false t = absurd (none (front is_name bs) (back is_name bs) run.0 (run.1, run.2, s, t))
+  go : (s : Bool) → is_truth (take_while is_name bs) ≡ s → (t : Bool) → begins 40 (drop_while is_name bs) ≡ t → word_at bs ≡ Err (BadExpression (length bs))
+  go false s t' t = word-false bs (take_while is_name bs) refl s
+  go true s true t = let k = called (drop_while is_name bs) t in word-called bs (take_while is_name bs) (drop_while is_name bs) k.0 refl refl s k.1
+  go true s false t = absurd (none (take_while is_name bs) (drop_while is_name bs) run.0 (run.1, run.2, s, t))
 
 -- A fault that is there is met.
 pub operand_met : (d : ℕ) (bs : Text) (f : Fault) → OperandFault d bs f → operand_at d bs ≡ Err f

@@ -1,6 +1,6 @@
 -- An operand that is read is one.
 use Rattle.std.proofs.Common.{◌≡◌, ℕ, zero, suc, ◌≤◌, [], ◌∷◌, ◌++◌, length, take, Bool, true, false, cond, not, ◌||◌, ◌&&◌, ◌==◌, Option, Some, None, Ok, Err, refl, sym, ap, subst, ◌∙◌, arith, append_assoc, inl, inr}
-use Rattle.tclchars.specs.Runs.{Text, front, back, begins}
+use Rattle.tclchars.specs.Runs.{Text, take_while, drop_while, begins}
 use Rattle.tclchars.specs.Classes.{is_name}
 use Rattle.tclchars.specs.Braces.{braced_at}
 use Rattle.tclchars.specs.Reading.{◌>>=◌, Read}
@@ -215,13 +215,13 @@ taken_whole bs rest e = e.1 ∙ ap (λ xs. xs ++ rest) (sym front_is) where
 
 word_found : (d : ℕ) (bs : Text) (o : Operand × ℕ) (rest : Text) → after_number bs ≡ None → word_at bs ≡ Ok (o, rest) → Found d bs o rest
 unfolding word_at
-word_found d bs o rest none h = go (is_truth (front is_name bs)) refl (begins 40 (back is_name bs)) refl h where
-  go : (s : Bool) → is_truth (front is_name bs) ≡ s → (t : Bool) → begins 40 (back is_name bs) ≡ t
-      → cond (s && not t) (let ok : Read (Operand × ℕ) = Ok ((word (front is_name bs), 0), back is_name bs) in ok) (Err (BadExpression (length bs))) ≡ Ok (o, rest) → Found d bs o rest
+word_found d bs o rest none h = go (is_truth (take_while is_name bs)) refl (begins 40 (drop_while is_name bs)) refl h where
+  go : (s : Bool) → is_truth (take_while is_name bs) ≡ s → (t : Bool) → begins 40 (drop_while is_name bs) ≡ t
+      → cond (s && not t) (let ok : Read (Operand × ℕ) = Ok ((word (take_while is_name bs), 0), drop_while is_name bs) in ok) (Err (BadExpression (length bs))) ≡ Ok (o, rest) → Found d bs o rest
   go true s false t h =
-      let two = ok_pair ((word (front is_name bs), 0), back is_name bs) (o, rest) h in
+      let two = ok_pair ((word (take_while is_name bs), 0), drop_while is_name bs) (o, rest) h in
       let run = run_taken is_name bs in
-      subst (λ o. Found d bs o rest) two.0 (subst (λ r. Found d bs (word (front is_name bs), 0) r) two.1 ((run.0, none, (run.1, run.2, s, t), refl), omega arith))
+      subst (λ o. Found d bs o rest) two.0 (subst (λ r. Found d bs (word (take_while is_name bs), 0) r) two.1 ((run.0, none, (run.1, run.2, s, t), refl), omega arith))
   go true s true t h = cc
   go false s t' t h = cc
 

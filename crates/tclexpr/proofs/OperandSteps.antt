@@ -1,7 +1,7 @@
 -- The steps of the reader of operands, as the code takes them.
 use Rattle.std.proofs.Common.{◌≡◌, ◌<◌, ◌≤◌, ◌&&◌, ℕ, suc, [], ◌∷◌, length, Bool, true, false, cond, not, Some, None, Result, Ok, Err, Vec, refl, sym, ap, ap₂, ◌∙◌, arith, rules}
 use Rattle.std.specs.declared.alloc.Global.{Global}
-use Rattle.tclchars.specs.Runs.{Text, front, back, begins}
+use Rattle.tclchars.specs.Runs.{Text, take_while, drop_while, begins}
 use Rattle.tclchars.specs.Classes.{is_name}
 use Rattle.tclchars.specs.Braces.{braced_at}
 use Rattle.tclchars.specs.Reading.{◌>>=◌, Read, read_map, Fails}
@@ -88,19 +88,19 @@ braced-open bs left is e = ap (operand_in_braces (suc (length bs))) is ∙ ap (�
 
 -- Words
 
-word_if : (bs : Text) (s t : Bool) → is_truth (front is_name bs) ≡ s → begins 40 (back is_name bs) ≡ t
-    → word_at bs ≡ cond (s && not t) (let ok : Read (Operand × ℕ) = Ok ((word (front is_name bs), 0), back is_name bs) in ok) (Err (BadExpression (length bs)))
+word_if : (bs : Text) (s t : Bool) → is_truth (take_while is_name bs) ≡ s → begins 40 (drop_while is_name bs) ≡ t
+    → word_at bs ≡ cond (s && not t) (let ok : Read (Operand × ℕ) = Ok ((word (take_while is_name bs), 0), drop_while is_name bs) in ok) (Err (BadExpression (length bs)))
 unfolding word_at
-word_if bs s t h k = ap₂ (λ (s t : Bool). cond (s && not t) (let ok : Read (Operand × ℕ) = Ok ((word (front is_name bs), 0), back is_name bs) in ok) (Err (BadExpression (length bs)))) h k
+word_if bs s t h k = ap₂ (λ (s t : Bool). cond (s && not t) (let ok : Read (Operand × ℕ) = Ok ((word (take_while is_name bs), 0), drop_while is_name bs) in ok) (Err (BadExpression (length bs)))) h k
 
-pub word-read : (bs w r cut : Text) → w ≡ front is_name bs → r ≡ back is_name bs → is_truth w ≡ true → begins 40 r ≡ false → cut ≡ w → word_at bs ≡ Ok ((word cut, 0), r)
+pub word-read : (bs w r cut : Text) → w ≡ take_while is_name bs → r ≡ drop_while is_name bs → is_truth w ≡ true → begins 40 r ≡ false → cut ≡ w → word_at bs ≡ Ok ((word cut, 0), r)
 word-read bs w r cut e f h k l =
     word_if bs true false (ap is_truth (sym e) ∙ h) (ap (begins 40) (sym f) ∙ k) ∙ ap₂ (λ (x y : Text). Ok ((word x, 0), y)) (sym (l ∙ e)) (sym f)
 
-pub word-false : (bs w : Text) → w ≡ front is_name bs → is_truth w ≡ false → word_at bs ≡ Err (BadExpression (length bs))
-word-false bs w e h = word_if bs false (begins 40 (back is_name bs)) (ap is_truth (sym e) ∙ h) refl
+pub word-false : (bs w : Text) → w ≡ take_while is_name bs → is_truth w ≡ false → word_at bs ≡ Err (BadExpression (length bs))
+word-false bs w e h = word_if bs false (begins 40 (drop_while is_name bs)) (ap is_truth (sym e) ∙ h) refl
 
-pub word-called : (bs w r rest : Text) → w ≡ front is_name bs → r ≡ back is_name bs → is_truth w ≡ true → r ≡ 40 ∷ rest → word_at bs ≡ Err (BadExpression (length bs))
+pub word-called : (bs w r rest : Text) → w ≡ take_while is_name bs → r ≡ drop_while is_name bs → is_truth w ≡ true → r ≡ 40 ∷ rest → word_at bs ≡ Err (BadExpression (length bs))
 word-called bs w r rest e f h k = word_if bs true true (ap is_truth (sym e) ∙ h) (ap (begins 40) (sym f ∙ k))
 
 -- What stands at the front

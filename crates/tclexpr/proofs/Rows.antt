@@ -2,7 +2,7 @@
 use Rattle.std.proofs.Common.{◌≡◌, ◌<◌, ◌≤◌, ℕ, suc, List, [], ◌∷◌, ◌++◌, length, Bool, true, false, cond, ◌||◌, ◌&&◌, ◌==◌, Option, Some, None, refl, sym, ap, subst, arith, length-append, ◌⊎◌, inl, inr}
 use Rattle.tclexpr.proofs.Results.{found_once}
 use Rattle.tclexpr.proofs.Runs.{front_back}
-use Rattle.tclchars.specs.Runs.{Text, front, back, begins}
+use Rattle.tclchars.specs.Runs.{Text, take_while, drop_while, begins}
 use Rattle.tclchars.specs.Bytes.{is_space, newline, backslash}
 use Rattle.tclchars.specs.Classes.{is_name}
 use Rattle.tclexpr.specs.declared.operators.Mark.{Mark}
@@ -53,13 +53,13 @@ word_some (b ∷ bs) m h = omega arith
 
 pub mark_shorter : (bs : Text) (m : Mark) (r : Text) → mark_at bs ≡ Some (m, r) → length r < length bs
 unfolding mark_at
-mark_shorter bs m r h = elim (longest_found (before (back is_name bs) (word_mark (front is_name bs))) (symbol_at bs) (m, r) h) [
+mark_shorter bs m r h = elim (longest_found (before (drop_while is_name bs) (word_mark (take_while is_name bs))) (symbol_at bs) (m, r) h) [
   | inl k ↦ (
-      let two = before_found (back is_name bs) (word_mark (front is_name bs)) m r k in
-      let some : 0 < length (front is_name bs) = word_some (front is_name bs) m two.0 in
-      let e : length r ≡ length (back is_name bs) = ap length two.1 in
-      let all : length bs ≡ length (front is_name bs ++ back is_name bs) = ap length (front_back is_name bs) in
-      omega (arith, length-append (front is_name bs) (back is_name bs))
+      let two = before_found (drop_while is_name bs) (word_mark (take_while is_name bs)) m r k in
+      let some : 0 < length (take_while is_name bs) = word_some (take_while is_name bs) m two.0 in
+      let e : length r ≡ length (drop_while is_name bs) = ap length two.1 in
+      let all : length bs ≡ length (take_while is_name bs ++ drop_while is_name bs) = ap length (front_back is_name bs) in
+      omega (arith, length-append (take_while is_name bs) (drop_while is_name bs))
       )
   | inr k ↦ symbol_shorter bs m r k
 ]

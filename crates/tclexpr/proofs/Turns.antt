@@ -1,6 +1,6 @@
 -- What readers of expressions leave, and the turns of the loop that reads a chain.
 use Rattle.std.proofs.Common.{◌≡◌, ◌<◌, ◌≤◌, ◌-◌, ℕ, zero, suc, List, [], ◌∷◌, length, Bool, true, false, cond, nat_lt, if◌then◌else◌, ◌&&◌, ◌==◌, inl, inr, Some, None, Ok, Err, refl, sym, ap, subst, ◌∙◌, arith}
-use Rattle.tclchars.specs.Runs.{Text, front, back}
+use Rattle.tclchars.specs.Runs.{Text, take_while, drop_while}
 use Rattle.tclchars.specs.Classes.{is_name}
 use Rattle.tclchars.specs.declared.fault.Fault.{Fault}
 use Rattle.tclchars.specs.declared.fault.Fault.TheVariants.{TooDeep}
@@ -50,8 +50,8 @@ symbol_end (b ∷ (c ∷ bs)) m r h = by_test (b == 42 && c == 42) h where
 
 mark_end_here : (bs : Text) (m : Mark) (r : Text) → mark_at bs ≡ Some (m, r) → IsEndOf bs r
 unfolding mark_at
-mark_end_here bs m r h = elim (longest_found (before (back is_name bs) (word_mark (front is_name bs))) (symbol_at bs) (m, r) h) [
-  | inl k ↦ subst (IsEndOf bs) (sym (before_found (back is_name bs) (word_mark (front is_name bs)) m r k).1) (back_end is_name bs)
+mark_end_here bs m r h = elim (longest_found (before (drop_while is_name bs) (word_mark (take_while is_name bs))) (symbol_at bs) (m, r) h) [
+  | inl k ↦ subst (IsEndOf bs) (sym (before_found (drop_while is_name bs) (word_mark (take_while is_name bs)) m r k).1) (back_end is_name bs)
   | inr k ↦ symbol_end bs m r k
 ]
 

@@ -1,5 +1,5 @@
--- What is wrong with a text that is no expression: the first mark or byte that can't stand there, or the text's end. By
--- cases over texts.
+-- What is wrong with a text that is no expression (own): the first mark or byte that may not come there, or the end of
+-- the text. The definitions go by cases over texts.
 use Rattle.std.specs.Prelude.{◌≡◌, ◌≢◌, ◌≤◌, ◌-◌, ℕ, suc, List, [], ◌∷◌, ◌++◌, length, Some, None, ◌⊎◌}
 use Rattle.tclchars.specs.Runs.{Text}
 use Rattle.tclchars.specs.declared.fault.Fault.{Fault}
@@ -13,40 +13,43 @@ use Rattle.tclexpr.specs.Grammar.{level, sign_of, IsExpr, IsChain}
 use Rattle.tclexpr.specs.Marks.{after_white, mark_at}
 use Rattle.tclexpr.specs.Row.{IsRow}
 
--- the mark that comes next, if one does, isn't of that kind
+-- the next token is no mark of that kind
 abbrev pub NextIsNot : (Mark → Type 0) → Text → Type 0
 NextIsNot Kind bs = (m : Mark) (rest : Text) → mark_at (after_white bs) ≡ Some (m, rest) → Kind m → ⊥
 
--- the next operator between two operands, if one comes, is of that level at least
+-- the next token, if it is an operator between two operands, is of that level at least
 abbrev pub Follows : ℕ → Text → Type 0
 Follows n bs = (i : Infix) (rest : Text) → mark_at (after_white bs) ≡ Some (marks.Infix i, rest) → n ≤ level i
 
--- what an expression may go on with: an operator between two operands, or a question mark
+-- what may follow an expression: an operator between two operands, or a question mark
 abbrev pub MayFollow : Mark → Type 0
 MayFollow (marks.Infix i) = Unit {0}
 MayFollow marks.Question = Unit {0}
 MayFollow m = ⊥
 
+-- such a mark, or the one that is expected
 abbrev pub MayFollowOr : Mark → Mark → Type 0
 MayFollowOr wanted m = MayFollow m ⊎ (m ≡ wanted)
 
--- what an operand may begin with besides its own bytes: an operator before it, or a parenthesis
+-- what an operand may begin with besides its own bytes: a unary operator, or a parenthesis
 abbrev pub BeginsOperand : Mark → Type 0
 BeginsOperand m = (m ≡ marks.Open) ⊎ ((u : UnaryOperator) × (sign_of m ≡ Some u))
 
--- what is left of the text from the next token on
+-- the fault that the next token is wrong
 abbrev pub bad_next : Text → Fault
 bad_next bs = BadExpression (length (after_white bs))
 
--- OperandFault d bs f: the text can't begin with an operand in which brackets and parentheses nest no deeper than d,
--- and f is why. The number of a fault is how deep marks may still nest.
+-- OperandFault d bs f: the text begins with no operand in which brackets and parentheses nest d deep at most, and f is
+-- the fault. The number d of the definitions is how deep marks may still nest.
 mutual
+  -- in a whole expression: its condition, a branch of its choice, or a missing colon
   pub data ExprFault (O : Type 0) (IsOperand : Text → Text → O → ℕ → Type 0)
       (OperandFault : ℕ → Text → Fault → Type 0) : ℕ → Text → Fault → Type 0 where
     in_condition : {d : ℕ} {bs : Text} {f : Fault} → ChainFault O IsOperand OperandFault d 13 bs f
         → ExprFault O IsOperand OperandFault d bs f
     deep_choice : {d : ℕ} {bs : Text} (cs : List (Token O)) (c : Expr O) (after : Text) → IsChain O d 13 cs c
-        → IsRow O IsOperand bs after (cs ++ mark marks.Question ∷ []) → ExprFault O IsOperand OperandFault d bs TooDeep
+        → IsRow O IsOperand bs after (cs ++ mark marks.Question ∷ [])
+        → ExprFault O IsOperand OperandFault d bs TooDeep
     in_yes : {d : ℕ} {bs : Text} {f : Fault} (cs : List (Token O)) (c : Expr O) (h : ℕ) (after : Text)
         → IsChain O h 13 cs c → h ≤ d → IsRow O IsOperand bs after (cs ++ mark marks.Question ∷ [])
         → ExprFault O IsOperand OperandFault d after f → ExprFault O IsOperand OperandFault (suc d) bs f
@@ -59,6 +62,7 @@ mutual
         → IsRow O IsOperand bs after (cs ++ mark marks.Question ∷ (ys ++ mark marks.Colon ∷ []))
         → ExprFault O IsOperand OperandFault d after f → ExprFault O IsOperand OperandFault (suc d) bs f
 
+  -- in a chain of operands, by operators of the level of the second number at most
   pub data ChainFault (O : Type 0) (IsOperand : Text → Text → O → ℕ → Type 0)
       (OperandFault : ℕ → Text → Fault → Type 0) : ℕ → ℕ → Text → Fault → Type 0 where
     in_operand : {d n : ℕ} {bs : Text} {f : Fault} → mark_at (after_white bs) ≡ None → OperandFault d (after_white bs) f
@@ -85,7 +89,7 @@ mutual
         → ChainFault O IsOperand OperandFault d (level i - 1) after f
         → ChainFault O IsOperand OperandFault (suc d) n bs f
 
--- the first fault of a text
+-- the first fault of a text: inside its expression, or the token after that
 pub data ExprTextFault (O : Type 0) (IsOperand : Text → Text → O → ℕ → Type 0)
     (OperandFault : ℕ → Text → Fault → Type 0) : ℕ → Text → Fault → Type 0 where
   inside : {d : ℕ} {bs : Text} {f : Fault} → ExprFault O IsOperand OperandFault d bs f

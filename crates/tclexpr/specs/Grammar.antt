@@ -1,4 +1,4 @@
--- The grammar of expressions (expr(n)): which rows of tokens are expressions, with their trees.
+-- The grammar of expressions (expr(n)): which lists of tokens are expressions, with their trees.
 use Rattle.std.specs.Prelude.{◌≡◌, ◌≤◌, ◌-◌, ℕ, suc, max, List, [], ◌∷◌, ◌++◌, Option, Some, None}
 use Rattle.tclexpr.specs.declared.operators.UnaryOperator.{UnaryOperator}
 use Rattle.tclexpr.specs.declared.operators.UnaryOperator.TheVariants as signs
@@ -10,7 +10,7 @@ use Rattle.tclexpr.specs.declared.operators.Mark.{Mark}
 use Rattle.tclexpr.specs.declared.operators.Mark.TheVariants as marks
 use Rattle.tclexpr.specs.Tree.{Expr, operand, unary, choice, joined, Token, value, mark}
 
--- the levels of precedence, from the tightest on: unary operators are level 1, a choice is level 14
+-- The levels of precedence, from the one that binds most tightly: unary operators are level 1, a choice is level 14.
 abbrev pub operator_level : BinaryOperator → ℕ
 operator_level Multiply = 2
 operator_level Divide = 2
@@ -38,7 +38,7 @@ level (Operator b) = operator_level b
 level And = 12
 level Or = 13
 
--- the unary operator that a mark is, where an operand could begin
+-- the unary operator that a mark is where an operand could begin
 abbrev pub sign_of : Mark → Option UnaryOperator
 sign_of marks.Complement = Some signs.Complement
 sign_of marks.Not = Some signs.Not

@@ -1,6 +1,6 @@
--- White space and the marks of an expression.
+-- White space, and the operators and parentheses of an expression (expr(n), OPERATORS).
 use Rattle.std.specs.Prelude.{ℕ, [], ◌∷◌, Bool, false, ◌||◌, ◌&&◌, ◌==◌, if◌then◌else◌, Option, Some, None}
-use Rattle.tclchars.specs.Runs.{Text, front, back, begins}
+use Rattle.tclchars.specs.Runs.{Text, take_while, drop_while, begins}
 use Rattle.tclchars.specs.Bytes.{is_space, newline, backslash, left_parenthesis, right_parenthesis, star, colon}
 use Rattle.tclchars.specs.Classes.{is_name}
 use Rattle.tclexpr.specs.declared.operators.BinaryOperator.TheVariants.{Multiply, Divide, Remainder, Add, Subtract, ShiftLeft, ShiftRight, Less, Greater, LessEqual, GreaterEqual, Equal, NotEqual, TextEqual, TextNotEqual, In, NotIn, BitAnd, BitXor, BitOr}
@@ -8,7 +8,7 @@ use Rattle.tclexpr.specs.declared.operators.Infix.TheVariants.{Operator, And, Or
 use Rattle.tclexpr.specs.declared.operators.Mark.{Mark}
 use Rattle.tclexpr.specs.declared.operators.Mark.TheVariants.{Open, Close, Question, Colon, Complement, Not, Infix}
 
--- The signs of operators, by their codes
+-- The bytes of operators, by their codes
 
 abbrev pub exclamation_mark : ℕ
 exclamation_mark = 33
@@ -49,12 +49,12 @@ vertical_bar = 124
 abbrev pub tilde : ℕ
 tilde = 126
 
--- white space stands in front, or a backslash before a newline
+-- the text begins with white space, or with a backslash before a newline
 abbrev pub begins_white : Text → Bool
 begins_white [] = false
 begins_white (b ∷ bs) = is_space b || (b == backslash && begins newline bs)
 
--- what follows the white space at the front
+-- the text without the white space that it begins with
 unfoldable pub after_white : Text → Text
 after_white [] = []
 after_white (b ∷ bs) = if begins_white (b ∷ bs) then after_white bs else b ∷ bs
@@ -103,10 +103,12 @@ word_mark (b ∷ (c ∷ [])) =
     else None
 word_mark bs = None
 
+-- the mark with the rest of the text
 abbrev pub before : Text → Option Mark → Option (Mark × Text)
 before rest None = None
 before rest (Some m) = Some (m, rest)
 
+-- the first that was found
 abbrev pub longest : Option (Mark × Text) → Option (Mark × Text) → Option (Mark × Text)
 longest (Some found) shorter = Some found
 longest None shorter = shorter
@@ -118,6 +120,6 @@ symbol_at (b ∷ []) = before [] (one_byte b)
 symbol_at (b ∷ (c ∷ bs)) =
     if b == star && c == star then None else longest (before bs (two_bytes b c)) (before (c ∷ bs) (one_byte b))
 
--- the mark at the front, and what follows it
+-- the mark that the text begins with, and the rest
 unfoldable pub mark_at : Text → Option (Mark × Text)
-mark_at bs = longest (before (back is_name bs) (word_mark (front is_name bs))) (symbol_at bs)
+mark_at bs = longest (before (drop_while is_name bs) (word_mark (take_while is_name bs))) (symbol_at bs)

@@ -1,4 +1,5 @@
--- What stands before the place of a fault: tokens with which the tokens of some expression begin.
+-- The beginnings of expressions, by tokens: what the law `first_offending` needs to say that a fault is found at the
+-- first token that shows it.
 use Rattle.std.specs.Prelude.{◌≡◌, ◌+◌, ℕ, List, ◌++◌, length}
 use Rattle.tclchars.specs.Runs.{Text}
 use Rattle.tclchars.specs.declared.fault.Fault.{Fault}
@@ -10,22 +11,23 @@ use Rattle.tclexpr.specs.Row.{IsRow}
 use Rattle.tclexpr.specs.Operands.{Operand}
 use Rattle.tclexpr.specs.OperandGrammar.{IsOperand, OperandFault}
 
--- some expression begins with these tokens
+-- the tokens are the beginning of some expression
 abbrev pub TokensGoOn : List (Token Operand) → Type 0
 TokensGoOn ts = (more : List (Token Operand)) × (h : ℕ) × (e : Expr Operand) × IsExpr Operand h (ts ++ more) e
 
--- The fault is that of a text from a token on: of an expression that is wrong, so many bytes are left from this token
--- on; any other is one inside the operand that begins here. That marks nest too deeply says nothing of a place.
+-- The fault is that of a text from a token on. A wrong expression is wrong at this token: all bytes of the text remain.
+-- Any other fault is one inside the operand that begins here. That marks nest too deeply has no offset.
 abbrev pub IsFaultFrom : Fault → Text → Type 0
-IsFaultFrom (OpenBrace left) bs = (d : ℕ) × OperandFault d bs (OpenBrace left)
-IsFaultFrom (OpenQuote left) bs = (d : ℕ) × OperandFault d bs (OpenQuote left)
-IsFaultFrom (OpenBracket left) bs = (d : ℕ) × OperandFault d bs (OpenBracket left)
-IsFaultFrom (JoinedToClose left) bs = (d : ℕ) × OperandFault d bs (JoinedToClose left)
+IsFaultFrom (OpenBrace remaining) bs = (d : ℕ) × OperandFault d bs (OpenBrace remaining)
+IsFaultFrom (OpenQuote remaining) bs = (d : ℕ) × OperandFault d bs (OpenQuote remaining)
+IsFaultFrom (OpenBracket remaining) bs = (d : ℕ) × OperandFault d bs (OpenBracket remaining)
+IsFaultFrom (JoinedToClose remaining) bs = (d : ℕ) × OperandFault d bs (JoinedToClose remaining)
 IsFaultFrom TooDeep bs = Unit {0}
-IsFaultFrom (BadCharacter left) bs = (d : ℕ) × OperandFault d bs (BadCharacter left)
-IsFaultFrom (BadExpression left) bs = length bs ≡ left
+IsFaultFrom (BadCharacter remaining) bs = (d : ℕ) × OperandFault d bs (BadCharacter remaining)
+IsFaultFrom (BadExpression remaining) bs = length bs ≡ remaining
 
--- The text begins with tokens with which some expression begins, and the fault is behind them and white space.
+-- The text begins with tokens that are the beginning of some expression, and the fault comes after them and white
+-- space.
 pub record IsBehindFront (bs : Text) (f : Fault) : Type 0 where
   pub tokens : List (Token Operand)
   pub rest : Text
@@ -33,6 +35,7 @@ pub record IsBehindFront (bs : Text) (f : Fault) : Type 0 where
   pub goes_on : TokensGoOn tokens
   pub fault : IsFaultFrom f (after_white rest)
 
--- the same of a wrong expression, by the place from the front
+-- the same of a wrong expression, by its offset
 abbrev pub HasFrontBefore : Text → ℕ → Type 0
-HasFrontBefore bs at = (left : ℕ) × (at + left ≡ length bs) × IsBehindFront bs (BadExpression left)
+HasFrontBefore bs at =
+    (remaining : ℕ) × (at + remaining ≡ length bs) × IsBehindFront bs (BadExpression remaining)

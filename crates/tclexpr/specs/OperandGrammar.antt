@@ -1,4 +1,4 @@
--- Which texts begin with an operand, and what is wrong where none does.
+-- The grammar of operands (expr(n), OPERANDS): which texts begin with an operand, and what is wrong where none does.
 use Rattle.std.specs.Prelude.{◌≡◌, ◌≤◌, ℕ, suc, [], ◌∷◌, ◌++◌, length, Bool, true, false, not, ◌||◌, ◌==◌, Some, None}
 use Rattle.tclchars.specs.Runs.{Text, begins}
 use Rattle.tclchars.specs.Bytes.{AllPass, MayBegin, DoesBegin, quote, dollar, left_parenthesis, left_bracket, left_brace, right_brace}
@@ -17,13 +17,13 @@ use Rattle.tclexpr.specs.Operands.{Operand, number, word, variable, indexed, bra
 abbrev pub IsSubstitution : Text → Text → Part → ℕ → Type 0
 IsSubstitution bs rest p k = (t : Text) × (bs ≡ t ++ rest) × IsPart InQuotes p t rest × (k ≡ part_nesting p)
 
--- a truth word: a longest run of letters, digits and underscores, before what is no parenthesis
+-- a truth word: a longest run of letters, digits and underscores, without a parenthesis after it
 abbrev pub IsTruthWord : Text → Text → Type 0
 IsTruthWord t rest =
     AllPass is_name t × MayBegin (λ b. not (is_name b)) rest × (is_truth t ≡ true)
     × (begins left_parenthesis rest ≡ false)
 
--- the text begins with this operand, in which brackets and parentheses nest so deep, and the rest follows it
+-- the text begins with this operand, in which brackets and parentheses nest so deep, and the rest follows
 abbrev pub IsOperand : Text → Text → Operand → ℕ → Type 0
 IsOperand bs rest (number t) k = (bs ≡ t ++ rest) × (after_number bs ≡ Some rest) × (k ≡ 0)
 IsOperand bs rest (word t) k = (bs ≡ t ++ rest) × (after_number bs ≡ None) × IsTruthWord t rest × (k ≡ 0)
@@ -39,7 +39,7 @@ IsOperand bs rest (braced t) k = (bs ≡ left_brace ∷ (t ++ right_brace ∷ re
 abbrev pub is_opening : ℕ → Bool
 is_opening b = b == dollar || b == left_bracket || b == quote || b == left_brace
 
--- no operand begins the text, or the one that does is wrong; the number says how many brackets and parentheses may nest
+-- the text begins with no operand, or with one that is wrong; the number is how many brackets and parentheses may nest
 pub data OperandFault : ℕ → Text → Fault → Type 0 where
   in_substitution : {d : ℕ} {bs : Text} {f : Fault} → DoesBegin (λ b. b == dollar || b == left_bracket) bs
       → PartFault d bs f → OperandFault d bs f

@@ -1,4 +1,5 @@
--- Reading an expression from left to right, with the first fault that is met.
+-- Reading an expression from left to right, with the first fault that is met: the grammar as functions that compute,
+-- which the code follows step by step. By the law `expr_of_grammar` they agree with the grammar.
 use Rattle.std.specs.Prelude.{◌-◌, ℕ, zero, suc, max, [], ◌∷◌, length, Bool, true, false, nat_lt, nat_le, if◌then◌else◌, Option, Some, None, Result, Ok, Err}
 use Rattle.tclchars.specs.Runs.{Text}
 use Rattle.tclchars.specs.declared.fault.Fault.{Fault}
@@ -12,7 +13,7 @@ use Rattle.tclexpr.specs.Tree.{Expr, operand, unary, choice, joined}
 use Rattle.tclexpr.specs.Grammar.{level, sign_of}
 use Rattle.tclexpr.specs.Marks.{after_white, mark_at}
 
--- what is read: a whole expression, or one with no operator of a level above the number outside parentheses
+-- what is read: a whole expression, or one whose operators outside of parentheses are of that level at most
 pub data Extent : Type 0 where
   whole : Extent
   chain : ℕ → Extent
@@ -37,10 +38,10 @@ abbrev pub infix_of : Mark → Option Infix
 infix_of (marks.Infix i) = Some i
 infix_of m = None
 
--- what follows a mark that has to come next
+-- the rest after a mark that must come next
 abbrev pub expected : (Mark → Bool) → ℕ → Option (Mark × Text) → Result Text Fault
-expected wanted left None = Err (BadExpression left)
-expected wanted left (Some p) = if wanted p.0 then Ok p.1 else Err (BadExpression left)
+expected wanted remaining None = Err (BadExpression remaining)
+expected wanted remaining (Some p) = if wanted p.0 then Ok p.1 else Err (BadExpression remaining)
 
 abbrev pub expect : (Mark → Bool) → Text → Result Text Fault
 expect wanted bs = expected wanted (length (after_white bs)) (mark_at (after_white bs))
@@ -67,13 +68,14 @@ abbrev pub ended : {O : Type 0} → Expr O → Text → Result (Expr O) Fault
 ended e [] = Ok e
 ended e (b ∷ bs) = Err (BadExpression (length (b ∷ bs)))
 
--- operands are read by read_operand, which is given how deep they may nest
+-- read_operand reads operands; its number is how deep they may nest
 module _ {O : Type 0} (read_operand : ℕ → Text → Read (O × ℕ)) where
+  -- a unary operator and its operand
   abbrev pub signed_at : (Extent → Text → Read (WithHeight O)) → ℕ → Text → Option UnaryOperator → Read (WithHeight O)
-  signed_at below left rest None = Err (BadExpression left)
-  signed_at below left rest (Some u) = read_map (λ x. (unary u x.0, suc x.1)) (below (chain 1) rest)
+  signed_at below remaining rest None = Err (BadExpression remaining)
+  signed_at below remaining rest (Some u) = read_map (λ x. (unary u x.0, suc x.1)) (below (chain 1) rest)
 
-  -- an expression behind its opening parenthesis
+  -- an expression in parentheses, after the opening one
   abbrev pub enclosed_at : (Extent → Text → Read (WithHeight O)) → Text → Read (WithHeight O)
   enclosed_at below rest = do
     x ← below whole rest
@@ -81,9 +83,10 @@ module _ {O : Type 0} (read_operand : ℕ → Text → Read (O × ℕ)) where
     Ok ((x.0.0, suc x.0.1), after)
 
   abbrev pub marked_at : (Extent → Text → Read (WithHeight O)) → ℕ → Mark → Text → Read (WithHeight O)
-  marked_at below left m rest = if is_open m then enclosed_at below rest else signed_at below left rest (sign_of m)
+  marked_at below remaining m rest =
+      if is_open m then enclosed_at below rest else signed_at below remaining rest (sign_of m)
 
-  -- an operand, with the operators before it, or an expression in parentheses
+  -- an operand with the unary operators before it, or an expression in parentheses
   abbrev pub begun_at : ℕ → (Extent → Text → Read (WithHeight O)) → Text → Option (Mark × Text) → Read (WithHeight O)
   begun_at d below bs None = read_map (λ o. (operand o.0, o.1)) (read_operand d bs)
   begun_at d below bs (Some p) = marked_at below (length bs) p.0 p.1
@@ -91,7 +94,7 @@ module _ {O : Type 0} (read_operand : ℕ → Text → Read (O × ℕ)) where
   unfoldable pub prefix_at : ℕ → (Extent → Text → Read (WithHeight O)) → Text → Read (WithHeight O)
   prefix_at d below bs = begun_at d below (after_white bs) (mark_at (after_white bs))
 
-  -- behind an expression, an operator of that level at most and the rest of the chain, or the chain's end
+  -- after an expression, an operator of that level at most and the rest of the chain, or the end of the chain
   abbrev pub next_at : ℕ → (Extent → Text → Read (WithHeight O)) → ℕ → (WithHeight O → Text → Read (WithHeight O))
       → WithHeight O → Text → Text → Option Infix → Read (WithHeight O)
   next_at d below n more x bs rest None = Ok (x, bs)
@@ -105,7 +108,7 @@ module _ {O : Type 0} (read_operand : ℕ → Text → Read (O × ℕ)) where
   going_at d below n more x bs None = Ok (x, bs)
   going_at d below n more x bs (Some p) = next_at d below n more x bs p.1 (infix_of p.0)
 
-  -- the number bounds the turns: one more than the length is enough
+  -- The number turns bounds the turns: one more than the length is enough.
   unfoldable pub climb_at : ℕ → (Extent → Text → Read (WithHeight O)) → ℕ → ℕ → WithHeight O → Text
       → Read (WithHeight O)
   climb_at d below n zero x bs = Err TooDeep
@@ -114,7 +117,7 @@ module _ {O : Type 0} (read_operand : ℕ → Text → Read (O × ℕ)) where
   unfoldable pub chain_at : ℕ → (Extent → Text → Read (WithHeight O)) → ℕ → Text → Read (WithHeight O)
   chain_at d below n bs = prefix_at d below bs >>= (λ x. climb_at d below n (suc (length x.1)) x.0 x.1)
 
-  -- the two branches of a choice, behind its question mark
+  -- the two branches of a choice, after its question mark
   abbrev pub branches_at : (Extent → Text → Read (WithHeight O)) → WithHeight O → Text → Read (WithHeight O)
   branches_at below x rest = do
     y ← below whole rest
@@ -137,10 +140,11 @@ module _ {O : Type 0} (read_operand : ℕ → Text → Read (O × ℕ)) where
   extent_at d below whole bs = whole_at d below bs
   extent_at d below (chain n) bs = chain_at d below n bs
 
-  -- behind a mark, where so many may nest, that one included
+  -- after a mark, where so many may nest, that mark included
   unfoldable pub below_at : ℕ → Extent → Text → Read (WithHeight O)
   below_at zero extent bs = Err TooDeep
   below_at (suc d) extent bs = extent_at d (below_at d) extent bs
 
+  -- the tree of a whole text, in which no more than that may nest
   unfoldable pub expr_at : ℕ → Text → Result (Expr O) Fault
   expr_at d bs = whole_at d (below_at d) bs >>= (λ x. ended x.0.0 (after_white x.1))

@@ -1,4 +1,4 @@
--- The tree or the fault of a whole text.
+-- The tree or the fault of a whole text, within the limits.
 use Rattle.std.specs.Prelude.{◌≤◌, ℕ, length, Result}
 use Rattle.tclchars.specs.Runs.{Text}
 use Rattle.tclchars.specs.Faults.{max_bytes, max_nesting}
@@ -20,14 +20,14 @@ IsExpression h bs e = IsExprText Operand IsOperand h bs e
 abbrev pub IsWithin : Text → Expr Operand → Type 0
 IsWithin bs e = (h : ℕ) × IsExpression h bs e × (h ≤ max_nesting) × (length bs ≤ max_bytes)
 
--- the first fault of a text, with the number of bytes from its mark on, where so many may nest
+-- the first fault of a text, with the number of bytes that remain from its mark on; so many marks may nest
 abbrev pub IsFault : ℕ → Text → Fault → Type 0
 IsFault d bs f = ExprTextFault Operand IsOperand OperandFault d bs f
 
--- what is wrong with a text: it is too long, or its first fault
+-- what is wrong with a text: it is too long, or its first fault with the offset
 abbrev pub IsTextFault : Text → TextFault → Type 0
 IsTextFault bs f = IsFaultOf (IsFault max_nesting) bs f
 
--- the tree of an expression, or what is wrong with it
+-- the tree of an expression, or what is wrong with the text
 abbrev pub expr_of : Text → Result (Expr Operand) TextFault
 expr_of bs = whole_of (expr_at operand_at max_nesting) bs

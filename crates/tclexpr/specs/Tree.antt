@@ -1,4 +1,4 @@
--- Expressions as trees, and the tokens that they are written in. O is the type of operands.
+-- Expressions as trees, and the tokens that they are written in (expr(n)). O is the type of operands.
 use Rattle.std.specs.Prelude.{ℕ}
 use Rattle.tclexpr.specs.declared.operators.UnaryOperator.{UnaryOperator}
 use Rattle.tclexpr.specs.declared.operators.BinaryOperator.{BinaryOperator}
@@ -15,7 +15,7 @@ pub data Expr (O : Type 0) : Type 0 where
   disjunction : Expr O → Expr O → Expr O
   choice : Expr O → Expr O → Expr O → Expr O
 
--- two trees joined by what stands between them
+-- two trees with an operator between them
 abbrev pub joined : {O : Type 0} → Infix → Expr O → Expr O → Expr O
 joined (infixes.Operator b) x y = binary b x y
 joined infixes.And x y = conjunction x y

@@ -1,4 +1,4 @@
--- The tree that a value of the program stands for, where a piece shows its text.
+-- The tree of the definitions that a tree of the code stands for, where a piece shows its text.
 use Rattle.std.specs.Prelude.{ℕ, List, map}
 use Rattle.tclchars.specs.Runs.{Text}
 use Rattle.tclscript.specs.View.{script_view, word_view, parts_view}

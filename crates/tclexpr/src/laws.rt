@@ -1,4 +1,4 @@
-//! What holds of the definitions that the contracts cite.
+//! Laws of expressions: functions that do nothing, whose contracts are theorems about the definitions.
 ghost use Rattle.std.specs.Prelude.{◌≡◌, ◌≢◌, ◌↔◌, ℕ, Ok, Err};
 ghost use Rattle.tclchars.specs.Runs.{Text};
 ghost use Rattle.tclchars.specs.declared.fault.Fault.{Fault};
@@ -23,16 +23,17 @@ pub fn one_fault()
 {}
 
 /// `expr_of` gives a tree exactly where the grammar has it within the limits, and a fault exactly where that is the
-/// text's; want of memory never.
+/// fault of the text; want of memory never.
 pub fn expr_of_grammar()
     ensures tree { (bs : Text) (e : Expr Operand) → (expr_of bs ≡ Ok e) ↔ IsWithin bs e }
     ensures fault { (bs : Text) (f : TextFault) → f ≢ OutOfMemory → (expr_of bs ≡ Err f) ↔ IsTextFault bs f }
     ensures no_memory { (bs : Text) → expr_of bs ≢ Err OutOfMemory }
 {}
 
-/// Before a fault stand tokens with which some expression begins, and behind them and white space the operand that is
-/// wrong, or the token that can't stand there, or the text's end: there is the place of a wrong expression.
+/// Faults are found at the first token that shows them (the correct-prefix property). The tokens before a fault are the
+/// beginning of some expression. After them and white space comes what is wrong: an operand, a token that may not
+/// follow, or the end of the text; that is the offset of a wrong expression.
 pub fn first_offending()
-    ensures front { (d : ℕ) (bs : Text) (f : Fault) → IsFault d bs f → IsBehindFront bs f }
-    ensures place { (bs : Text) (at : ℕ) → IsTextFault bs (BadExpression at) → HasFrontBefore bs at }
+    ensures prefix { (d : ℕ) (bs : Text) (f : Fault) → IsFault d bs f → IsBehindFront bs f }
+    ensures offset { (bs : Text) (at : ℕ) → IsTextFault bs (BadExpression at) → HasFrontBefore bs at }
 {}

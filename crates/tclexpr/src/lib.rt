@@ -1,4 +1,6 @@
-//! Expressions of Tcl (expr(n)): operators, trees and what is wrong with a text that has none.
+//! Expressions of Tcl as trees, and what is wrong with a text that is none (expr(n)).
+//! Takes memory and touches nothing else.
+//! Used by the operators, the rules of evaluation, tclsubstitution, tclcache and the evaluator.
 #![tactic(auto)]
 
 mod laws;

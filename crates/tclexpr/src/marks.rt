@@ -1,4 +1,4 @@
-//! The operators and parentheses of an expression, read (expr(n), OPERATORS).
+//! White space, and the operators and parentheses of an expression, read (expr(n), OPERATORS).
 ghost use Rattle.std.specs.Prelude.{◌≡◌, ◌<◌, option_map, length, drop, slice_index};
 ghost use Rattle.tclexpr.specs.Grammar.{operator_level, level, sign_of};
 ghost use Rattle.tclexpr.specs.Marks.{after_white, two_bytes, one_byte, word_mark, symbol_at, mark_at, begins_white};
@@ -6,7 +6,7 @@ ghost use Rattle.tclexpr.specs.Marks.{after_white, two_bytes, one_byte, word_mar
 use crate::operators::{BinaryOperator, Infix, Mark, UnaryOperator};
 use tclchars::{Class, begins_class, split_front};
 
-/// What follows the first byte, which is ASCII.
+/// The text without its first byte, which is ASCII.
 pub(crate) fn after_first(text: &str) -> &str
     requires some { 0 < length text.now }
     requires ascii { slice_index text.now 0 < 128 }
@@ -15,7 +15,7 @@ pub(crate) fn after_first(text: &str) -> &str
     text.split_at(1).1
 }
 
-// Whether white space stands in front, or a backslash before a newline.
+/// Whether the text begins with white space, or with a backslash before a newline.
 fn begins_white(text: &str) -> bool
     ensures { result ≡ begins_white text.now }
 {
@@ -25,7 +25,7 @@ fn begins_white(text: &str) -> bool
     }
 }
 
-/// What follows the white space in front.
+/// The text without the white space that it begins with.
 pub(crate) fn skip_white(text: &str) -> &str
     ensures { result.now ≡ after_white text.now }
 {
@@ -36,7 +36,7 @@ pub(crate) fn skip_white(text: &str) -> &str
     rest
 }
 
-// The mark of two bytes.
+/// The operator of these two bytes.
 fn two_bytes(b: u8, c: u8) -> Option<Mark>
     ensures { result ≡ two_bytes b c }
 {
@@ -53,7 +53,7 @@ fn two_bytes(b: u8, c: u8) -> Option<Mark>
     }
 }
 
-// The mark of one byte.
+/// The mark of this byte.
 fn one_byte(b: u8) -> Option<Mark>
     ensures { result ≡ one_byte b }
 {
@@ -78,7 +78,7 @@ fn one_byte(b: u8) -> Option<Mark>
     }
 }
 
-// The mark that a word is.
+/// The operator that is this word: `eq`, `ne`, `in` or `ni`.
 fn word_mark(word: &str) -> Option<Mark>
     ensures { result ≡ word_mark word.now }
 {
@@ -91,7 +91,7 @@ fn word_mark(word: &str) -> Option<Mark>
     }
 }
 
-// A mark of two bytes or one, and what follows it.
+/// The longest mark of two bytes or one that the text begins with, and the rest; `**` is none.
 fn read_symbol(text: &str) -> Option<(Mark, &str)>
     ensures { option_map (λ p. (p.0, p.1.now)) result ≡ symbol_at text.now }
 {
@@ -106,7 +106,7 @@ fn read_symbol(text: &str) -> Option<(Mark, &str)>
     }
 }
 
-/// The mark at the front, and what follows it.
+/// The mark that the text begins with, and the rest.
 pub(crate) fn read_mark(text: &str) -> Option<(Mark, &str)>
     ensures { option_map (λ p. (p.0, p.1.now)) result ≡ mark_at text.now }
 {
@@ -117,6 +117,7 @@ pub(crate) fn read_mark(text: &str) -> Option<(Mark, &str)>
     }
 }
 
+/// The level of precedence of an operator that evaluates both operands, from 2 to 11.
 fn operator_level(operator: BinaryOperator) -> usize
     ensures { result ≡ operator_level operator }
 {
@@ -137,7 +138,7 @@ fn operator_level(operator: BinaryOperator) -> usize
     }
 }
 
-/// The level of precedence, from 2, the tightest, to 13.
+/// The level of precedence, from 2, which binds most tightly, to 13.
 pub(crate) fn level(between: Infix) -> usize
     ensures { result ≡ level between }
 {
@@ -148,7 +149,7 @@ pub(crate) fn level(between: Infix) -> usize
     }
 }
 
-/// The unary operator that a mark is, where an operand could begin.
+/// The unary operator that a mark is where an operand could begin.
 pub(crate) fn sign_of(mark: Mark) -> Option<UnaryOperator>
     ensures { result ≡ sign_of mark }
 {

@@ -7,13 +7,14 @@ ghost use Rattle.tclexpr.specs.View.{words_view};
 
 use tclscript::{Command, Part, Script, Word};
 
+/// The larger of two numbers.
 fn larger(a: usize, b: usize) -> usize
     ensures { result ≡ max a b }
 {
     if a < b { b } else { a }
 }
 
-/// How deep brackets and the parentheses of indexes nest in a script. A number that is no `usize` is cut.
+/// How deep brackets and the parentheses of indexes nest in a script; `usize::MAX` where that is no `usize`.
 #[cycle(nesting)]
 pub(crate) fn script_nesting<P: Drop>(script: &Script<P>) -> usize
     ensures { (shown : P → Text) → nesting (script_view shown script.now) ≤ usize.MAX
@@ -26,7 +27,7 @@ pub(crate) fn script_nesting<P: Drop>(script: &Script<P>) -> usize
     height
 }
 
-// The same in words.
+/// How deep they nest in words.
 #[cycle(nesting)]
 fn words_nesting<P: Drop>(words: &Vec<Word<P>>) -> usize
     ensures { (shown : P → Text) → words_nesting (words_view shown words.now.items) ≤ usize.MAX
@@ -39,7 +40,7 @@ fn words_nesting<P: Drop>(words: &Vec<Word<P>>) -> usize
     height
 }
 
-/// The same in parts.
+/// How deep they nest in parts.
 #[cycle(nesting)]
 pub(crate) fn parts_nesting<P: Drop>(parts: &Vec<Part<P>>) -> usize
     ensures { (shown : P → Text) → parts_nesting (parts_view shown parts.now.items) ≤ usize.MAX
@@ -52,7 +53,7 @@ pub(crate) fn parts_nesting<P: Drop>(parts: &Vec<Part<P>>) -> usize
     height
 }
 
-// The same in a part.
+/// How deep they nest in a part, with its own bracket or index.
 #[cycle(nesting)]
 fn part_nesting<P: Drop>(part: &Part<P>) -> usize
     ensures { (shown : P → Text) → part_nesting (part_view shown part.now) ≤ usize.MAX

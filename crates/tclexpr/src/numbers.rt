@@ -1,10 +1,10 @@
-//! The spelling of numbers (expr(n), OPERANDS).
+//! How numbers are spelled in expressions (expr(n), OPERANDS).
 ghost use Rattle.std.specs.Prelude.{◌≡◌, ◌<◌, option_map};
 ghost use Rattle.tclexpr.specs.Operands.{is_digit, begins_digit, after_digits, announced, after_based, after_sign, after_exponent, after_fraction, begins_point, after_decimal, after_number};
 
 use crate::marks::after_first;
 
-/// The digits of a base, in the spelling of a number.
+/// The digits of a base.
 #[derive(Clone, Copy, Debug, PartialEq, Eq)]
 pub enum Digits {
     /// 0 and 1.
@@ -17,6 +17,7 @@ pub enum Digits {
     Hexadecimal,
 }
 
+/// Whether the byte is a digit of the base.
 fn is_digit(digits: Digits, b: u8) -> bool
     ensures { result ≡ is_digit digits b }
 {
@@ -30,6 +31,7 @@ fn is_digit(digits: Digits, b: u8) -> bool
     }
 }
 
+/// Whether the text begins with a digit of the base.
 fn begins_digit(text: &str, digits: Digits) -> bool
     ensures { result ≡ begins_digit digits text.now }
 {
@@ -39,6 +41,7 @@ fn begins_digit(text: &str, digits: Digits) -> bool
     }
 }
 
+/// The text without the digits that it begins with.
 fn after_digits(text: &str, digits: Digits) -> &str
     ensures { result.now ≡ after_digits digits text.now }
 {
@@ -49,7 +52,7 @@ fn after_digits(text: &str, digits: Digits) -> &str
     rest
 }
 
-// The digits that a letter behind a leading 0 announces.
+/// The digits that a letter after a leading 0 announces: `x`, `o` or `b` in either case.
 fn announced(b: u8) -> Option<Digits>
     ensures { result ≡ announced b }
 {
@@ -61,7 +64,7 @@ fn announced(b: u8) -> Option<Digits>
     }
 }
 
-// What follows a number of another base than ten.
+/// The rest after a number with a base prefix, if the text begins with one.
 fn after_based(text: &str) -> Option<&str>
     ensures { option_map (λ rest. rest.now) result ≡ after_based text.now }
 {
@@ -77,6 +80,7 @@ fn after_based(text: &str) -> Option<&str>
     }
 }
 
+/// The text without the sign that it begins with, if it does.
 fn after_sign(text: &str) -> &str
     ensures { result.now ≡ after_sign text.now }
 {
@@ -86,7 +90,7 @@ fn after_sign(text: &str) -> &str
     }
 }
 
-// What follows an exponent, if there is one.
+/// The text without the exponent that it begins with, if it does.
 fn after_exponent(text: &str) -> &str
     ensures { result.now ≡ after_exponent text.now }
 {
@@ -101,7 +105,7 @@ fn after_exponent(text: &str) -> &str
     }
 }
 
-// What follows a point and its digits, if there is a point.
+/// The text without the point and the digits that it begins with, if it does.
 fn after_fraction(text: &str) -> &str
     ensures { result.now ≡ after_fraction text.now }
 {
@@ -111,7 +115,7 @@ fn after_fraction(text: &str) -> &str
     }
 }
 
-// What follows a decimal number.
+/// The rest after a decimal number, if the text begins with one.
 fn after_decimal(text: &str) -> Option<&str>
     ensures { option_map (λ rest. rest.now) result ≡ after_decimal text.now }
 {
@@ -122,7 +126,7 @@ fn after_decimal(text: &str) -> Option<&str>
     }
 }
 
-// Whether a point and a digit stand in front.
+/// Whether the text begins with a point and a digit.
 fn begins_point(text: &str) -> bool
     ensures { result ≡ begins_point text.now }
 {
@@ -132,7 +136,7 @@ fn begins_point(text: &str) -> bool
     }
 }
 
-/// What follows the longest number at the front.
+/// The rest after the longest number that the text begins with, if it does.
 pub(crate) fn after_number(text: &str) -> Option<&str>
     ensures { option_map (λ rest. rest.now) result ≡ after_number text.now }
 {

@@ -1,4 +1,4 @@
-//! Operands, read (expr(n), OPERANDS).
+//! The operands of expressions, read (expr(n), OPERANDS).
 ghost use Rattle.std.specs.Prelude.{◌≡◌, ◌≤◌, ◌<◌, ◌∷◌, length, suc};
 ghost use Rattle.tclchars.specs.Runs.{Text};
 ghost use Rattle.tclchars.specs.Answers.{Gives};
@@ -7,7 +7,7 @@ ghost use Rattle.tclscript.specs.Pieces.{IsEndOf};
 ghost use Rattle.tclscript.specs.Tree.{part_nesting};
 ghost use Rattle.tclscript.specs.Reading.{taken};
 ghost use Rattle.tclscript.specs.View.{part_view};
-ghost use Rattle.tclexpr.specs.Operands.{after_number, lower, is_front, begins_truth, begins_switch, is_truth, operand_of, variable_operand_at, bracket_operand_at, quoted_at, braced_text_at, word_at, numeric, operand_at};
+ghost use Rattle.tclexpr.specs.Operands.{after_number, lower, is_prefix, begins_truth, begins_switch, is_truth, operand_of, variable_operand_at, bracket_operand_at, quoted_at, braced_text_at, word_at, numeric, operand_at};
 ghost use Rattle.tclexpr.specs.View.{operand_view};
 
 use crate::nesting::{parts_nesting, script_nesting};
@@ -17,41 +17,44 @@ use std::alloc::Global;
 use tclchars::{Class, Fault, ReadError, after_mark, split_close, split_front};
 use tclscript::{Part, Source, read_bracket, read_dollar, read_quotes};
 
+/// The byte in lower case.
 fn lower(b: u8) -> u8
     ensures { result ≡ lower b }
 {
     if matches!(b, b'A'..=b'Z') { b + 32 } else { b }
 }
 
-// Whether the word, in small letters, is a front of the other.
-fn is_front(word: &[u8], whole: &[u8]) -> bool
-    ensures { result ≡ is_front word.now whole.now }
+/// Whether the word, in lower case, is a prefix of the other.
+fn is_prefix(word: &[u8], whole: &[u8]) -> bool
+    ensures { result ≡ is_prefix word.now whole.now }
 {
     match word {
         [] => true,
         [a, word @ ..] => match whole {
             [] => false,
-            [b, whole @ ..] => lower(*a) == *b && is_front(word, whole),
+            [b, whole @ ..] => lower(*a) == *b && is_prefix(word, whole),
         },
     }
 }
 
+/// Whether the word is a prefix of `true`, `false`, `yes` or `no`.
 fn begins_truth(word: &[u8]) -> bool
     ensures { result ≡ begins_truth word.now }
 {
-    is_front(word, b"true")
-        || is_front(word, b"false")
-        || is_front(word, b"yes")
-        || is_front(word, b"no")
+    is_prefix(word, b"true")
+        || is_prefix(word, b"false")
+        || is_prefix(word, b"yes")
+        || is_prefix(word, b"no")
 }
 
+/// Whether the word is a prefix of `on` or `off`.
 fn begins_switch(word: &[u8]) -> bool
     ensures { result ≡ begins_switch word.now }
 {
-    is_front(word, b"on") || is_front(word, b"off")
+    is_prefix(word, b"on") || is_prefix(word, b"off")
 }
 
-// Whether a word is a front of true, false, yes or no, or on, of or off, in any case.
+/// Whether a word is a truth word: a prefix of `true`, `false`, `yes` or `no`, or `on`, `of` or `off`, in any case.
 #[tactic(auto, unfolding(crate::specs::Operands::is_truth))]
 fn is_truth(word: &[u8]) -> bool
     ensures { result ≡ is_truth word.now }
@@ -59,14 +62,14 @@ fn is_truth(word: &[u8]) -> bool
     (word.len() >= 1 && begins_truth(word)) || (word.len() >= 2 && begins_switch(word))
 }
 
-// How many bytes there are from a mark on, with what stands behind it.
+/// How many bytes remain from a mark of one byte on, of which `behind` is what follows it.
 fn left_with_mark(behind: &str) -> usize
     ensures { result ≡ suc (length behind.now) }
 {
     behind.len() + 1
 }
 
-// What was read of the text before that rest.
+/// The piece of the source from the text up to the rest.
 fn taken<'a, S: Source<P>, P: Drop>(source: &S, text: &'a str, rest: &'a str) -> P
     requires text { IsEndOf (S.text source.now) text.now }
     requires rest { IsEndOf text.now rest.now }
@@ -75,16 +78,18 @@ fn taken<'a, S: Source<P>, P: Drop>(source: &S, text: &'a str, rest: &'a str) ->
     source.cut(text, text.split_at(text.len() - rest.len()).0)
 }
 
+/// The height of what nests one deeper.
 fn one_more(height: usize) -> usize
     ensures { height < usize.MAX → result ≡ suc height }
 {
     height.saturating_add(1)
 }
 
-// A substitution as an operand, with how deep it nests; a dollar that is itself is none.
-fn operand_of<P: Drop>(part: Part<P>, left: usize) -> Result<(Operand<P>, usize), ReadError>
+/// A substitution as an operand, with how deep it nests. A literal dollar is no operand: the expression is wrong at it,
+/// with `remaining` bytes remaining.
+fn operand_of<P: Drop>(part: Part<P>, remaining: usize) -> Result<(Operand<P>, usize), ReadError>
     ensures { (shown : P → Text) → part_nesting (part_view shown part) ≤ usize.MAX
-        → Gives stopped_by (λ x. (operand_view shown x.0, x.1)) result (operand_of left (part_view shown part)) }
+        → Gives stopped_by (λ x. (operand_view shown x.0, x.1)) result (operand_of remaining (part_view shown part)) }
 {
     match part {
         Part::Variable(name) => Ok((Operand::Variable(name), 0)),
@@ -96,11 +101,12 @@ fn operand_of<P: Drop>(part: Part<P>, left: usize) -> Result<(Operand<P>, usize)
             let height = one_more(script_nesting(&script));
             Ok((Operand::Bracket(script), height))
         }
-        _ => Err(ReadError::Fault(Fault::BadExpression(left))),
+        _ => Err(ReadError::Fault(Fault::BadExpression(remaining))),
     }
 }
 
-// A variable, behind its dollar, which stands in front of the text.
+/// A variable, with how deep it nests, and the rest; the text begins with its dollar, and `behind` is what follows
+/// that.
 fn read_variable<'a, S: Source<P>, P: Drop>(
     alloc: Global,
     source: &S,
@@ -118,7 +124,8 @@ fn read_variable<'a, S: Source<P>, P: Drop>(
     Ok((operand, height, rest))
 }
 
-// A script in brackets, behind the first, which stands in front of the text.
+/// A script in brackets, with how deep it nests, and the rest; the text begins with its bracket, and `behind`
+/// is what follows that.
 fn read_script<'a, S: Source<P>, P: Drop>(
     alloc: Global,
     source: &S,
@@ -136,7 +143,7 @@ fn read_script<'a, S: Source<P>, P: Drop>(
     Ok((operand, height, rest))
 }
 
-// A quoted text, behind its first quote.
+/// A text in quotes, with how deep it nests, and the rest; `text` follows the opening quote.
 fn read_quoted<'a, S: Source<P>, P: Drop>(
     alloc: Global,
     source: &S,
@@ -152,7 +159,7 @@ fn read_quoted<'a, S: Source<P>, P: Drop>(
     Ok((Operand::Quoted(parts), height, rest))
 }
 
-// A text in braces, behind the first.
+/// A text in braces, and the rest; `text` follows the opening brace.
 fn read_braced<'a, S: Source<P>, P: Drop>(
     source: &S,
     text: &'a str,
@@ -167,7 +174,7 @@ fn read_braced<'a, S: Source<P>, P: Drop>(
     }
 }
 
-// A truth word that no parenthesis follows directly.
+/// A truth word without a parenthesis directly after it, and the rest.
 fn read_word<'a, S: Source<P>, P: Drop>(
     source: &S,
     text: &'a str,
@@ -186,7 +193,7 @@ fn read_word<'a, S: Source<P>, P: Drop>(
     }
 }
 
-// A number or a word.
+/// A number or a truth word, and the rest.
 fn read_numeric<'a, S: Source<P>, P: Drop>(
     source: &S,
     text: &'a str,
@@ -201,7 +208,7 @@ fn read_numeric<'a, S: Source<P>, P: Drop>(
     }
 }
 
-/// The operand at the front, with how deep brackets and parentheses nest in it, and what follows it.
+/// The operand that the text begins with, how deep brackets and the parentheses of indexes nest in it, and the rest.
 pub(crate) fn read_operand<'a, S: Source<P>, P: Drop>(
     alloc: Global,
     source: &S,

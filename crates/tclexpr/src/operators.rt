@@ -1,4 +1,4 @@
-//! The operators of expressions, and how they bind (expr(n), OPERATORS).
+//! The operators of expressions, and how they are spelled (expr(n), OPERATORS).
 ghost use Rattle.std.specs.Prelude.{◌≡◌};
 ghost use Rattle.tclexpr.specs.Symbols.{unary_symbol, binary_symbol};
 
@@ -104,7 +104,7 @@ impl BinaryOperator {
     }
 }
 
-/// What may stand between two operands.
+/// What may be between two operands, except the question mark and colon of a choice.
 #[derive(Clone, Copy, Debug, PartialEq, Eq)]
 pub enum Infix {
     /// An operator that evaluates both operands.
@@ -130,6 +130,6 @@ pub enum Mark {
     Complement,
     /// `!`
     Not,
-    /// An operator between two operands. `+` and `-` also stand before one.
+    /// An operator between two operands. `+` and `-` may also come before one.
     Infix(Infix),
 }

@@ -1,4 +1,4 @@
-//! An expression that holds its text.
+//! An expression that owns its text.
 ghost use Rattle.std.specs.Prelude.{◌≡◌, string_bytes, IfOk, IfErr, MatchResult};
 ghost use Rattle.tclchars.specs.declared.fault.TextFault.TheVariants.{OutOfMemory};
 ghost use Rattle.tclchars.specs.Whole.{Reads};
@@ -13,16 +13,20 @@ use std::alloc::Global;
 use tclchars::TextFault;
 use tclscript::ByteRange;
 
-/// An expression with its text: the pieces of the tree are ranges of it.
+/// An expression with its text: the pieces of the tree are ranges of the text.
 #[derive(Debug, Drop)]
 pub struct OwnedExpr {
+    /// The text.
     pub text: String,
+    /// The tree, whose pieces are byte ranges of the text.
     pub expression: Expr<ByteRange>,
 }
 
-/// The tree of an expression, as `parse_expr` gives it, with the text, which isn't copied.
+/// The tree of an expression, as `parse_expr` gives it, with the text, which is moved and not copied.
+///
+/// The errors are those of `parse_expr`; the text is then dropped.
 pub fn own_expr(alloc: Global, text: String) -> Result<OwnedExpr, TextFault>
-    // The text is kept.
+    // The text is unchanged.
     ensures same { IfOk result (λ o. string_bytes o.text ≡ string_bytes text) }
 
     // A tree that is returned is the text's, within the limits.
@@ -32,7 +36,7 @@ pub fn own_expr(alloc: Global, text: String) -> Result<OwnedExpr, TextFault>
     ensures only { (e : tree.Expr operands.Operand) → IsWithin (string_bytes text) e
         → MatchResult result (λ o. owned_view o ≡ e) (λ f. f ≡ OutOfMemory) }
 
-    // A fault is the text's first, at its place.
+    // A fault is the first of the text, with its offset.
     ensures fault { IfErr result (IsTextFault (string_bytes text)) }
 
     // The tree or the fault is the one that the definition computes, unless memory runs out.

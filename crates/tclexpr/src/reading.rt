@@ -1,4 +1,5 @@
-//! Expressions, read by how their operators bind (expr(n), OPERATORS).
+//! Expressions, read by precedence climbing: each operator takes what binds more tightly than itself (expr(n),
+//! OPERATORS).
 ghost use Rattle.std.specs.Prelude.{◌≡◌, ◌≤◌, ◌<◌, suc, nat_lt, if◌then◌else◌, ◌-◌, Some, Err, IfOk, MatchOption};
 ghost use Rattle.tclchars.specs.Runs.{Text};
 ghost use Rattle.tclchars.specs.Answers.{Gives};
@@ -21,10 +22,10 @@ use std::alloc::{AllocError, Global};
 use tclchars::{Fault, ReadError};
 use tclscript::Source;
 
-// The level of the operators that bind the least, but for the choice.
+/// The level of the binary operator that binds least tightly; a choice binds less tightly still.
 const LOOSEST: usize = 13;
 
-// What follows the parenthesis that closes, which must come next.
+/// The rest after the closing parenthesis, which must come next.
 fn after_close(text: &str) -> Result<&str, ReadError>
     ensures { Gives stopped_by (λ rest. rest.now) result (expect is_close text.now) }
 {
@@ -35,7 +36,7 @@ fn after_close(text: &str) -> Result<&str, ReadError>
     }
 }
 
-// What follows the colon, which must come next.
+/// The rest after the colon, which must come next.
 fn after_colon(text: &str) -> Result<&str, ReadError>
     ensures { Gives stopped_by (λ rest. rest.now) result (expect is_colon text.now) }
 {
@@ -46,19 +47,21 @@ fn after_colon(text: &str) -> Result<&str, ReadError>
     }
 }
 
+/// Whether the mark opens a parenthesis.
 fn is_open(mark: Mark) -> bool
     ensures { result ≡ is_open mark }
 {
     matches!(mark, Mark::Open)
 }
 
+/// Whether the mark is the question mark of a choice.
 fn is_question(mark: Mark) -> bool
     ensures { result ≡ is_question mark }
 {
     matches!(mark, Mark::Question)
 }
 
-// The operator that comes next between two operands, where it is of that level at most.
+/// The operator that comes next, if it is one between two operands of that level at most, and the rest.
 fn read_infix(text: &str, limit: usize) -> Option<(Infix, &str)>
     ensures { MatchOption result (Follows (suc limit) text.now)
         (λ p. (mark_at (after_white text.now) ≡ Some (marks.Infix p.0, p.1.now)) × (level p.0 ≤ limit)) }
@@ -69,14 +72,14 @@ fn read_infix(text: &str, limit: usize) -> Option<(Infix, &str)>
     }
 }
 
-// The highest level of operators in a right operand: operators of one level group to the left.
+/// The highest level of the operators in a right operand: operators of one level group to the left.
 fn right_level(between: Infix) -> usize
     ensures { result ≡ level between - 1 }
 {
     level(between) - 1
 }
 
-// An operator and its operand.
+/// An operator and its operand.
 fn unary<P: Drop>(
     alloc: Global,
     operator: UnaryOperator,
@@ -93,7 +96,7 @@ fn unary<P: Drop>(
     })
 }
 
-// Two expressions, joined.
+/// Two expressions, with an operator between them.
 fn join<P: Drop>(
     alloc: Global,
     between: Infix,
@@ -117,7 +120,7 @@ fn join<P: Drop>(
     Ok(WithHeight { tree, height })
 }
 
-// A condition and the two expressions that it chooses from.
+/// A condition and the two expressions that it chooses from.
 fn choice<P: Drop>(
     alloc: Global,
     condition: WithHeight<P>,
@@ -142,7 +145,7 @@ fn choice<P: Drop>(
     })
 }
 
-// An expression in parentheses, as high as those make it.
+/// An expression in parentheses, which add one to its height.
 fn enclosed<P: Drop>(inner: WithHeight<P>) -> WithHeight<P>
     requires { inner.height < usize.MAX }
     ensures { (shown : P → Text) → with_height_view shown result ≡ (expr_view shown inner.tree, suc inner.height) }
@@ -154,7 +157,7 @@ fn enclosed<P: Drop>(inner: WithHeight<P>) -> WithHeight<P>
     }
 }
 
-/// An expression at the front, where so many operators, parentheses and brackets may nest, and what follows it.
+/// The expression that the text begins with, and the rest; `depth` operators, parentheses and brackets may nest in it.
 #[cycle(read)]
 pub(crate) fn read_whole<'a, S: Source<P>, P: Drop>(
     alloc: Global,
@@ -177,7 +180,7 @@ pub(crate) fn read_whole<'a, S: Source<P>, P: Drop>(
     }
 }
 
-// The two branches of a choice, behind its question mark.
+/// The choice of a condition, and the rest; `text` follows its question mark.
 #[cycle(read)]
 fn read_branches<'a, S: Source<P>, P: Drop>(
     alloc: Global,
@@ -202,7 +205,7 @@ fn read_branches<'a, S: Source<P>, P: Drop>(
     Ok((choice(alloc, condition, yes, no)?, end))
 }
 
-// Operands, with operators of that level at most between them.
+/// Operands with operators of that level at most between them, and the rest.
 #[cycle(read)]
 fn read_chain<'a, S: Source<P>, P: Drop>(
     alloc: Global,
@@ -226,7 +229,7 @@ fn read_chain<'a, S: Source<P>, P: Drop>(
     }
 }
 
-// The right operand of an operator, whose left one nests so deep.
+/// The right operand of an operator, and the rest; `height` is how deep its left operand nests.
 #[cycle(read)]
 fn read_right<'a, S: Source<P>, P: Drop>(
     alloc: Global,
@@ -246,7 +249,7 @@ fn read_right<'a, S: Source<P>, P: Drop>(
     read_chain(alloc, source, text, depth - 1, right_level(between))
 }
 
-// An operand, with the operators before it, or an expression in parentheses.
+/// An operand with the unary operators before it, or an expression in parentheses, and the rest.
 #[cycle(read)]
 fn read_prefix<'a, S: Source<P>, P: Drop>(
     alloc: Global,
@@ -271,7 +274,7 @@ fn read_prefix<'a, S: Source<P>, P: Drop>(
     }
 }
 
-// An operand as an expression.
+/// An operand as an expression, and the rest.
 fn read_leaf<'a, S: Source<P>, P: Drop>(
     alloc: Global,
     source: &S,
@@ -292,7 +295,7 @@ fn read_leaf<'a, S: Source<P>, P: Drop>(
     ))
 }
 
-// An expression behind its opening parenthesis.
+/// An expression in parentheses, and the rest; `text` follows the opening one.
 #[cycle(read)]
 fn read_enclosed<'a, S: Source<P>, P: Drop>(
     alloc: Global,
@@ -312,7 +315,7 @@ fn read_enclosed<'a, S: Source<P>, P: Drop>(
     Ok((enclosed(inner), behind))
 }
 
-// The operand of an operator before it.
+/// A unary operator with its operand, and the rest; `text` follows the operator.
 #[cycle(read)]
 fn read_signed<'a, S: Source<P>, P: Drop>(
     alloc: Global,

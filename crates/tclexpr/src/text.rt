@@ -1,4 +1,4 @@
-//! A whole text as an expression.
+//! Whole texts as expressions, within the limits of length and nesting.
 ghost use Rattle.std.specs.Prelude.{◌≡◌, IfOk, IfErr, MatchResult};
 ghost use Rattle.tclchars.specs.Answers.{Gives};
 ghost use Rattle.tclchars.specs.Reading.{stopped_by};
@@ -16,14 +16,21 @@ use crate::marks::skip_white;
 use crate::reading::read_whole;
 use crate::tree::Expr;
 use std::alloc::Global;
-use tclchars::{Fault, MAX_BYTES, MAX_NESTING, ReadError, TextFault, place};
+use tclchars::{Fault, MAX_BYTES, MAX_NESTING, ReadError, TextFault, with_offset};
 use tclscript::Source;
 
-/// The tree of an expression (expr(n)), whose pieces are slices of the text. Takes memory in proportion to the text's
-/// length, time in proportion to that and, behind operands, to how deep they nest, and copies no text.
+/// The tree of an expression (expr(n)), whose pieces are slices of the text. Takes memory in proportion to the length
+/// of the text, and copies no text. The time is in proportion to the length too, and after each operand to how deep it
+/// nests.
 ///
-/// A text that is no expression is refused with the first fault in it and its place; a text of more than 1,048,576
-/// bytes is `TooLong`, and `OutOfMemory` says nothing of the text.
+/// - `TooLong`: the text has more than 1,048,576 bytes, whatever else is wrong.
+/// - `TooDeep`: operators, parentheses and brackets nest more than 200 deep.
+/// - `BadExpression`: no expression has what is at this offset there; the end of the text, where it ends too early.
+/// - `OpenBrace`, `OpenQuote`, `OpenBracket`, `JoinedToClose`, `BadCharacter`: an operand is wrong, as `parse_script`
+///   of tclscript has it.
+/// - `OutOfMemory`: a growth was refused; this says nothing about the text.
+///
+/// A text with several faults is refused with the first that a reader from left to right meets.
 pub fn parse_expr(alloc: Global, text: &str) -> Result<Expr<&str>, TextFault>
     // A tree that is returned is the text's, within the limits.
     ensures found { IfOk result (λ e. IsWithin text.now (expr_view (λ piece. piece.now) e)) }
@@ -32,7 +39,7 @@ pub fn parse_expr(alloc: Global, text: &str) -> Result<Expr<&str>, TextFault>
     ensures only { (e : tree.Expr operands.Operand) → IsWithin text.now e
         → MatchResult result (λ t. expr_view (λ piece. piece.now) t ≡ e) (λ f. f ≡ OutOfMemory) }
 
-    // A fault is the text's first, at its place.
+    // A fault is the first of the text, with its offset.
     ensures fault { IfErr result (IsTextFault text.now) }
 
     // The tree or the fault is the one that the definition computes, unless memory runs out.
@@ -55,7 +62,7 @@ pub fn parse_expr_pieces<S: Source<P>, P: Drop>(
     read_limited(alloc, source)
 }
 
-// The tree of a source within the limits, or its fault.
+/// The tree of a source within the limits, or its fault.
 fn read_limited<S: Source<P>, P: Drop>(alloc: Global, source: &S) -> Result<Expr<P>, TextFault>
     ensures { Reads (expr_view (S.shown source.now)) result (expr_of (S.text source.now)) }
 {
@@ -66,20 +73,20 @@ fn read_limited<S: Source<P>, P: Drop>(alloc: Global, source: &S) -> Result<Expr
     match read_source(alloc, source) {
         Ok(expression) => Ok(expression),
         Err(ReadError::Memory) => Err(TextFault::OutOfMemory),
-        Err(ReadError::Fault(fault)) => Err(place(fault, len)),
+        Err(ReadError::Fault(fault)) => Err(with_offset(fault, len)),
     }
 }
 
-// The tree of a source, with nothing but white space behind it.
+/// The tree of a source, after which nothing but white space follows.
 fn read_source<S: Source<P>, P: Drop>(alloc: Global, source: &S) -> Result<Expr<P>, ReadError>
     ensures { Gives stopped_by (expr_view (S.shown source.now)) result
         (expr_at operand_at max_nesting (S.text source.now)) }
 {
     let (expression, rest) = read_whole(alloc, source, source.as_str(), MAX_NESTING)?;
-    let left = skip_white(rest).len();
-    if left == 0 {
+    let remaining = skip_white(rest).len();
+    if remaining == 0 {
         Ok(expression.into_tree())
     } else {
-        Err(ReadError::Fault(Fault::BadExpression(left)))
+        Err(ReadError::Fault(Fault::BadExpression(remaining)))
     }
 }

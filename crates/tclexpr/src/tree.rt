@@ -1,4 +1,4 @@
-//! The tree of an expression.
+//! The tree of an expression: operators over operands.
 ghost use Rattle.std.specs.Prelude.{◌≡◌};
 
 use crate::operators::{BinaryOperator, UnaryOperator};
@@ -15,11 +15,11 @@ pub enum Operand<P> {
     Variable(P),
     /// The name of an array, and the parts of an index.
     Indexed(P, Vec<Part<P>>),
-    /// A script that stands for its result.
+    /// A script whose result is the operand.
     Bracket(Script<P>),
     /// The parts between quotes.
     Quoted(Vec<Part<P>>),
-    /// What stands between braces, as it is.
+    /// The text between braces, as it is.
     Braced(P),
 }
 
@@ -42,12 +42,14 @@ pub enum Expr<P> {
 
 /// An expression, with how deep operators, parentheses and brackets nest in it.
 pub(crate) struct WithHeight<P> {
+    /// The expression.
     pub tree: Expr<P>,
+    /// How deep operators, parentheses and brackets nest in it.
     pub height: usize,
 }
 
 impl<P> WithHeight<P> {
-    /// The expression itself.
+    /// The expression without its height.
     pub fn into_tree(self) -> Expr<P>
         ensures { result ≡ self.tree }
     {
@@ -59,7 +61,7 @@ impl<P> WithHeight<P> {
     }
 }
 
-// Not derived, so that it is dropped by one call, and no proof of a reader opens its tree at each way out.
+// Not derived, so that it is dropped by one call, and no proof of a reader opens its tree at each exit.
 impl<P: Drop> Drop for WithHeight<P> {
     fn drop(self) {
         let WithHeight {

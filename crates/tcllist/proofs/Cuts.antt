@@ -3,7 +3,7 @@ use Rattle.std.proofs.Common.{◌≡◌, ℕ, zero, suc, ◌+◌, ◌*◌, [], �
 use Rattle.std.proofs.lemmas.Bool.Decides.{nat_tests}
 use Rattle.std.specs.Char.{digit_value}
 use Rattle.tclchars.specs.Bytes.{newline, backslash, is_continuation, MayBegin}
-use Rattle.tclchars.specs.Runs.{Text, front, back}
+use Rattle.tclchars.specs.Runs.{Text, take_while, drop_while}
 use Rattle.tclchars.specs.Backslash.{after_backslash, is_octal, is_hexadecimal, character, octal_at, hexadecimal_at, code_at, wide_code_at, is_blank_or_tab, letter_value}
 use Rattle.tcllist.specs.ListGrammar as grammar
 use Rattle.tcllist.specs.ListGrammar.{ElementPiece}
@@ -95,29 +95,29 @@ letter_cut l v y bs rest h =
     let p = some_parts l v bs (y ∷ rest) h in
     record { taken = []; whole = p.1; again = λ other. ap (λ t. Some (t, y ∷ other)) p.0 }
 
-stops_there : (p : ℕ → Bool) (bs : Text) (y : ℕ) (rest : Text) → back p bs ≡ y ∷ rest → not (p y) ≡ true
+stops_there : (p : ℕ → Bool) (bs : Text) (y : ℕ) (rest : Text) → drop_while p bs ≡ y ∷ rest → not (p y) ≡ true
 stops_there p bs y rest e = subst (MayBegin (λ b. not (p b))) e (back_fails p bs)
 
-run_whole : (p : ℕ → Bool) (bs : Text) (y : ℕ) (rest : Text) → back p bs ≡ y ∷ rest → bs ≡ front p bs ++ y ∷ rest
-run_whole p bs y rest e = front_back p bs ∙ ap (λ xs. front p bs ++ xs) e
+run_whole : (p : ℕ → Bool) (bs : Text) (y : ℕ) (rest : Text) → drop_while p bs ≡ y ∷ rest → bs ≡ take_while p bs ++ y ∷ rest
+run_whole p bs y rest e = front_back p bs ∙ ap (λ xs. take_while p bs ++ xs) e
 
-back_cut : (l v : Text) (p : ℕ → Bool) (y : ℕ) (bs rest : Text) → (let left : Option (Text × Text) = Some (l, back p bs) in left ≡ Some (v, y ∷ rest)) → MarkCut (λ xs. Some (l, back p xs)) v bs y rest
+back_cut : (l v : Text) (p : ℕ → Bool) (y : ℕ) (bs rest : Text) → (let left : Option (Text × Text) = Some (l, drop_while p bs) in left ≡ Some (v, y ∷ rest)) → MarkCut (λ xs. Some (l, drop_while p xs)) v bs y rest
 back_cut l v p y bs rest h =
-    let q = some_parts l v (back p bs) (y ∷ rest) h in
+    let q = some_parts l v (drop_while p bs) (y ∷ rest) h in
     record {
-      taken = front p bs;
+      taken = take_while p bs;
       whole = run_whole p bs y rest q.1;
-      again = λ other. ap (λ xs. Some (l, xs)) (back_run p (front p bs) (y ∷ other) (front_passes p bs) (stops_there p bs y rest q.1)) ∙ ap (λ t. Some (t, y ∷ other)) q.0;
+      again = λ other. ap (λ xs. Some (l, xs)) (back_run p (take_while p bs) (y ∷ other) (front_passes p bs) (stops_there p bs y rest q.1)) ∙ ap (λ t. Some (t, y ∷ other)) q.0;
     }
 
-run_cut : (b : ℕ) (v : Text) (p : ℕ → Bool) (y : ℕ) (bs rest : Text) → (let left : Option (Text × Text) = Some (b ∷ front p bs, back p bs) in left ≡ Some (v, y ∷ rest)) → MarkCut (λ xs. Some (b ∷ front p xs, back p xs)) v bs y rest
+run_cut : (b : ℕ) (v : Text) (p : ℕ → Bool) (y : ℕ) (bs rest : Text) → (let left : Option (Text × Text) = Some (b ∷ take_while p bs, drop_while p bs) in left ≡ Some (v, y ∷ rest)) → MarkCut (λ xs. Some (b ∷ take_while p xs, drop_while p xs)) v bs y rest
 run_cut b v p y bs rest h =
-    let q = some_parts (b ∷ front p bs) v (back p bs) (y ∷ rest) h in
+    let q = some_parts (b ∷ take_while p bs) v (drop_while p bs) (y ∷ rest) h in
     let stop = stops_there p bs y rest q.1 in
     record {
-      taken = front p bs;
+      taken = take_while p bs;
       whole = run_whole p bs y rest q.1;
-      again = λ other. ap₂ (λ (f k : Text). Some (b ∷ f, k)) (front_run p (front p bs) (y ∷ other) (front_passes p bs) stop) (back_run p (front p bs) (y ∷ other) (front_passes p bs) stop) ∙ ap (λ t. Some (t, y ∷ other)) q.0;
+      again = λ other. ap₂ (λ (f k : Text). Some (b ∷ f, k)) (front_run p (take_while p bs) (y ∷ other) (front_passes p bs) stop) (back_run p (take_while p bs) (y ∷ other) (front_passes p bs) stop) ∙ ap (λ t. Some (t, y ∷ other)) q.0;
     }
 
 abbrev pub is_half : ℕ → Bool
@@ -200,8 +200,8 @@ octal_first b xs h = octal-digit 2 0 b xs true true h (small b h) where
 
 abbrev pub marked : ℕ → Bool → Bool → Bool → Bool → Bool → Bool → Text → Option (Text × Text)
 marked b n o x u l w xs =
-    if n then Some (32 ∷ [], back is_blank_or_tab xs) else if o then character (octal_at 3 0 (b ∷ xs)) else if x then code_at 2 b xs else if u then code_at 4 b xs
-    else if l then wide_code_at xs else if w then Some (b ∷ front is_continuation xs, back is_continuation xs) else Some (letter_value b ∷ [], xs)
+    if n then Some (32 ∷ [], drop_while is_blank_or_tab xs) else if o then character (octal_at 3 0 (b ∷ xs)) else if x then code_at 2 b xs else if u then code_at 4 b xs
+    else if l then wide_code_at xs else if w then Some (b ∷ take_while is_continuation xs, drop_while is_continuation xs) else Some (letter_value b ∷ [], xs)
 
 pub same_mark : (b : ℕ) (n o x u l w : Bool) → (b == newline) ≡ n → is_octal b ≡ o → (b == 120) ≡ x → (b == 117) ≡ u → (b == 85) ≡ l → nat_le 128 b ≡ w → (xs : Text) → after_backslash (b ∷ xs) ≡ marked b n o x u l w xs
 same_mark b n o x u l w n' o' x' u' l' w' xs =
@@ -213,7 +213,7 @@ mark_by : (b : ℕ) (v : Text) (y : ℕ) (bs rest : Text) (g : Text → Option (
 mark_by b v y bs rest g h is cut = under after_backslash g b is v y bs rest (cut (sym (is bs) ∙ h))
 
 mark_cases : (b : ℕ) (v : Text) (y : ℕ) (bs rest : Text) (n o x u l w : Bool) → (b == newline) ≡ n → is_octal b ≡ o → (b == 120) ≡ x → (b == 117) ≡ u → (b == 85) ≡ l → nat_le 128 b ≡ w → after_backslash (b ∷ bs) ≡ Some (v, y ∷ rest) → MarkCut after_backslash v (b ∷ bs) y rest
-mark_cases b v y bs rest true o x u l w n' o' x' u' l' w' h = mark_by b v y bs rest (λ xs. Some (32 ∷ [], back is_blank_or_tab xs)) h (same_mark b true o x u l w n' o' x' u' l' w') (back_cut (32 ∷ []) v is_blank_or_tab y bs rest)
+mark_cases b v y bs rest true o x u l w n' o' x' u' l' w' h = mark_by b v y bs rest (λ xs. Some (32 ∷ [], drop_while is_blank_or_tab xs)) h (same_mark b true o x u l w n' o' x' u' l' w') (back_cut (32 ∷ []) v is_blank_or_tab y bs rest)
 mark_cases b v y bs rest false true x u l w n' o' x' u' l' w' h =
     mark_by b v y bs rest (λ xs. character (octal_at 2 (0 * 8 + digit_value b) xs)) h (λ xs. same_mark b false true x u l w n' o' x' u' l' w' xs ∙ ap character (octal_first b xs o'))
     (character_cut (octal_at 2 (0 * 8 + digit_value b)) v y bs rest (λ k e. octal_cut 2 (0 * 8 + digit_value b) k y bs rest e))
@@ -221,7 +221,7 @@ mark_cases b v y bs rest false false true u l w n' o' x' u' l' w' h = mark_by b 
 mark_cases b v y bs rest false false false true l w n' o' x' u' l' w' h = mark_by b v y bs rest (code_at 4 b) h (same_mark b false false false true l w n' o' x' u' l' w') (code_cut 3 b v y bs rest)
 mark_cases b v y bs rest false false false false true w n' o' x' u' l' w' h = mark_by b v y bs rest wide_code_at h (same_mark b false false false false true w n' o' x' u' l' w') (wide_cut v y bs rest)
 mark_cases b v y bs rest false false false false false true n' o' x' u' l' w' h =
-    mark_by b v y bs rest (λ xs. Some (b ∷ front is_continuation xs, back is_continuation xs)) h (same_mark b false false false false false true n' o' x' u' l' w') (run_cut b v is_continuation y bs rest)
+    mark_by b v y bs rest (λ xs. Some (b ∷ take_while is_continuation xs, drop_while is_continuation xs)) h (same_mark b false false false false false true n' o' x' u' l' w') (run_cut b v is_continuation y bs rest)
 mark_cases b v y bs rest false false false false false false n' o' x' u' l' w' h =
     mark_by b v y bs rest (λ xs. Some (letter_value b ∷ [], xs)) h (same_mark b false false false false false false n' o' x' u' l' w') (letter_cut (letter_value b ∷ []) v y bs rest)
 

@@ -152,8 +152,8 @@ pub no_further : (bs more : Text) (at : ℕ) (es : List Text) → IsListFault bs
 no_further bs more at es h is =
     let k = faulty_cut h.3 h.1 refl in
     let place : at ≡ length k.taken = omega (arith, h.2, k.place, ap length k.whole, length-append k.taken (k.y ∷ k.rest)) in
-    let front : take (at + 1) bs ++ more ≡ k.taken ++ k.y ∷ more = ap (λ n. take (n + 1) bs ++ more) place ∙ ap (λ xs. take (length k.taken + 1) xs ++ more) k.whole ∙ up_to k.taken k.y k.rest more in
-    no_list (k.taken ++ k.y ∷ more) (k.again more).0 es (k.again more).1 (subst (λ xs. IsList xs es) front is)
+    let prefix : take (at + 1) bs ++ more ≡ k.taken ++ k.y ∷ more = ap (λ n. take (n + 1) bs ++ more) place ∙ ap (λ xs. take (length k.taken + 1) xs ++ more) k.whole ∙ up_to k.taken k.y k.rest more in
+    no_list (k.taken ++ k.y ∷ more) (k.again more).0 es (k.again more).1 (subst (λ xs. IsList xs es) prefix is)
 
 -- What is wrong with a backslash is wrong whatever follows the text
 bad_same : (m n : ℕ) → marks.BadCharacter m ≡ marks.BadCharacter n → m ≡ n

@@ -2,7 +2,7 @@
 use Rattle.std.proofs.Common.{◌≡◌, ◌<◌, List, [], ◌∷◌, ◌++◌, length, true, false, ◌==◌, Ok, Err, refl, sym, ap, subst, arith}
 use Rattle.std.proofs.lemmas.Bool.Decides.{nat_tests}
 use Rattle.tclchars.specs.Bytes.{is_space}
-use Rattle.tclchars.specs.Runs.{Text, back}
+use Rattle.tclchars.specs.Runs.{Text, drop_while}
 use Rattle.tclchars.specs.Reading.{◌>>=◌, Fails}
 use Rattle.tclchars.specs.declared.fault.ReadError.{ReadError}
 use Rattle.tclchars.specs.declared.fault.ReadError.TheVariants as errors
@@ -14,31 +14,31 @@ use Rattle.tcllist.proofs.ElementLemmas.{ElementGives, element_gives}
 use Rattle.tcllist.proofs.ReadLemmas.{element_length, goes_on}
 
 abbrev pub ListSoFar : Text → List Text → Text → Type 0
-ListSoFar = SoFar (back is_space) text_ends element_at
+ListSoFar = SoFar (drop_while is_space) text_ends element_at
 
-pub list-end : (bs : Text) (found : List Text) (rest start : Text) → start ≡ back is_space rest → text_ends start ≡ true → ListSoFar bs found rest → list_at bs ≡ Ok found
+pub list-end : (bs : Text) (found : List Text) (rest start : Text) → start ≡ drop_while is_space rest → text_ends start ≡ true → ListSoFar bs found rest → list_at bs ≡ Ok found
 unfolding list_at
 list-end bs found rest start e t s =
-    ap (λ r. r >>= (λ x. Ok x.0)) (so_far-end (back is_space) text_ends element_at bs found rest (subst (λ ys. text_ends ys ≡ true) e t) s)
+    ap (λ r. r >>= (λ x. Ok x.0)) (so_far-end (drop_while is_space) text_ends element_at bs found rest (subst (λ ys. text_ends ys ≡ true) e t) s)
 
-pub list-fails : (bs : Text) (found : List Text) (rest start : Text) (e : ReadError) → start ≡ back is_space rest → text_ends start ≡ false → Fails e (element_at start) → ListSoFar bs found rest → Fails e (list_at bs)
+pub list-fails : (bs : Text) (found : List Text) (rest start : Text) (e : ReadError) → start ≡ drop_while is_space rest → text_ends start ≡ false → Fails e (element_at start) → ListSoFar bs found rest → Fails e (list_at bs)
 unfolding list_at
 list-fails bs found rest start errors.Memory e t was s = tt
 list-fails bs found rest start (errors.Fault f) e t was s =
-    ap (λ r. r >>= (λ x. Ok x.0)) (so_far-fail (back is_space) text_ends element_at bs found rest f (subst (λ ys. text_ends ys ≡ false) e t) (subst (λ ys. element_at ys ≡ Err f) e was) s)
+    ap (λ r. r >>= (λ x. Ok x.0)) (so_far-fail (drop_while is_space) text_ends element_at bs found rest f (subst (λ ys. text_ends ys ≡ false) e t) (subst (λ ys. element_at ys ≡ Err f) e was) s)
 
-pub list-shorter : (rest start element after : Text) → start ≡ back is_space rest → text_ends start ≡ false → element_at start ≡ Ok (element, after) → length after < length rest
+pub list-shorter : (rest start element after : Text) → start ≡ drop_while is_space rest → text_ends start ≡ false → element_at start ≡ Ok (element, after) → length after < length rest
 list-shorter rest start element after e t was =
-    let x = back is_space rest in
+    let x = drop_while is_space rest in
     let starts = goes_on x (back_fails is_space rest) (subst (λ ys. text_ends ys ≡ false) e t) in
     let is : IsElement x element after = (subst (ElementGives x) (subst (λ ys. element_at ys ≡ Ok (element, after)) e was) (element_gives x starts)).0 in
     omega (arith, back_no_longer is_space rest, element_length is)
 
-pub list-more : (bs : Text) (found : List Text) (rest start element after : Text) (found' : List Text) → start ≡ back is_space rest → text_ends start ≡ false → element_at start ≡ Ok (element, after)
+pub list-more : (bs : Text) (found : List Text) (rest start element after : Text) (found' : List Text) → start ≡ drop_while is_space rest → text_ends start ≡ false → element_at start ≡ Ok (element, after)
     → found' ≡ found ++ element ∷ [] → ListSoFar bs found rest → ListSoFar bs found' after
 list-more bs found rest start element after found' e t was made s =
     subst (λ es. ListSoFar bs es after) (sym made)
-    (so_far-more (back is_space) text_ends element_at bs found rest element after (subst (λ ys. text_ends ys ≡ false) e t) (subst (λ ys. element_at ys ≡ Ok (element, after)) e was)
+    (so_far-more (drop_while is_space) text_ends element_at bs found rest element after (subst (λ ys. text_ends ys ≡ false) e t) (subst (λ ys. element_at ys ≡ Ok (element, after)) e was)
     (list-shorter rest start element after e t was) s)
 
 pub empty_ends : (bs : Text) → (length bs == 0) ≡ text_ends bs

@@ -3,7 +3,7 @@ use Rattle.std.proofs.Common.{◌≡◌, ℕ, zero, suc, ◌+◌, ◌*◌, ◌<�
 use Rattle.std.proofs.lemmas.Bool.Decides.{nat_tests}
 use Rattle.std.specs.Char.{digit_value}
 use Rattle.tclchars.specs.Bytes.{newline, is_continuation}
-use Rattle.tclchars.specs.Runs.{Text, front, back}
+use Rattle.tclchars.specs.Runs.{Text, take_while, drop_while}
 use Rattle.tclchars.specs.Backslash.{after_backslash, is_octal, is_hexadecimal, character, octal_at, hexadecimal_at, code_at, wide_code_at, is_blank_or_tab, letter_value}
 use Rattle.tcllist.specs.ListFaults.{StandsForNothing}
 use Rattle.tcllist.proofs.Cuts.{octal-digit, hexadecimal-digit, code-digit, code-none, wide-none, is_half, character-whole, character-half, same_mark}
@@ -123,7 +123,7 @@ wide_more [] more e = absurd (some_none (85 ∷ [], []) e)
 wide_more (h ∷ bs) more e = wide_cases h bs more (is_hexadecimal h) refl e
 
 nothing_cases : (b : ℕ) (bs more : Text) (n o x u l w : Bool) → (b == newline) ≡ n → is_octal b ≡ o → (b == 120) ≡ x → (b == 117) ≡ u → (b == 85) ≡ l → nat_le 128 b ≡ w → after_backslash (b ∷ bs) ≡ None → after_backslash (b ∷ (bs ++ more)) ≡ None
-nothing_cases b bs more true o x u l w n' o' x' u' l' w' h = absurd (some_none (32 ∷ [], back is_blank_or_tab bs) (sym (same_mark b true o x u l w n' o' x' u' l' w' bs) ∙ h))
+nothing_cases b bs more true o x u l w n' o' x' u' l' w' h = absurd (some_none (32 ∷ [], drop_while is_blank_or_tab bs) (sym (same_mark b true o x u l w n' o' x' u' l' w' bs) ∙ h))
 nothing_cases b bs more false true x u l w n' o' x' u' l' w' h =
     let small = octal_small 3 0 (b ∷ bs) (omega arith) in
     absurd (small_is (octal_at 3 0 (b ∷ bs)).0 (octal_at 3 0 (b ∷ bs)).1 (omega (arith, small)) (sym (same_mark b false true x u l w n' o' x' u' l' w' bs) ∙ h))
@@ -133,7 +133,7 @@ nothing_cases b bs more false false false true l w n' o' x' u' l' w' h =
 nothing_cases b bs more false false false false true w n' o' x' u' l' w' h =
     same_mark b false false false false true w n' o' x' u' l' w' (bs ++ more) ∙ wide_more bs more (sym (same_mark b false false false false true w n' o' x' u' l' w' bs) ∙ h)
 nothing_cases b bs more false false false false false true n' o' x' u' l' w' h =
-    absurd (some_none (b ∷ front is_continuation bs, back is_continuation bs) (sym (same_mark b false false false false false true n' o' x' u' l' w' bs) ∙ h))
+    absurd (some_none (b ∷ take_while is_continuation bs, drop_while is_continuation bs) (sym (same_mark b false false false false false true n' o' x' u' l' w' bs) ∙ h))
 nothing_cases b bs more false false false false false false n' o' x' u' l' w' h =
     absurd (some_none (letter_value b ∷ [], bs) (sym (same_mark b false false false false false false n' o' x' u' l' w' bs) ∙ h))
 

@@ -3,7 +3,7 @@ use Rattle.std.proofs.Common.{◌≡◌, ℕ, zero, suc, ◌<◌, ◌≤◌, [],
 use Rattle.std.proofs.lemmas.Bool.Decides.{nat_tests}
 use Rattle.std.specs.Str.{IsCharBoundary}
 use Rattle.tclchars.specs.Bytes.{backslash, AllPass, MayBegin}
-use Rattle.tclchars.specs.Runs.{Text, front, back, begins}
+use Rattle.tclchars.specs.Runs.{Text, take_while, drop_while, begins}
 use Rattle.tclchars.specs.Backslash.{after_backslash}
 use Rattle.tclchars.specs.Reading.{Read, read_map}
 use Rattle.tclchars.specs.declared.fault.Fault.TheVariants as marks
@@ -43,9 +43,9 @@ run_piece end (b ∷ run) rest h =
     grammar.ElementPiece.plain two.0 two.1 (run_piece end run rest h.1)
 
 -- a run in front is read
-so_far-run : (end : End) (bs value rest run marked : Text) → run ≡ front (is_plain_before end) rest → marked ≡ back (is_plain_before end) rest → PieceSoFar end bs value rest → PieceSoFar end bs (value ++ run) marked
+so_far-run : (end : End) (bs value rest run marked : Text) → run ≡ take_while (is_plain_before end) rest → marked ≡ drop_while (is_plain_before end) rest → PieceSoFar end bs value rest → PieceSoFar end bs (value ++ run) marked
 so_far-run end bs value rest run marked r m s =
-    let whole : rest ≡ run ++ marked = front_back (is_plain_before end) rest ∙ ap (λ xs. xs ++ back (is_plain_before end) rest) (sym r) ∙ ap (λ xs. run ++ xs) (sym m) in
+    let whole : rest ≡ run ++ marked = front_back (is_plain_before end) rest ∙ ap (λ xs. xs ++ drop_while (is_plain_before end) rest) (sym r) ∙ ap (λ xs. run ++ xs) (sym m) in
     let piece = run_piece end run marked (subst (AllPass (is_plain_before end)) (sym r) (front_passes (is_plain_before end) rest)) in
     let enough = s.enough in
     let left = piece_left (ends_piece end) (backslash_off end) piece s.turns (subst (λ (xs : Text). length xs < s.turns) whole enough) in
@@ -74,20 +74,20 @@ no_backslash end (b ∷ rest) h k = cases (ends_piece end b) (b == backslash) h 
   cases false true h k = cc
   cases false false h k = cc
 
-pub piece-ends : (end : End) (bs value rest run marked value' : Text) → run ≡ front (is_plain_before end) rest → marked ≡ back (is_plain_before end) rest → value' ≡ value ++ run → begins backslash marked ≡ false → PieceSoFar end bs value rest
+pub piece-ends : (end : End) (bs value rest run marked value' : Text) → run ≡ take_while (is_plain_before end) rest → marked ≡ drop_while (is_plain_before end) rest → value' ≡ value ++ run → begins backslash marked ≡ false → PieceSoFar end bs value rest
     → piece_of (ends_piece end) bs ≡ Ok (value', marked)
 piece-ends end bs value rest run marked value' r m v none s =
     ends_rest end bs (value ++ run) marked (no_backslash end marked (subst (MayBegin (λ b. not (is_plain_before end b))) (sym m) (back_fails (is_plain_before end) rest)) none) (so_far-run end bs value rest run marked r m s)
     ∙ ap (λ t. Ok (t, marked)) (sym v)
 
-at_backslash : (end : End) (bs value rest run marked behind : Text) → run ≡ front (is_plain_before end) rest → marked ≡ back (is_plain_before end) rest → marked ≡ backslash ∷ behind → PieceSoFar end bs value rest → PieceSoFar end bs (value ++ run) (backslash ∷ behind)
+at_backslash : (end : End) (bs value rest run marked behind : Text) → run ≡ take_while (is_plain_before end) rest → marked ≡ drop_while (is_plain_before end) rest → marked ≡ backslash ∷ behind → PieceSoFar end bs value rest → PieceSoFar end bs (value ++ run) (backslash ∷ behind)
 at_backslash end bs value rest run marked behind r m is s = subst (PieceSoFar end bs (value ++ run)) is (so_far-run end bs value rest run marked r m s)
 
 empty : (bs : Text) → length bs ≡ 0 → bs ≡ []
 empty [] h = refl
 empty (b ∷ bs) h = absurd (omega arith)
 
-pub piece-last : (end : End) (bs value rest run marked behind value' : Text) → run ≡ front (is_plain_before end) rest → marked ≡ back (is_plain_before end) rest → marked ≡ backslash ∷ behind → length behind ≡ 0
+pub piece-last : (end : End) (bs value rest run marked behind value' : Text) → run ≡ take_while (is_plain_before end) rest → marked ≡ drop_while (is_plain_before end) rest → marked ≡ backslash ∷ behind → length behind ≡ 0
     → value' ≡ (value ++ run) ++ backslash ∷ [] → PieceSoFar end bs value rest → piece_of (ends_piece end) bs ≡ Ok (value', behind)
 piece-last end bs value rest run marked behind value' r m is len v s =
     let none : behind ≡ [] = empty behind len in
@@ -99,7 +99,7 @@ nothing_mark : (more : Text → Read Text) (rest : Text) → 0 < length rest →
 nothing_mark more [] some h = absurd (omega arith)
 nothing_mark more (b ∷ rest) some h = ap (escaped_at more (b ∷ rest)) h
 
-pub piece-bad : (end : End) (bs value rest run marked behind : Text) (left : ℕ) → run ≡ front (is_plain_before end) rest → marked ≡ back (is_plain_before end) rest → marked ≡ backslash ∷ behind → 0 < length behind
+pub piece-bad : (end : End) (bs value rest run marked behind : Text) (left : ℕ) → run ≡ take_while (is_plain_before end) rest → marked ≡ drop_while (is_plain_before end) rest → marked ≡ backslash ∷ behind → 0 < length behind
     → after_backslash behind ≡ None → left ≡ length marked → PieceSoFar end bs value rest → piece_of (ends_piece end) bs ≡ Err (marks.BadCharacter left)
 piece-bad end bs value rest run marked behind left r m is some none l s = go here.turns here.enough here.whole ∙ ap (λ n. Err (marks.BadCharacter n)) (ap length (sym is) ∙ sym l) where
   here : PieceSoFar end bs (value ++ run) (backslash ∷ behind)
@@ -109,7 +109,7 @@ piece-bad end bs value rest run marked behind left r m is some none l s = go her
   go zero lt w = absurd (omega arith)
   go (suc n) lt w = w ∙ ap (read_map (λ t. (value ++ run) ++ t)) (piece-backslash (ends_piece end) (backslash_off end) n behind ∙ nothing_mark (piece_at (ends_piece end) n) behind some none)
 
-pub piece-more : (end : End) (bs value rest run marked behind v after value' : Text) → run ≡ front (is_plain_before end) rest → marked ≡ back (is_plain_before end) rest → marked ≡ backslash ∷ behind → after_backslash behind ≡ Some (v, after)
+pub piece-more : (end : End) (bs value rest run marked behind v after value' : Text) → run ≡ take_while (is_plain_before end) rest → marked ≡ drop_while (is_plain_before end) rest → marked ≡ backslash ∷ behind → after_backslash behind ≡ Some (v, after)
     → value' ≡ (value ++ run) ++ v → PieceSoFar end bs value rest → PieceSoFar end bs value' after
 piece-more end bs value rest run marked behind v after value' r m is stands made s = go here.turns here.enough here.whole where
   here : PieceSoFar end bs (value ++ run) (backslash ∷ behind)
@@ -125,7 +125,7 @@ piece-more end bs value rest run marked behind v after value' r m is stands made
         ∙ read_map-append (value ++ run) v (piece_at (ends_piece end) n after) ∙ ap (λ x. read_map (λ t. x ++ t) (piece_at (ends_piece end) n after)) (sym made);
   }
 
-pub piece-shorter : (end : End) (rest marked behind v after : Text) → marked ≡ back (is_plain_before end) rest → marked ≡ backslash ∷ behind → after_backslash behind ≡ Some (v, after) → length after < length rest
+pub piece-shorter : (end : End) (rest marked behind v after : Text) → marked ≡ drop_while (is_plain_before end) rest → marked ≡ backslash ∷ behind → after_backslash behind ≡ Some (v, after) → length after < length rest
 piece-shorter end rest marked behind v after m is stands = omega (arith, taken_length behind v after stands, ap length m, ap length is, back_no_longer (is_plain_before end) rest)
 
 -- Cuts

@@ -15,7 +15,7 @@ use Rattle.tcllist.proofs.BackslashTaken.{taken_length}
 
 -- a piece that is read ends at what ends it, at the text's end, or with a backslash there
 abbrev pub PieceRead : (ℕ → Bool) → Text → Text → Text → Type 0
-PieceRead ends bs e rest = (ElementPiece ends bs e rest × MayBegin ends rest) ⊎ ((front : Text) × ElementPiece ends bs front (backslash ∷ []) × (e ≡ front ++ backslash ∷ []) × (rest ≡ []))
+PieceRead ends bs e rest = (ElementPiece ends bs e rest × MayBegin ends rest) ⊎ ((prefix : Text) × ElementPiece ends bs prefix (backslash ∷ []) × (e ≡ prefix ++ backslash ∷ []) × (rest ≡ []))
 
 -- a piece that is refused comes to a backslash that stands for nothing
 abbrev pub PieceRefused : (ℕ → Bool) → Text → Fault → Type 0

@@ -2,7 +2,7 @@
 use Rattle.std.proofs.Common.{◌≡◌, ℕ, zero, suc, ◌<◌, ◌≤◌, List, [], ◌∷◌, ◌++◌, length, Bool, true, false, not, Result, Ok, Err, refl, sym, ap, subst, ◌∙◌, arith, append-nil, length-append}
 use Rattle.std.proofs.lemmas.Bool.Decides.{nat_tests}
 use Rattle.tclchars.specs.Bytes.{is_space, AllPass, MayBegin, DoesBegin}
-use Rattle.tclchars.specs.Runs.{Text, front, back}
+use Rattle.tclchars.specs.Runs.{Text, take_while, drop_while}
 use Rattle.tclchars.specs.Reading.{◌>>=◌, Read, read_map, items_at, items_step}
 use Rattle.tclchars.specs.declared.fault.Fault.{Fault}
 use Rattle.tclchars.proofs.Results.{ok_same, err_same, ok_err}
@@ -44,7 +44,7 @@ element_length (grammar.IsElement.bare {bs} starts (grammar.Bare.backslash_last 
 
 -- Lists
 abbrev pub reads : ℕ → Text → Read (List Text)
-reads = items_at (back is_space) text_ends element_at
+reads = items_at (drop_while is_space) text_ends element_at
 
 abbrev pub ListGives : Text → Read (List Text) → Type 0
 ListGives bs (Ok p) = IsList bs p.0
@@ -76,8 +76,8 @@ pub list_gives : (n : ℕ) (bs : Text) → length bs < n → ListGives bs (reads
 list_gives zero bs lt = absurd (omega arith)
 list_gives (suc n) bs lt =
     subst (λ ys. ListGives ys (reads (suc n) bs)) (sym (front_back is_space bs))
-    (gives_step (reads n) (front is_space bs) (back is_space bs) (front_passes is_space bs) (back_fails is_space bs)
-    (λ q less. list_gives n q (omega (arith, back_no_longer is_space bs))) (text_ends (back is_space bs)) refl)
+    (gives_step (reads n) (take_while is_space bs) (drop_while is_space bs) (front_passes is_space bs) (back_fails is_space bs)
+    (λ q less. list_gives n q (omega (arith, back_no_longer is_space bs))) (text_ends (drop_while is_space bs)) refl)
 
 -- The other way
 does_may : (p : ℕ → Bool) (bs : Text) → DoesBegin p bs → MayBegin p bs
@@ -88,22 +88,22 @@ no_end : (p : ℕ → Bool) (bs : Text) → DoesBegin p bs → text_ends bs ≡ 
 no_end p [] h = absurd h
 no_end p (b ∷ bs) h = refl
 
-only_spaces : (bs : Text) → AllPass is_space bs → back is_space bs ≡ []
-only_spaces bs h = ap (back is_space) (sym (append-nil bs)) ∙ back_run is_space bs [] h tt
+only_spaces : (bs : Text) → AllPass is_space bs → drop_while is_space bs ≡ []
+only_spaces bs h = ap (drop_while is_space) (sym (append-nil bs)) ∙ back_run is_space bs [] h tt
 
-behind_spaces : (bs spaces body : Text) → bs ≡ spaces ++ body → AllPass is_space spaces → DoesBegin (λ b. not (is_space b)) body → back is_space bs ≡ body
-behind_spaces bs spaces body w pass starts = ap (back is_space) w ∙ back_run is_space spaces body pass (does_may (λ b. not (is_space b)) body starts)
+behind_spaces : (bs spaces body : Text) → bs ≡ spaces ++ body → AllPass is_space spaces → DoesBegin (λ b. not (is_space b)) body → drop_while is_space bs ≡ body
+behind_spaces bs spaces body w pass starts = ap (drop_while is_space) w ∙ back_run is_space spaces body pass (does_may (λ b. not (is_space b)) body starts)
 
 read-more : (n : ℕ) (bs spaces body e rest : Text) → bs ≡ spaces ++ body → AllPass is_space spaces → IsElement body e rest → MayBegin is_space rest → reads (suc n) bs ≡ read_map (λ es. e ∷ es) (reads n rest)
 read-more n bs spaces body e rest w pass is h =
     let start = behind_spaces bs spaces body w pass (element_starts is) in
-    items-more (back is_space) text_ends element_at n bs e rest (ap text_ends start ∙ no_end (λ b. not (is_space b)) body (element_starts is)) (ap element_at start ∙ element_read is h)
+    items-more (drop_while is_space) text_ends element_at n bs e rest (ap text_ends start ∙ no_end (λ b. not (is_space b)) body (element_starts is)) (ap element_at start ∙ element_read is h)
 
 shorter_rest : (bs spaces body e rest : Text) → bs ≡ spaces ++ body → IsElement body e rest → length rest < length bs
 shorter_rest bs spaces body e rest w is = omega (arith, ap length w, length-append spaces body, element_length is)
 
 pub list_read : (es : List Text) (n : ℕ) (bs : Text) → IsList bs es → length bs < n → reads n bs ≡ Ok (es, [])
-list_read [] n bs h lt = items-end (back is_space) text_ends element_at n bs (omega arith) (ap text_ends (only_spaces bs h)) ∙ ap (λ r. Ok ([], r)) (only_spaces bs h)
+list_read [] n bs h lt = items-end (drop_while is_space) text_ends element_at n bs (omega arith) (ap text_ends (only_spaces bs h)) ∙ ap (λ r. Ok ([], r)) (only_spaces bs h)
 list_read (e ∷ es) zero bs h lt = absurd (omega arith)
 list_read (e ∷ es) (suc n) bs h lt =
     read-more n bs h.spaces h.body e h.rest h.whole h.are_spaces h.is_element h.is_parted
@@ -112,7 +112,7 @@ list_read (e ∷ es) (suc n) bs h lt =
 pub list_wrong : {bs : Text} {f : Fault} → IsFaulty bs f → (n : ℕ) → length bs < n → reads n bs ≡ Err f
 list_wrong (here spaces body {f} pass wrong) n lt =
     let start = behind_spaces (spaces ++ body) spaces body refl pass (wrong_starts wrong) in
-    items-fail (back is_space) text_ends element_at n (spaces ++ body) f (omega arith) (ap text_ends start ∙ no_end (λ b. not (is_space b)) body (wrong_starts wrong)) (ap element_at start ∙ element_wrong wrong)
+    items-fail (drop_while is_space) text_ends element_at n (spaces ++ body) f (omega arith) (ap text_ends start ∙ no_end (λ b. not (is_space b)) body (wrong_starts wrong)) (ap element_at start ∙ element_wrong wrong)
 list_wrong (behind spaces body {e} {rest} {f} pass is h more) zero lt = absurd (omega arith)
 list_wrong (behind spaces body {e} {rest} {f} pass is h more) (suc n) lt =
     read-more n (spaces ++ body) spaces body e rest refl pass is h

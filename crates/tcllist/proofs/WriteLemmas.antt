@@ -3,11 +3,11 @@ use Rattle.std.proofs.Common.{◌≡◌, ℕ, ◌<◌, [], ◌∷◌, ◌++◌, 
 use Rattle.std.proofs.lemmas.Bool.Decides.{nat_tests}
 use Rattle.tclchars.specs.Bytes.{is_plain, AllPass, MayBegin}
 use Rattle.tclchars.specs.Runs.{Text}
-use Rattle.tclchars.specs.Runs.{front, back}
+use Rattle.tclchars.specs.Runs.{take_while, drop_while}
 use Rattle.tcllist.specs.Lists.{is_marked, begins_marked, letter_of, escape}
 use Rattle.tcllist.proofs.Runs.{front_back, front_passes, back_fails}
 use Rattle.std.specs.List.{list_all}
-use Rattle.tclchars.proofs.RunLemmas.{back-cons_true, back-cons_false}
+use Rattle.tclchars.proofs.RunLemmas.{drop_while-cons_true, drop_while-cons_false}
 use Rattle.tcllist.proofs.Runs.{back_no_longer}
 
 pub marked_ascii : (b : ℕ) → is_marked b ≡ true → b < 128
@@ -39,29 +39,29 @@ unmarked_end (b ∷ bs) h k = absurd (both (is_marked b) h k) where
   both true h k = cc
   both false h k = cc
 
-pub escapes-end : (old new run rest marked all : Text) → run ≡ front is_plain rest → marked ≡ back is_plain rest → begins_marked marked ≡ false → new ≡ old ++ run → old ++ flat_map escape rest ≡ all → new ≡ all
+pub escapes-end : (old new run rest marked all : Text) → run ≡ take_while is_plain rest → marked ≡ drop_while is_plain rest → begins_marked marked ≡ false → new ≡ old ++ run → old ++ flat_map escape rest ≡ all → new ≡ all
 escapes-end old new run rest marked all r m none n so =
-    let ends : back is_plain rest ≡ [] = unmarked_end (back is_plain rest) (subst (λ ys. begins_marked ys ≡ false) m none) (back_fails is_plain rest) in
-    let whole : flat_map escape rest ≡ front is_plain rest = ap (flat_map escape) (front_back is_plain rest) ∙ run_escapes (front is_plain rest) (back is_plain rest) (front_passes is_plain rest) ∙ ap (λ ys. front is_plain rest ++ flat_map escape ys) ends ∙ append-nil (front is_plain rest) in
+    let ends : drop_while is_plain rest ≡ [] = unmarked_end (drop_while is_plain rest) (subst (λ ys. begins_marked ys ≡ false) m none) (back_fails is_plain rest) in
+    let whole : flat_map escape rest ≡ take_while is_plain rest = ap (flat_map escape) (front_back is_plain rest) ∙ run_escapes (take_while is_plain rest) (drop_while is_plain rest) (front_passes is_plain rest) ∙ ap (λ ys. take_while is_plain rest ++ flat_map escape ys) ends ∙ append-nil (take_while is_plain rest) in
     n ∙ ap (λ ys. old ++ ys) (r ∙ sym whole) ∙ so
 
-pub escapes-more : (old new run rest marked after all : Text) (b : ℕ) → run ≡ front is_plain rest → marked ≡ back is_plain rest → marked ≡ b ∷ after → is_marked b ≡ true → new ≡ ((old ++ run) ++ 92 ∷ []) ++ letter_of b ∷ []
+pub escapes-more : (old new run rest marked after all : Text) (b : ℕ) → run ≡ take_while is_plain rest → marked ≡ drop_while is_plain rest → marked ≡ b ∷ after → is_marked b ≡ true → new ≡ ((old ++ run) ++ 92 ∷ []) ++ letter_of b ∷ []
     → old ++ flat_map escape rest ≡ all → new ++ flat_map escape after ≡ all
 escapes-more old new run rest marked after all b r m e h n so =
     let whole : flat_map escape rest ≡ run ++ (92 ∷ (letter_of b ∷ flat_map escape after)) =
-    ap (flat_map escape) (front_back is_plain rest) ∙ run_escapes (front is_plain rest) (back is_plain rest) (front_passes is_plain rest)
-    ∙ ap (λ ys. front is_plain rest ++ flat_map escape ys) (sym m ∙ e) ∙ ap (λ ys. front is_plain rest ++ (ys ++ flat_map escape after)) (marked_escape b h) ∙ ap (λ ys. ys ++ (92 ∷ (letter_of b ∷ flat_map escape after))) (sym r)
+    ap (flat_map escape) (front_back is_plain rest) ∙ run_escapes (take_while is_plain rest) (drop_while is_plain rest) (front_passes is_plain rest)
+    ∙ ap (λ ys. take_while is_plain rest ++ flat_map escape ys) (sym m ∙ e) ∙ ap (λ ys. take_while is_plain rest ++ (ys ++ flat_map escape after)) (marked_escape b h) ∙ ap (λ ys. ys ++ (92 ∷ (letter_of b ∷ flat_map escape after))) (sym r)
     in
     ap (λ ys. ys ++ flat_map escape after) n ∙ simp append_assoc (sym (ap (λ ys. old ++ ys) whole)) ∙ so
 
-pub escapes-shorter : (rest marked after : Text) (b : ℕ) → marked ≡ back is_plain rest → marked ≡ b ∷ after → length after < length rest
+pub escapes-shorter : (rest marked after : Text) (b : ℕ) → marked ≡ drop_while is_plain rest → marked ≡ b ∷ after → length after < length rest
 escapes-shorter rest marked after b m e = omega (arith, back_no_longer is_plain rest, ap length m, ap length e)
 
-no_more-cons : (p : ℕ → Bool) (b : ℕ) (bs : Text) (t : Bool) → p b ≡ t → (length (back p bs) == 0) ≡ list_all p bs → (length (back p (b ∷ bs)) == 0) ≡ list_all p (b ∷ bs)
-no_more-cons p b bs true t so = rw (back-cons_true p b bs t, t) so
-no_more-cons p b bs false t so = rw (back-cons_false p b bs t, t) (grind (arith, nat_tests))
+no_more-cons : (p : ℕ → Bool) (b : ℕ) (bs : Text) (t : Bool) → p b ≡ t → (length (drop_while p bs) == 0) ≡ list_all p bs → (length (drop_while p (b ∷ bs)) == 0) ≡ list_all p (b ∷ bs)
+no_more-cons p b bs true t so = rw (drop_while-cons_true p b bs t, t) so
+no_more-cons p b bs false t so = rw (drop_while-cons_false p b bs t, t) (grind (arith, nat_tests))
 
 -- all pass where nothing follows the run
-pub no_more : (p : ℕ → Bool) (bs : Text) → (length (back p bs) == 0) ≡ list_all p bs
+pub no_more : (p : ℕ → Bool) (bs : Text) → (length (drop_while p bs) == 0) ≡ list_all p bs
 no_more p [] = refl
 no_more p (b ∷ bs) = no_more-cons p b bs (p b) refl (no_more p bs)

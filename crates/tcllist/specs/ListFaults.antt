@@ -1,4 +1,4 @@
--- What is wrong with a text that is no list.
+-- What is wrong with a text that is no list (own): the first element that is wrong.
 use Rattle.std.specs.Prelude.{◌≡◌, suc, [], ◌∷◌, ◌++◌, ◌⊎◌, length, not, None}
 use Rattle.tclchars.specs.Bytes.{backslash, is_space, AllPass, MayBegin, DoesBegin, quote, left_brace, right_brace}
 use Rattle.tclchars.specs.Runs.{Text}
@@ -10,7 +10,7 @@ use Rattle.tclchars.specs.declared.fault.Fault.TheVariants as marks
 use Rattle.tclchars.specs.declared.fault.TextFault.{TextFault}
 use Rattle.tcllist.specs.ListGrammar.{ElementPiece, is_quote, begins_element, IsElement}
 
--- a first byte that is no white space
+-- the first byte is no white space
 abbrev pub IsJoined : Text → Type 0
 IsJoined bs = DoesBegin (λ b. not (is_space b)) bs
 
@@ -18,13 +18,13 @@ IsJoined bs = DoesBegin (λ b. not (is_space b)) bs
 abbrev pub IsLast : Text → Type 0
 IsLast bs = (bs ≡ []) ⊎ (bs ≡ backslash ∷ [])
 
--- there is more, and a backslash in front of it stands for nothing
+-- after a backslash: there is more, and together they stand for nothing
 abbrev pub StandsForNothing : Text → Type 0
 StandsForNothing [] = ⊥
 StandsForNothing (b ∷ bs) = after_backslash (b ∷ bs) ≡ None
 
--- An element that is wrong stands in front of the text. A fault has the number of bytes from its mark on: from the mark
--- that nothing closes, the character that is joined to what closes, or the backslash that stands for nothing
+-- The text begins with an element that is wrong. The fault has the number of bytes that remain from its mark on: the
+-- mark that nothing closes, the character that is joined to what closes, or the backslash that stands for nothing.
 pub data IsWrong : Text → Fault → Type 0 where
   open_brace : {bs : Text} → ((inside rest : Text) → bs ≡ inside ++ right_brace ∷ rest → Balanced inside → ⊥)
       → IsWrong (left_brace ∷ bs) (marks.OpenBrace (suc (length bs)))
@@ -45,6 +45,6 @@ pub data IsFaulty : Text → Fault → Type 0 where
   behind : (spaces body : Text) {e rest : Text} {f : Fault} → AllPass is_space spaces → IsElement body e rest
       → MayBegin is_space rest → IsFaulty rest f → IsFaulty (spaces ++ body) f
 
--- what is wrong with a text: it is too long, or its fault
+-- what is wrong with a text: it is too long, or its fault with the offset
 abbrev pub IsListFault : Text → TextFault → Type 0
 IsListFault bs f = IsFaultOf IsFaulty bs f

@@ -1,13 +1,13 @@
--- The grammar of lists: which texts are lists, with their elements (Tcl(n), list words as lindex(n) reads them), by
--- cases on the elements.
+-- The grammar of lists: which texts are lists, with their elements (Tcl(n), and lists as lindex(n) reads them). The
+-- definitions go by cases on the elements.
 use Rattle.std.specs.Prelude.{◌≡◌, ℕ, List, [], ◌∷◌, ◌++◌, Bool, false, not, ◌||◌, ◌==◌, Some}
 use Rattle.tclchars.specs.Bytes.{backslash, is_space, AllPass, MayBegin, DoesBegin, quote, left_brace, right_brace}
 use Rattle.tclchars.specs.Runs.{Text}
 use Rattle.tclchars.specs.Backslash.{after_backslash}
 use Rattle.tclchars.specs.Braces.{Balanced}
 
--- A piece of an element that is bare or in quotes, with its value and what follows. A byte that neither ends the
--- element nor is a backslash stands for itself, and a backslash with what is read behind it for what Tcl(n) says
+-- The beginning of an element without braces, with its value and the rest. A byte that neither ends the element nor is
+-- a backslash is literal; a backslash and what it takes with it stand for what Tcl(n) says.
 pub data ElementPiece (ends : ℕ → Bool) : Text → Text → Text → Type 0 where
   nothing : {rest : Text} → ElementPiece ends rest [] rest
   plain : {b : ℕ} {bs ts rest : Text} → ends b ≡ false → (b == backslash) ≡ false → ElementPiece ends bs ts rest
@@ -18,16 +18,17 @@ pub data ElementPiece (ends : ℕ → Bool) : Text → Text → Text → Type 0 
 abbrev pub is_quote : ℕ → Bool
 is_quote b = b == quote
 
--- a bare element stands in front of the text, up to white space or the end. A backslash at the text's end is itself
+-- The text begins with an element without braces and quotes, up to white space or the end. A backslash at the end of
+-- the text is literal.
 pub data Bare : Text → Text → Text → Type 0 where
   parted : {bs e rest : Text} → ElementPiece is_space bs e rest → MayBegin is_space rest → Bare bs e rest
   backslash_last : {bs e : Text} → ElementPiece is_space bs e (backslash ∷ []) → Bare bs (e ++ backslash ∷ []) []
 
--- what a bare element begins with
+-- what an element without braces and quotes begins with
 abbrev pub begins_element : ℕ → Bool
 begins_element b = not (is_space b || b == quote || b == left_brace)
 
--- an element stands in front of the text, with its value and what follows; in braces it is taken as it stands
+-- The text begins with an element of this value, and then comes the rest; in braces the element is taken as it is.
 pub data IsElement : Text → Text → Text → Type 0 where
   in_braces : {bs e : Text} (rest : Text) → bs ≡ e ++ right_brace ∷ rest → Balanced e
       → IsElement (left_brace ∷ bs) e rest
@@ -50,6 +51,6 @@ abbrev pub IsList : Text → List Text → Type 0
 IsList bs [] = AllPass is_space bs
 IsList bs (e ∷ es) = Elements bs e (λ rest. IsList rest es)
 
--- some list begins with the text
+-- the text is the beginning of some list
 abbrev pub BeginsList : Text → Type 0
 BeginsList bs = (more : Text) × (es : List Text) × IsList (bs ++ more) es

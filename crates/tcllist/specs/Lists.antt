@@ -1,4 +1,4 @@
--- The text that stands for a list of texts.
+-- The text that is written for a list of elements (own in its choice of spelling; it is read as list(n) says).
 use Rattle.std.specs.Prelude.{ℕ, zero, suc, List, [], ◌∷◌, ◌++◌, Bool, false, not, ◌||◌, ◌&&◌, ◌==◌, if◌then◌else◌, Option, Some, None, flat_map}
 use Rattle.std.specs.List.{list_all}
 use Rattle.tclchars.specs.Bytes.{is_gap, is_special, is_plain, backslash, hash, space, tab, newline, vertical_tab, form_feed, carriage_return, left_brace, right_brace}
@@ -16,15 +16,16 @@ abbrev pub begins_bare : Text → Bool
 begins_bare [] = false
 begins_bare (b ∷ bs) = not (b == hash)
 
--- an element that is written as itself
+-- an element that is written as it is
 abbrev pub is_bare : Text → Bool
 is_bare e = begins_bare e && list_all is_plain e
 
--- how many braces are open behind a byte; None: it is a backslash, or closes one too many
+-- how many braces are open after a closing one; None where none was
 abbrev pub closed_one : ℕ → Option ℕ
 closed_one zero = None
 closed_one (suc depth) = Some depth
 
+-- how many braces are open after a byte; None where it is a backslash, or closes one more than are open
 abbrev pub depth_after : ℕ → ℕ → Option ℕ
 depth_after depth b =
     if b == backslash then None
@@ -32,18 +33,19 @@ depth_after depth b =
     else if b == right_brace then closed_one depth
     else Some depth
 
+-- there is such a depth, and more holds of it
 abbrev pub goes_on : (ℕ → Bool) → Option ℕ → Bool
 goes_on more None = false
 goes_on more (Some depth) = more depth
 
--- an element that may stand in braces, where so many are open in front: it has no backslash, no front of it closes more
--- than are open, and the whole leaves none open
+-- An element that may be written in braces, where so many are open before it: it has no backslash, no prefix of it
+-- closes more than are open, and the whole leaves none open.
 abbrev pub balances : ℕ → Text → Bool
 balances depth [] = depth == 0
 balances depth (b ∷ bs) = goes_on (λ d. balances d bs) (depth_after depth b)
 
--- what stands behind a backslash for a marked byte: a letter for newline, tab, carriage return, vertical tab and form
--- feed, else itself
+-- what is written after a backslash for a byte with a meaning: a letter for newline, tab, carriage return, vertical tab
+-- and form feed, else the byte
 abbrev pub letter_of : ℕ → ℕ
 letter_of b =
     if b == newline then 110
@@ -52,13 +54,16 @@ letter_of b =
     else if b == vertical_tab then 118
     else if b == form_feed then 102 else b
 
+-- a byte, after a backslash where it has a meaning
 abbrev pub escape : ℕ → Text
 escape b = if is_marked b then backslash ∷ (letter_of b ∷ []) else b ∷ []
 
+-- an element with backslashes; a # at its beginning has one too
 abbrev pub escaped : Text → Text
 escaped [] = []
 escaped (b ∷ bs) = if b == hash then backslash ∷ (hash ∷ flat_map escape bs) else flat_map escape (b ∷ bs)
 
+-- an element in braces
 abbrev pub braced : Text → Text
 braced e = left_brace ∷ (e ++ right_brace ∷ [])
 
@@ -66,11 +71,12 @@ braced e = left_brace ∷ (e ++ right_brace ∷ [])
 abbrev pub element_text : Text → Text
 element_text e = if is_bare e then e else if balances 0 e then braced e else escaped e
 
--- the elements' texts, joined by one space
+-- the texts of elements after the first, each after a space
 abbrev pub list_rest : List Text → Text
 list_rest [] = []
 list_rest (e ∷ es) = space ∷ (element_text e ++ list_rest es)
 
+-- the texts of the elements, with one space between them
 abbrev pub list_text : List Text → Text
 list_text [] = []
 list_text (e ∷ es) = element_text e ++ list_rest es

@@ -1,4 +1,4 @@
-//! What holds of the definitions that the contracts cite.
+//! Laws of lists: functions that do nothing, whose contracts are theorems about the definitions.
 ghost use Rattle.std.specs.Prelude.{◌≡◌, ◌≢◌, ◌↔◌, ◌≤◌, ◌+◌, ◌++◌, ℕ, List, length, take, Ok, Err};
 ghost use Rattle.tclchars.specs.Runs.{Text};
 ghost use Rattle.tclchars.specs.Faults.{max_bytes};
@@ -11,12 +11,12 @@ ghost use Rattle.tcllist.specs.ListFaults.{IsFaulty, IsListFault};
 ghost use Rattle.tcllist.specs.ListReading.{list_of};
 ghost use Rattle.tcllist.specs.Lists.{list_text};
 
-/// A text is a list with one row of elements at most.
+/// A text, as a list, has one sequence of elements at most.
 pub fn one_list()
     ensures { (bs : Text) (es fs : List Text) → IsList bs es → IsList bs fs → es ≡ fs }
 {}
 
-/// A text has one fault at most, but for want of memory, and one with a fault of a text within the limit is no list.
+/// A text has one fault at most, want of memory aside; and within the limit of length a text with a fault is no list.
 pub fn one_list_fault()
     ensures one { (bs : Text) (f g : TextFault) → f ≢ OutOfMemory → g ≢ OutOfMemory → IsListFault bs f
         → IsListFault bs g → f ≡ g }
@@ -24,15 +24,15 @@ pub fn one_list_fault()
         → IsListFault bs f → IsList bs es → ⊥ }
 {}
 
-/// Within the limit, `list_of` gives elements exactly where the grammar has them; it gives a fault exactly where that
-/// is the text's, want of memory never.
+/// Within the limit of length, `list_of` gives elements exactly where the grammar has them; it gives a fault exactly
+/// where that is the fault of the text, want of memory never.
 pub fn list_of_grammar()
     ensures elements { (bs : Text) (es : List Text) → length bs ≤ max_bytes → (list_of bs ≡ Ok es) ↔ IsList bs es }
     ensures fault { (bs : Text) (f : TextFault) → f ≢ OutOfMemory → (list_of bs ≡ Err f) ↔ IsListFault bs f }
     ensures no_memory { (bs : Text) → list_of bs ≢ Err OutOfMemory }
 {}
 
-/// A list begins with the text before the place of any fault.
+/// The text before the offset of a fault is the beginning of some list.
 pub fn before_list_fault()
     ensures { (before rest : Text) (f : Fault) → IsFaulty (before ++ rest) f → left_of f ≡ length rest
         → BeginsList before }
@@ -47,7 +47,7 @@ pub fn no_list_begins_so()
         → IsList (bs ++ more) es → ⊥ }
 {}
 
-/// The text of a list is a list with the same elements.
+/// The text that is written for elements is a list of these elements.
 pub fn list_round_trip()
     ensures { (es : List Text) → IsList (list_text es) es }
 {}

@@ -1,6 +1,6 @@
-//! The elements of a list (list(n)).
+//! The elements of a list, read (Tcl(n), lindex(n)).
 ghost use Rattle.std.specs.Prelude.{◌≡◌, ℕ, suc, ◌≤◌, List, length, map, false, not, IfOk, IfErr, MatchResult, string_bytes};
-ghost use Rattle.tclchars.specs.Runs.{Text, front, back};
+ghost use Rattle.tclchars.specs.Runs.{Text, take_while, drop_while};
 ghost use Rattle.tclchars.specs.Braces.{braced_at};
 ghost use Rattle.tclchars.specs.Faults.{max_bytes};
 ghost use Rattle.tclchars.specs.Answers.{Gives};
@@ -14,19 +14,19 @@ ghost use Rattle.tcllist.specs.Ends.{ends_piece, is_plain_before};
 
 use std::alloc::Global;
 use tclchars::{
-    Class, Fault, MAX_BYTES, ReadError, TextFault, after_mark, begins_class, place, read_backslash,
-    split_close, split_front,
+    Class, Fault, MAX_BYTES, ReadError, TextFault, after_mark, begins_class, read_backslash,
+    split_close, split_front, with_offset,
 };
 
-/// The elements of a list (Tcl(n), lindex(n)): they are parted by white space. One in braces is taken as it stands; in
-/// one that is bare or in quotes, backslashes stand for characters.
+/// The elements of a list (Tcl(n), lindex(n)), which white space separates. One in braces is taken as it is; in one in
+/// quotes or in neither, backslashes stand for characters.
 ///
 /// - `TooLong`: the text has more than 1,048,576 bytes, whatever else is wrong.
-/// - `OpenBrace`, `OpenQuote`: nothing closes the brace or the quote at this place.
-/// - `JoinedToClose`: the character at this place follows a closing brace or quote and is no white space.
-/// - `BadCharacter`: the backslash at this place stands for no character: `\U` and a hexadecimal digit, or a code from
+/// - `OpenBrace`, `OpenQuote`: nothing closes the brace or the quote at this offset.
+/// - `JoinedToClose`: the character at this offset follows a closing brace or quote and is no white space.
+/// - `BadCharacter`: the backslash at this offset stands for no character: `\U` and a hexadecimal digit, or a code from
 ///   D800 to DFFF.
-/// - `OutOfMemory`: a growth was refused.
+/// - `OutOfMemory`: a growth was refused; this says nothing about the text.
 pub fn parse_list(alloc: Global, text: &str) -> Result<Vec<String>, TextFault>
     // Elements that are returned are the text's.
     ensures found { IfOk result (λ es. IsList text.now (map string_bytes es.items)) }
@@ -35,7 +35,7 @@ pub fn parse_list(alloc: Global, text: &str) -> Result<Vec<String>, TextFault>
     ensures only { (es : List Text) → IsList text.now es → length text.now ≤ max_bytes
         → MatchResult result (λ found. map string_bytes found.items ≡ es) (λ e. e ≡ OutOfMemory) }
 
-    // A fault is the text's.
+    // A fault is that of the text, with its offset.
     ensures fault { IfErr result (IsListFault text.now) }
 
     // The result is the elements or the fault that the definition computes, unless memory runs out.
@@ -44,7 +44,7 @@ pub fn parse_list(alloc: Global, text: &str) -> Result<Vec<String>, TextFault>
     read_whole(alloc, text)
 }
 
-// The elements of a text within the limit, or its fault.
+/// The elements of a text within the limit of length, or its fault.
 #[tactic(auto, unfolding(crate::specs::ListReading::list_of))]
 fn read_whole(alloc: Global, text: &str) -> Result<Vec<String>, TextFault>
     ensures { ReadsList result (list_of text.now) }
@@ -55,10 +55,11 @@ fn read_whole(alloc: Global, text: &str) -> Result<Vec<String>, TextFault>
     match read_elements(alloc, text) {
         Ok(elements) => Ok(elements),
         Err(ReadError::Memory) => Err(TextFault::OutOfMemory),
-        Err(ReadError::Fault(fault)) => Err(place(fault, text.len())),
+        Err(ReadError::Fault(fault)) => Err(with_offset(fault, text.len())),
     }
 }
 
+/// The elements of a text of any length.
 fn read_elements(alloc: Global, text: &str) -> Result<Vec<String>, ReadError>
     ensures { Gives stopped_by (λ es. map string_bytes es.items) result (list_at text.now) }
 {
@@ -75,7 +76,7 @@ fn read_elements(alloc: Global, text: &str) -> Result<Vec<String>, ReadError>
     }
 }
 
-// The element in front of a text that begins with no white space, and what follows it.
+/// The element that the text begins with, and the rest; the text begins with no white space.
 fn read_element(alloc: Global, text: &str) -> Result<(String, &str), ReadError>
     ensures { Gives stopped_by (λ x. (string_bytes x.0, x.1.now)) result (element_at text.now) }
 {
@@ -88,7 +89,7 @@ fn read_element(alloc: Global, text: &str) -> Result<(String, &str), ReadError>
     read_piece(alloc, text, End::Space)
 }
 
-// An element in braces, from behind its brace.
+/// An element in braces, and the rest; `text` follows the opening brace.
 fn read_braced(alloc: Global, text: &str) -> Result<(String, &str), ReadError>
     ensures { Gives stopped_by (λ x. (string_bytes x.0, x.1.now)) result
         (element_in_braces (suc (length text.now)) (braced_at false 0 text.now)) }
@@ -100,7 +101,7 @@ fn read_braced(alloc: Global, text: &str) -> Result<(String, &str), ReadError>
     Ok((String::from_str(alloc, inside)?, rest))
 }
 
-// An element in quotes, from behind its quote.
+/// An element in quotes, and the rest; `text` follows the opening quote.
 fn read_quoted(alloc: Global, text: &str) -> Result<(String, &str), ReadError>
     ensures { Gives stopped_by (λ x. (string_bytes x.0, x.1.now)) result (quoted_at text.now) }
 {
@@ -112,7 +113,7 @@ fn read_quoted(alloc: Global, text: &str) -> Result<(String, &str), ReadError>
     Ok((value, rest))
 }
 
-// Behind what closes an element there is white space or the end.
+/// Checks that an element ends before the text: nothing follows, or white space.
 fn part(rest: &str) -> Result<(), ReadError>
     ensures { Gives stopped_by (λ _. rest.now) result (parted_at rest.now) }
 {
@@ -122,17 +123,19 @@ fn part(rest: &str) -> Result<(), ReadError>
     Err(ReadError::Fault(Fault::JoinedToClose(rest.len())))
 }
 
-/// What ends an element that is bare or in quotes.
+/// What ends an element that has no braces.
 #[derive(Clone, Copy)]
 enum End {
+    /// White space ends one without quotes.
     Space,
+    /// The closing quote ends one in quotes.
     Quote,
 }
 
-// The run of bytes in front that stand for themselves, and what follows it.
+/// The run of literal bytes that the text begins with, in an element with that end, and the rest.
 fn split_plain(text: &str, end: End) -> (&str, &str)
-    ensures run { result.0.now ≡ front (is_plain_before end) text.now }
-    ensures rest { result.1.now ≡ back (is_plain_before end) text.now }
+    ensures run { result.0.now ≡ take_while (is_plain_before end) text.now }
+    ensures rest { result.1.now ≡ drop_while (is_plain_before end) text.now }
 {
     match end {
         End::Space => split_front(text, Class::BareElement),
@@ -140,15 +143,17 @@ fn split_plain(text: &str, end: End) -> (&str, &str)
     }
 }
 
+/// Whether the byte is literal in quotes.
 fn is_plain_in_quotes(b: u8) -> bool
     ensures { result ≡ is_plain_before Quote b }
 {
     b != b'"' && b != b'\\'
 }
 
+/// The run of bytes that are literal in quotes, with which the text begins, and the rest.
 fn split_quoted(text: &str) -> (&str, &str)
-    ensures run { result.0.now ≡ front (is_plain_before Quote) text.now }
-    ensures rest { result.1.now ≡ back (is_plain_before Quote) text.now }
+    ensures run { result.0.now ≡ take_while (is_plain_before Quote) text.now }
+    ensures rest { result.1.now ≡ drop_while (is_plain_before Quote) text.now }
 {
     let bytes = text.as_bytes();
     let mut n = 0;
@@ -158,7 +163,7 @@ fn split_quoted(text: &str) -> (&str, &str)
     text.split_at(n)
 }
 
-// A piece of an element up to what ends it, or to the text's end, and what follows.
+/// The value of an element up to its end, or up to the end of the text, and the rest.
 fn read_piece(alloc: Global, text: &str, end: End) -> Result<(String, &str), ReadError>
     ensures { Gives stopped_by (λ x. (string_bytes x.0, x.1.now)) result (piece_of (ends_piece end) text.now) }
 {

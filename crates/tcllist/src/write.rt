@@ -8,8 +8,8 @@ ghost use Rattle.tcllist.specs.Lists.{is_marked, begins_marked, begins_bare, is_
 use std::alloc::{AllocError, Global};
 use tclchars::{Class, after_mark, split_front};
 
-/// The text of a list with these elements: they are parted by one space, and stand as they are, in braces, or with
-/// backslashes.
+/// The text of a list with these elements, with one space between them. An element is written as it is, in braces, or
+/// with backslashes, whichever comes first of those that are read again. The error is that a growth was refused.
 pub fn write_list(alloc: Global, elements: &[&str]) -> Result<String, AllocError>
     ensures text { IfOk result (λ text. string_bytes text ≡ list_text (map (λ e. e.now) elements.now)) }
     ensures read { IfOk result (λ text. IsList (string_bytes text) (map (λ e. e.now) elements.now)) }
@@ -19,6 +19,7 @@ pub fn write_list(alloc: Global, elements: &[&str]) -> Result<String, AllocError
     Ok(text)
 }
 
+/// Adds the text of the elements.
 fn push_list(text: &mut String, elements: &[&str]) -> Result<(), AllocError>
     ensures { OnOk result (string_bytes text.new
         ≡ string_bytes text.old ++ list_text (map (λ e. e.now) elements.now)) }
@@ -32,7 +33,7 @@ fn push_list(text: &mut String, elements: &[&str]) -> Result<(), AllocError>
     }
 }
 
-// The elements behind the first, each behind a space.
+/// Adds the text of the elements after the first, each after a space.
 fn push_rest(text: &mut String, elements: &[&str]) -> Result<(), AllocError>
     ensures { OnOk result (string_bytes text.new
         ≡ string_bytes text.old ++ list_rest (map (λ e. e.now) elements.now)) }
@@ -46,6 +47,7 @@ fn push_rest(text: &mut String, elements: &[&str]) -> Result<(), AllocError>
     Ok(())
 }
 
+/// Adds one element.
 fn push_element(text: &mut String, element: &str) -> Result<(), AllocError>
     ensures { OnOk result (string_bytes text.new ≡ string_bytes text.old ++ element_text element.now) }
 {
@@ -58,6 +60,7 @@ fn push_element(text: &mut String, element: &str) -> Result<(), AllocError>
     push_escaped(text, element)
 }
 
+/// Adds an element in braces.
 fn push_braced(text: &mut String, element: &str) -> Result<(), AllocError>
     ensures { OnOk result (string_bytes text.new ≡ string_bytes text.old ++ braced element.now) }
 {
@@ -66,13 +69,14 @@ fn push_braced(text: &mut String, element: &str) -> Result<(), AllocError>
     text.push('}')
 }
 
-// Whether an element stands as it is.
+/// Whether an element is written as it is.
 fn is_bare(element: &str) -> bool
     ensures { result ≡ is_bare element.now }
 {
     begins_bare(element) && are_plain(element)
 }
 
+/// Whether an element is not empty and begins with no `#`, which would begin a comment where the list is a command.
 fn begins_bare(element: &str) -> bool
     ensures { result ≡ begins_bare element.now }
 {
@@ -82,13 +86,14 @@ fn begins_bare(element: &str) -> bool
     }
 }
 
+/// Whether no byte of the element has a meaning of its own.
 fn are_plain(element: &str) -> bool
     ensures { result ≡ list_all is_plain element.now }
 {
     split_front(element, Class::Plain).1.is_empty()
 }
 
-// How many braces are open behind a byte; None: it is a backslash, or closes one too many.
+/// How many braces are open after a byte. None where it is a backslash, or closes one more than are open.
 fn depth_after(depth: usize, b: u8) -> Option<usize>
     requires { depth < usize.MAX }
     ensures { result ≡ depth_after depth b }
@@ -101,7 +106,7 @@ fn depth_after(depth: usize, b: u8) -> Option<usize>
     }
 }
 
-// Whether an element may stand in braces.
+/// Whether an element may be written in braces: it has no backslash, and its braces match.
 fn balances(element: &str) -> bool
     ensures { result ≡ balances 0 element.now }
 {
@@ -116,7 +121,7 @@ fn balances(element: &str) -> bool
     depth == 0
 }
 
-// What stands behind a backslash for a marked byte.
+/// What is written after a backslash for a byte with a meaning: a letter for white space, else the byte.
 fn letter_of(b: u8) -> u8
     ensures { result ≡ letter_of b }
 {
@@ -130,6 +135,7 @@ fn letter_of(b: u8) -> u8
     }
 }
 
+/// Adds an element with backslashes.
 fn push_escaped(text: &mut String, element: &str) -> Result<(), AllocError>
     ensures { OnOk result (string_bytes text.new ≡ string_bytes text.old ++ escaped element.now) }
 {
@@ -142,7 +148,7 @@ fn push_escaped(text: &mut String, element: &str) -> Result<(), AllocError>
     }
 }
 
-// A text with a backslash before each marked byte.
+/// Adds a text with a backslash before each byte that has a meaning of its own.
 fn push_escapes(text: &mut String, plain: &str) -> Result<(), AllocError>
     ensures { OnOk result (string_bytes text.new ≡ string_bytes text.old ++ flat_map escape plain.now) }
 {
@@ -159,26 +165,28 @@ fn push_escapes(text: &mut String, plain: &str) -> Result<(), AllocError>
     }
 }
 
+/// Whether the byte may be between commands: white space or a semicolon.
 fn is_gap(b: u8) -> bool
     ensures { result ≡ is_gap b }
 {
     b == b' ' || b == b'\t' || b == 11 || b == 12 || b == b'\r' || b == b'\n' || b == b';'
 }
 
+/// Whether the byte has a meaning of its own somewhere in a script.
 fn is_special(b: u8) -> bool
     ensures { result ≡ is_special b }
 {
     b == b'"' || b == b'$' || b == b'[' || b == b']' || b == b'{' || b == b'}' || b == b'\\'
 }
 
-// What has a meaning in a list or a script.
+/// Whether the byte has a meaning in a list or a script.
 fn is_marked(b: u8) -> bool
     ensures { result ≡ is_marked b }
 {
     is_gap(b) || is_special(b)
 }
 
-// The marked byte in front, and what follows it.
+/// The first byte, if it has a meaning in a list or a script, and the rest.
 fn split_marked(text: &str) -> Option<(u8, &str)>
     ensures { MatchOption result (begins_marked text.now ≡ false)
         (λ p. (text.now ≡ p.0 ∷ p.1.now) × (is_marked p.0 ≡ true)) }

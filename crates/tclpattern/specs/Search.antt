@@ -1,4 +1,4 @@
--- What the private functions of `src/` state of their way to a match. No public clause cites any of it.
+-- What the private functions of `src/` state about how they find a match. No public clause needs any of it.
 pub mod Items
 pub mod View
 pub mod Tails

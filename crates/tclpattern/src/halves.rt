@@ -1,4 +1,4 @@
-//! The search for a match without a table.
+//! The search for a match without a table, for patterns too long for one.
 ghost use Rattle.std.specs.Prelude.{◌≡◌, ◌≢◌, ◌↔◌, [], ◌∷◌, ◌≤◌, length, take, drop, IsTrue};
 ghost use Rattle.std.specs.Str.{chars};
 ghost use Rattle.tclpattern.specs.Patterns.{star, IsMatch};
@@ -6,8 +6,9 @@ ghost use Rattle.tclpattern.specs.Search.Steps.{Run, RunsBy};
 
 use crate::reading::{behind_one, split_char};
 
-/// Whether the pattern behind a star matches. It looks for what of the pattern is left in the middle of the text, and
-/// so again for each half: the stack is small for every text, but the time grows fast with the lengths.
+/// Whether a star and then the pattern match the text. The search guesses which rest of the pattern is reached at the
+/// middle of the text, and does the same for each half: the stack is small for every text, but the time grows fast with
+/// the lengths.
 pub(crate) fn matches(pattern: &str, text: &str) -> bool
     ensures { IsTrue result ↔ IsMatch (star ∷ chars pattern.now) (chars text.now) }
 {
@@ -23,7 +24,8 @@ pub(crate) fn matches(pattern: &str, text: &str) -> bool
     }
 }
 
-// Whether one pattern comes to the other by so many characters of the text, or by all where there are fewer.
+/// Whether the pattern `from` can read the first `count` characters of the text, or the whole text where that is
+/// shorter, so that `to` is what remains of the pattern.
 #[cycle(halves)]
 fn runs(from: &str, text: &str, count: usize, to: &str) -> bool
     ensures { IsTrue result ↔ Run (chars from.now) (take count (chars text.now)) (chars to.now) }
@@ -43,7 +45,7 @@ fn runs(from: &str, text: &str, count: usize, to: &str) -> bool
     }
 }
 
-// The same with that pattern left behind half of the characters.
+/// The same as `runs`, where `middle` remains of the pattern after half of the characters.
 #[cycle(halves)]
 fn runs_by(from: &str, text: &str, middle: &str, count: usize, to: &str) -> bool
     requires { 2 ≤ count }
@@ -53,7 +55,7 @@ fn runs_by(from: &str, text: &str, middle: &str, count: usize, to: &str) -> bool
         && runs(middle, skip(text, count / 2), count - count / 2, to)
 }
 
-// The text behind so many characters, or its end.
+/// The text without its first `count` characters; the empty text where it has fewer.
 fn skip(text: &str, count: usize) -> &str
     ensures { chars result.now ≡ drop count (chars text.now) }
 {
@@ -69,7 +71,7 @@ fn skip(text: &str, count: usize) -> &str
     rest
 }
 
-// The same as `runs` for one character at most.
+/// The same as `runs`, for one character at most.
 fn runs_short(from: &str, text: &str, count: usize, to: &str) -> bool
     requires { count ≤ 1 }
     ensures { IsTrue result ↔ Run (chars from.now) (take count (chars text.now)) (chars to.now) }
@@ -83,7 +85,7 @@ fn runs_short(from: &str, text: &str, count: usize, to: &str) -> bool
     }
 }
 
-// Whether one pattern comes to the other by that character.
+/// Whether the pattern `from` can read the character so that `to` remains.
 fn runs_one(from: &str, c: char, to: &str) -> bool
     ensures { IsTrue result ↔ Run (chars from.now) (c ∷ []) (chars to.now) }
 {
@@ -100,6 +102,7 @@ fn runs_one(from: &str, c: char, to: &str) -> bool
     false
 }
 
+/// The same for a pattern whose first character is no star.
 fn steps_to(first: char, rest: &str, c: char, to: &str) -> bool
     requires { first ≢ star }
     ensures { IsTrue result ↔ Run (first ∷ chars rest.now) (c ∷ []) (chars to.now) }
@@ -110,7 +113,7 @@ fn steps_to(first: char, rest: &str, c: char, to: &str) -> bool
     }
 }
 
-// Whether the one pattern is the other, with nothing but stars in front of it.
+/// Whether `to` remains of the pattern `from` without a character being read: they differ by leading stars alone.
 fn runs_none(from: &str, to: &str) -> bool
     ensures { IsTrue result ↔ Run (chars from.now) [] (chars to.now) }
 {
@@ -127,6 +130,7 @@ fn runs_none(from: &str, to: &str) -> bool
     true
 }
 
+/// Whether two texts are equal.
 fn is_same(a: &str, b: &str) -> bool
     ensures { IsTrue result ↔ (chars a.now ≡ chars b.now) }
 {

@@ -6,23 +6,26 @@ ghost use Rattle.tclpattern.specs.Search.Places.{OutcomeMatches, OutcomeIsText, 
 
 use crate::reading::{behind_one, split_char};
 
-/// A star, by what of the pattern stands behind it, and what of the text it and the pattern behind it have to match.
+/// A star that was reached: what follows it in the pattern, and what remains of the text for the star and the rest of
+/// the pattern.
 #[derive(Clone, Copy)]
 pub(crate) struct Place<'a> {
+    /// The pattern after the star.
     pub(crate) pattern: &'a str,
+    /// The text that remains.
     pub(crate) text: &'a str,
 }
 
-/// What a pattern without a choice comes to.
+/// How the reading of a pattern up to its next star ends.
 #[derive(Clone, Copy)]
 pub(crate) enum Outcome<'a> {
-    /// The pattern or the text ends; whether they match.
+    /// The pattern or the text ends, or they differ; whether the whole text matches.
     Ended(bool),
-    /// The pattern comes to a star.
+    /// A star is reached.
     Star(Place<'a>),
 }
 
-/// Reads a pattern and a text side by side up to the pattern's next star.
+/// Reads a pattern and a text side by side up to the next star of the pattern.
 pub(crate) fn read_to_star<'a>(pattern: &'a str, text: &'a str) -> Outcome<'a>
     ensures same { OutcomeMatches result ↔ IsMatch (chars pattern.now) (chars text.now) }
     ensures leads { LeadsAs (chars pattern.now) (chars text.now) result }

@@ -1,4 +1,4 @@
-//! The parts of a pattern without a star (string(n), match).
+//! One step of a pattern other than a star, over one character of the text (string(n), match).
 ghost use Rattle.std.specs.Prelude.{◌≡◌, ℕ, List, ◌∷◌, [], ◌++◌, ◌≤◌, ◌<◌, ◌≢◌, length, option_map, MatchOption, IfSome};
 ghost use Rattle.std.specs.Str.{chars};
 ghost use Rattle.tclpattern.specs.Patterns.{star, is_between, behind_close};
@@ -7,12 +7,14 @@ ghost use Rattle.tclpattern.specs.Search.View.{item_view};
 ghost use Rattle.tclpattern.specs.Search.Tails.{HoldsNowhere, HoldsOnly};
 ghost use Rattle.tclpattern.specs.Search.Steps.{StepsNowhere, StepsOnly};
 
-/// An item of a set: a character, or all between two.
+/// An item of a set: a character, or all characters between two.
 #[derive(Clone, Copy)]
 pub(crate) struct Item<'a> {
+    /// One end of the range, or the character.
     low: char,
+    /// The other end; the same character where the item is no range.
     high: char,
-    /// What follows the item.
+    /// The pattern after the item.
     rest: &'a str,
 }
 
@@ -23,7 +25,7 @@ pub(crate) fn is_between(low: char, high: char, c: char) -> bool
     (low <= c && c <= high) || (high <= c && c <= low)
 }
 
-/// The first character, and what follows it.
+/// The first character, and the rest.
 pub(crate) fn split_char(text: &str) -> Option<(char, &str)>
     ensures characters { MatchOption result (chars text.now ≡ []) (λ p. chars text.now ≡ p.0 ∷ chars p.1.now) }
     ensures shorter { MatchOption result (length text.now ≡ 0) (λ p. length p.1.now < length text.now) }
@@ -33,7 +35,7 @@ pub(crate) fn split_char(text: &str) -> Option<(char, &str)>
     Some((first, characters.as_str()))
 }
 
-/// The last character, and what stands in front of it.
+/// The text before the last character, and that character.
 pub(crate) fn split_last(text: &str) -> Option<(&str, char)>
     ensures characters { MatchOption result (chars text.now ≡ [])
         (λ p. chars text.now ≡ chars p.0.now ++ p.1 ∷ []) }
@@ -44,7 +46,8 @@ pub(crate) fn split_last(text: &str) -> Option<(&str, char)>
     Some((characters.as_str(), last))
 }
 
-// The item in front of what is left of a set.
+/// The item that the rest of a set begins with; none where the set ends there, or the pattern ends before the range
+/// does.
 fn split_item(set: &str) -> Option<Item<'_>>
     ensures item { option_map item_view result ≡ item_at (chars set.now) }
     ensures shorter { IfSome result (λ i. length i.rest.now < length set.now) }
@@ -66,7 +69,7 @@ fn split_item(set: &str) -> Option<Item<'_>>
     }
 }
 
-// What follows the next closing bracket; nothing where there is none.
+/// The pattern after the next closing bracket; the empty one where none follows.
 fn behind_close(pattern: &str) -> &str
     ensures rest { chars result.now ≡ behind_close (chars pattern.now) }
     ensures no_longer { length result.now ≤ length pattern.now }
@@ -81,7 +84,8 @@ fn behind_close(pattern: &str) -> &str
     rest
 }
 
-// What a pattern goes on with behind a set that holds the character, from behind its opening bracket.
+/// What the pattern continues with after a set that holds the character; `set` follows the opening bracket. None where
+/// the set does not hold it.
 #[inline(always)]
 fn behind_set(set: &str, c: char) -> Option<&str>
     ensures holds { MatchOption result (HoldsNowhere c (chars set.now))
@@ -98,7 +102,7 @@ fn behind_set(set: &str, c: char) -> Option<&str>
     None
 }
 
-// What a pattern goes on with behind a backslash and the character.
+/// What the pattern continues with after a backslash and that character; `pattern` follows the backslash.
 fn behind_escaped(pattern: &str, c: char) -> Option<&str>
     ensures is { MatchOption result ((rest : List ℕ) → chars pattern.now ≢ c ∷ rest)
         (λ rest. chars pattern.now ≡ c ∷ chars rest.now) }
@@ -110,7 +114,8 @@ fn behind_escaped(pattern: &str, c: char) -> Option<&str>
     }
 }
 
-/// What a pattern goes on with behind one character of the text; the pattern begins with `first`, which is no star.
+/// What the pattern continues with after one character of the text; it begins with `first`, which is no star, and then
+/// `rest`. None where the character does not match.
 #[inline(always)]
 pub(crate) fn behind_one(first: char, rest: &str, c: char) -> Option<&str>
     requires { first ≢ star }

@@ -1,9 +1,9 @@
-//! A bit for each tail of a pattern, by the number of its characters.
+//! A set of the rests of a pattern, as bits: each rest is named by the number of its characters.
 ghost use Rattle.std.specs.Prelude.{◌≡◌, ◌≢◌, ℕ, ◌*◌, ◌<◌, ◌↔◌, length, IsTrue};
 ghost use Rattle.std.specs.Int.{bit_at};
 ghost use Rattle.tclpattern.specs.Search.Rows.{Has};
 
-/// Whether the bit is set.
+/// Whether the bit at the index is set.
 pub(crate) fn has(row: &[u64], at: usize) -> bool
     requires { at < 64 * length row.now }
     ensures { IsTrue result ↔ Has row.now at }
@@ -11,7 +11,7 @@ pub(crate) fn has(row: &[u64], at: usize) -> bool
     (row[at / 64] >> (at % 64)) & 1 == 1
 }
 
-// The word with the bit set or cleared.
+/// The word with the bit set or cleared.
 fn with_bit(word: u64, at: usize, value: bool) -> u64
     requires { at < 64 }
     ensures here { (bit_at result at ≡ 1) ↔ IsTrue value }
@@ -21,7 +21,7 @@ fn with_bit(word: u64, at: usize, value: bool) -> u64
     if value { word | bit } else { word & !bit }
 }
 
-/// Sets the bit or clears it.
+/// Sets the bit at the index, or clears it.
 pub(crate) fn put(row: &mut [u64], at: usize, value: bool)
     requires { at < 64 * length row.old }
     ensures len { length row.new ≡ length row.old }

@@ -1,4 +1,4 @@
-//! The search for a match from a star on.
+//! The search for a match from a star on: which search is used depends on the shape and length of the pattern.
 ghost use Rattle.std.specs.Prelude.{◌≡◌, ◌↔◌, true, IsTrue};
 ghost use Rattle.std.specs.Str.{chars};
 ghost use Rattle.tclpattern.specs.Search.Plain as plain;
@@ -9,11 +9,13 @@ use crate::place::{Outcome, Place, read_to_star};
 use crate::reading::split_char;
 use crate::sweep::matches_by_row;
 
-/// How many words of 64 bits the rows have, by which patterns up to 1,087, 32,831 and 1,048,639 bytes are searched.
+/// How many words of 64 bits the smallest table has: enough for patterns up to 1,087 bytes.
 const SMALL: usize = 17;
 
+/// How many words the middle table has: enough for patterns up to 32,831 bytes.
 const MIDDLE: usize = 513;
 
+/// How many words the largest table has: enough for patterns up to 1,048,639 bytes.
 const LARGE: usize = 16_385;
 
 /// Whether the pattern matches from that star on.
@@ -34,22 +36,24 @@ pub(crate) fn matches_from(star: Place<'_>) -> bool
     }
 }
 
-// Where a pattern stands that is read character by character.
+/// The state of a pattern that is read character by character, to find how the ranges of its sets end.
 #[derive(Clone, Copy)]
 enum Reading {
+    /// Outside of sets.
     Outside,
-    /// Behind a backslash.
+    /// After a backslash.
     Escaped,
-    /// In a set, where an item begins, or the set ends.
+    /// In a set, where an item begins or the set ends.
     AtItem,
-    /// Behind an item's first character.
+    /// In a set, after the first character of an item.
     BehindLow,
-    /// Behind the dash of a range.
+    /// In a set, after the dash of a range.
     AtEnd,
-    /// Behind a range up to a closing bracket.
+    /// After a range up to a closing bracket: the pattern has such a range.
     Open,
 }
 
+/// The state after the character.
 fn reading_behind(reading: Reading, c: char) -> Reading
     ensures { result ≡ plain.reading_behind reading c }
 {
@@ -65,8 +69,8 @@ fn reading_behind(reading: Reading, c: char) -> Reading
     }
 }
 
-// Whether no range of a set ends at a closing bracket: then the pattern goes on behind a set in the same way with each
-// character.
+/// Whether no range of a set ends at a closing bracket: then what follows a set is the same for each character that the
+/// set holds.
 fn is_plain(pattern: &str) -> bool
     ensures { result ≡ plain.is_plain (chars pattern.now) }
 {
@@ -79,7 +83,8 @@ fn is_plain(pattern: &str) -> bool
     !matches!(reading, Reading::Open)
 }
 
-// In a plain pattern the first way from a star to the next is as good as any: a later one only leaves less of the text.
+/// The same as `matches_from` for a pattern without a range up to a closing bracket: there the first match up to the
+/// next star is as good as any, since a later one only leaves less of the text.
 fn matches_plain(first: Place<'_>) -> bool
     requires text { IsUtf8Place first }
     requires plain { plain.is_plain (chars first.pattern.now) ≡ true }

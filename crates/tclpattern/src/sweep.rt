@@ -1,5 +1,6 @@
-//! The search for a match by a row of bits, one for each tail of the pattern: whether it matches what is left of the
-//! text. Each character of the text, from the last to the first, makes a new row in the place of the old one.
+//! The search for a match by a set of bits, one for each rest of the pattern: whether that rest matches what follows in
+//! the text. The text is read from its last character to its first, and each character makes the next set out of the
+//! last one.
 ghost use Rattle.std.specs.Prelude.{◌≡◌, ◌↔◌, ℕ, List, [], ◌∷◌, ◌*◌, ◌^◌, ◌<◌, length, IsTrue};
 ghost use Rattle.std.specs.Str.{chars};
 ghost use Rattle.tclpattern.specs.Patterns.{star, IsMatch};
@@ -9,14 +10,15 @@ use crate::reading::split_last;
 use crate::row::{has, put};
 use crate::tail::Window;
 
-// Whether nothing but stars stands in a tail, with the character in front of it.
+/// Whether a rest of the pattern is nothing but stars, by its first character and by whether what follows is nothing
+/// but stars.
 fn are_stars(p: char, stars: bool) -> bool
     ensures { IsTrue result ↔ ((p ≡ star) × IsTrue stars) }
 {
     p == '*' && stars
 }
 
-// Fills the row for the end of the text; whether the whole pattern matches there.
+/// Makes the set for the end of the text, and answers whether the whole pattern matches there.
 fn fill(pattern: &str, row: &mut [u64]) -> bool
     requires { length pattern.now < 64 * length row.old }
     ensures len { length row.new ≡ length row.old }
@@ -36,7 +38,7 @@ fn fill(pattern: &str, row: &mut [u64]) -> bool
     stars
 }
 
-// Makes the row for the text with one more character in front; whether the whole pattern matches that.
+/// Makes the set for the text with one more character before it, and answers whether the whole pattern matches that.
 fn sweep(pattern: &str, c: char, row: &mut [u64]) -> bool
     requires { length pattern.now < 64 * length row.old }
     ensures len { length row.new ≡ length row.old }
@@ -58,7 +60,7 @@ fn sweep(pattern: &str, c: char, row: &mut [u64]) -> bool
     window.takes
 }
 
-// Whether the pattern behind a star matches, by a row that has a bit for each of its tails.
+/// Whether a star and then the pattern match the text, with room for a bit for each rest of the pattern.
 fn search(pattern: &str, text: &str, row: &mut [u64]) -> bool
     requires { length pattern.now < 64 * length row.old }
     ensures { IsTrue result ↔ IsMatch (star ∷ chars pattern.now) (chars text.now) }
@@ -76,7 +78,7 @@ fn search(pattern: &str, text: &str, row: &mut [u64]) -> bool
     false
 }
 
-/// Whether the pattern behind a star matches, by a row of so many words.
+/// Whether a star and then the pattern match the text, with a set of `WORDS` words.
 #[inline(never)]
 pub(crate) fn matches_by_row<const WORDS: usize>(pattern: &str, text: &str) -> bool
     requires len { length pattern.now < 64 * WORDS }

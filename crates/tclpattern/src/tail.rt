@@ -1,4 +1,4 @@
-//! What is known of the tails of a pattern, at one character of the text.
+//! What the search knows of the rests of a pattern, at one character of the text.
 ghost use Rattle.std.specs.Prelude.{◌≡◌, ◌↔◌, ℕ, List, [], ◌∷◌, Some, IsTrue};
 ghost use Rattle.tclpattern.specs.Patterns.{behind_close, IsMatch};
 ghost use Rattle.tclpattern.specs.Search.Items.{Item, item_at};
@@ -7,30 +7,36 @@ ghost use Rattle.tclpattern.specs.Search.Windows.{KnowsTail, Knows};
 
 use crate::reading::is_between;
 
-/// What is known of a tail of the pattern, at a character of the text, and what is left of the text behind it.
+/// What is known of a rest of the pattern, at a character of the text.
 #[derive(Clone, Copy)]
 struct Tail {
-    /// The character that the tail begins with.
+    /// The character that the rest begins with.
     first: Option<char>,
-    /// Whether the tail matches what is left.
+    /// Whether the rest matches the text after the character.
     matches: bool,
     /// Whether what follows its next closing bracket does.
     matches_behind_close: bool,
-    /// Whether the tail, read as what is left of a set, holds the character, and what follows the set matches the rest.
+    /// Whether the rest, as the remainder of a set, holds the character, and what follows the set matches the text
+    /// after the character.
     holds: bool,
 }
 
-/// What is known of a tail, of the one behind its first character, and of the one behind its second.
+/// What is known of a rest of the pattern, of the one without its first character, and of the one without its first
+/// two.
 #[derive(Clone, Copy)]
 pub(crate) struct Window {
+    /// The rest.
     here: Tail,
+    /// The rest without its first character.
     next: Tail,
+    /// The rest without its first two characters.
     after_next: Tail,
-    /// Whether the tail matches the character and what is left.
+    /// Whether the rest matches the text from the character on.
     pub(crate) takes: bool,
 }
 
 impl Tail {
+    /// Whether the rest begins with that character.
     fn begins_with(&self, c: char) -> bool
         ensures { IsTrue result ↔ (self.now.first ≡ Some c) }
     {
@@ -40,7 +46,7 @@ impl Tail {
         }
     }
 
-    // Whether a set holds the character whose next item goes from `low` to `high`, with this tail behind it.
+    /// Whether a set that goes on with an item from `low` to `high`, and then with this rest, holds the character.
     fn holds_from(&self, low: char, high: char, c: char) -> bool
         ensures { (set rest cs : List ℕ) → item_at set ≡ Some (record { low = low; high = high; rest = rest })
             → KnowsTail rest c cs self.now → IsTrue result ↔ SetMatches c set cs }
@@ -52,7 +58,7 @@ impl Tail {
         }
     }
 
-    // Whether what follows the next closing bracket matches, with the character in front of this tail.
+    /// Whether what follows the next closing bracket matches, where `p` comes before this rest.
     fn closes(&self, p: char) -> bool
         ensures { (c : ℕ) (xs cs : List ℕ) → KnowsTail xs c cs self.now
             → IsTrue result ↔ IsMatch (behind_close (p ∷ xs)) cs }
@@ -66,7 +72,7 @@ impl Tail {
 }
 
 impl Window {
-    /// What is known of the empty tail; `ends` says whether the text ends behind the character.
+    /// What is known of the empty rest; `ends` is whether the text ends after the character.
     pub(crate) fn at_end(ends: bool) -> Window
         ensures { (c : ℕ) (cs : List ℕ) → IsTrue ends ↔ IsMatch [] cs → Knows [] c cs result }
     {
@@ -84,8 +90,8 @@ impl Window {
         }
     }
 
-    // Whether the character and the tail, read as what is left of a set, hold c, and what follows the set matches the
-    // rest of the text.
+    /// Whether `p` and then the rest, as the remainder of a set, hold the character `c`, and what follows the set
+    /// matches the text after it.
     fn holds(&self, p: char, c: char) -> bool
         ensures { (xs cs : List ℕ) → Knows xs c cs self.now → IsTrue result ↔ SetMatches c (p ∷ xs) cs }
     {
@@ -101,7 +107,8 @@ impl Window {
         }
     }
 
-    // Whether the character and the tail match c and what is left.
+    /// Whether `p` and then the rest match the text from the character `c` on; `keeps` is whether they
+    /// match the text after it.
     fn takes(&self, p: char, c: char, keeps: bool) -> bool
         ensures { (xs cs : List ℕ) → Knows xs c cs self.now → IsTrue keeps ↔ IsMatch (p ∷ xs) cs
             → IsTrue result ↔ IsMatch (p ∷ xs) (c ∷ cs) }
@@ -115,7 +122,8 @@ impl Window {
         }
     }
 
-    /// What is known of the tail with the character p in front; `keeps` says whether that matches what is left.
+    /// What is known of the rest with `p` before it; `keeps` is whether that matches the text after the
+    /// character `c`.
     pub(crate) fn before(&self, p: char, c: char, keeps: bool) -> Window
         ensures { (xs cs : List ℕ) → Knows xs c cs self.now → IsTrue keeps ↔ IsMatch (p ∷ xs) cs
             → Knows (p ∷ xs) c cs result }

@@ -1,7 +1,7 @@
 -- What a dollar sign begins is read exactly.
 use Rattle.std.proofs.Common.{◌≡◌, ◌≢◌, ℕ, zero, suc, ◌<◌, ◌≤◌, [], ◌∷◌, ◌++◌, length, true, not, ◌||◌, ◌==◌, Result, Ok, Err, refl, sym, ap, ap₂, subst, ◌∙◌, arith, append_assoc, append-nil, inl, inr}
 use Rattle.std.proofs.lemmas.Bool.Decides.{nat_tests}
-use Rattle.tclchars.specs.Runs.{Text, front, back}
+use Rattle.tclchars.specs.Runs.{Text, take_while, drop_while}
 use Rattle.tclchars.specs.Bytes.{AllPass, MayBegin}
 use Rattle.tclchars.specs.Classes.{in_class, is_name}
 use Rattle.tclchars.specs.Reading.{◌>>=◌, Read, read_map}
@@ -194,8 +194,8 @@ module _ (d : ℕ) (inner : Inner) (exact : IsExactInner d inner) where
   braced_sound : (c : Context) (bs : Text) (p : Part) (r : Text) → braced_name_at bs ≡ Ok (p, r) → Took (DollarIs d c) (36 ∷ (123 ∷ bs)) p r
   unfolding braced_name_at
   braced_sound c bs p r h =
-      let name = front (in_class InName) bs in
-      let after = back (in_class InName) bs in
+      let name = take_while (in_class InName) bs in
+      let after = drop_while (in_class InName) bs in
       let mark = OpenBrace (suc (length bs)) in
       let x = bind_ok (closed 125 mark after) (λ rest. Ok (variable name, rest)) (p, r) h in
       let two = ok_pair (variable name, x.0) (p, r) x.2 in
@@ -211,8 +211,8 @@ module _ (d : ℕ) (inner : Inner) (exact : IsExactInner d inner) where
   braced_faulty : (bs : Text) (f : Fault) → braced_name_at bs ≡ Err f → PartFault d (36 ∷ (123 ∷ bs)) f
   unfolding braced_name_at
   braced_faulty bs f h =
-      let name = front (in_class InName) bs in
-      let after = back (in_class InName) bs in
+      let name = take_while (in_class InName) bs in
+      let after = drop_while (in_class InName) bs in
       let mark = OpenBrace (suc (length bs)) in
       let run = run_taken (in_class InName) bs in
       elim (bind_err (closed 125 mark after) (λ rest. Ok (variable name, rest)) f h) [
@@ -296,8 +296,8 @@ module _ (d : ℕ) (inner : Inner) (exact : IsExactInner d inner) where
   unfolding braced_name_at
   name_open bs all =
       let mark = OpenBrace (suc (length bs)) in
-      let none : back (in_class InName) bs ≡ [] = ap (back (in_class InName)) (sym (append-nil bs)) ∙ back_run (in_class InName) bs [] all tt in
-      ap (close_name mark (front (in_class InName) bs)) none
+      let none : drop_while (in_class InName) bs ≡ [] = ap (drop_while (in_class InName)) (sym (append-nil bs)) ∙ back_run (in_class InName) bs [] all tt in
+      ap (close_name mark (take_while (in_class InName) bs)) none
 
   pub braced_met : (bs : Text) → AllPass (in_class InName) bs → dollar_at inner (123 ∷ bs) ≡ Err (OpenBrace (suc (length bs)))
   unfolding dollar_at

@@ -2,7 +2,7 @@
 use Rattle.std.proofs.Common.{◌≡◌, ℕ, zero, suc, ◌+◌, ◌*◌, [], ◌∷◌, ◌++◌, Bool, true, false, ◌&&◌, ◌==◌, nat_lt, nat_le, if◌then◌else◌, Option, Some, None, refl, sym, ap, ◌∙◌}
 use Rattle.std.specs.Char.{digit_value}
 use Rattle.tclchars.specs.Bytes.{newline, is_continuation}
-use Rattle.tclchars.specs.Runs.{Text, front, back}
+use Rattle.tclchars.specs.Runs.{Text, take_while, drop_while}
 use Rattle.tclchars.specs.Backslash.{is_octal, is_blank_or_tab, digit_at, octal_on, octal_at, hexadecimal_on, hexadecimal_at, character, begins_hexadecimal, code_at, wide_code_at, letter_value, after_backslash}
 use Rattle.tclscript.specs.Pieces.{IsEndOf, IsFrontOf}
 use Rattle.tclscript.proofs.Ends.{end_same, end_behind, end_through}
@@ -12,20 +12,20 @@ pub either : {A : Type 0} (P : A → Type 0) (t : Bool) (x y : A) → P x → P 
 either P true x y here there = here
 either P false x y here there = there
 
-pub back_end : (p : ℕ → Bool) (bs : Text) → IsEndOf bs (back p bs)
+pub back_end : (p : ℕ → Bool) (bs : Text) → IsEndOf bs (drop_while p bs)
 back_end p [] = end_same []
-back_end p (b ∷ bs) = either (IsEndOf (b ∷ bs)) (p b) (back p bs) (b ∷ bs) (end_behind b bs _ (back_end p bs)) (end_same (b ∷ bs))
+back_end p (b ∷ bs) = either (IsEndOf (b ∷ bs)) (p b) (drop_while p bs) (b ∷ bs) (end_behind b bs _ (back_end p bs)) (end_same (b ∷ bs))
 
-pub front_whole : (p : ℕ → Bool) (bs : Text) → bs ≡ front p bs ++ back p bs
+pub front_whole : (p : ℕ → Bool) (bs : Text) → bs ≡ take_while p bs ++ drop_while p bs
 front_whole p [] = refl
 front_whole p (b ∷ bs) = go (front_whole p bs) (p b) where
-  go : bs ≡ front p bs ++ back p bs → (t : Bool) → b ∷ bs ≡ (if t then b ∷ front p bs else []) ++ (if t then back p bs else b ∷ bs)
+  go : bs ≡ take_while p bs ++ drop_while p bs → (t : Bool) → b ∷ bs ≡ (if t then b ∷ take_while p bs else []) ++ (if t then drop_while p bs else b ∷ bs)
   go more true = ap (λ xs. b ∷ xs) more
   go more false = refl
 
 -- a run at the front
-pub run_front : (p : ℕ → Bool) (bs run : Text) → run ≡ front p bs → IsFrontOf bs run
-run_front p bs run is = (back p bs, front_whole p bs ∙ ap (λ xs. xs ++ back p bs) (sym is))
+pub run_front : (p : ℕ → Bool) (bs run : Text) → run ≡ take_while p bs → IsFrontOf bs run
+run_front p bs run is = (drop_while p bs, front_whole p bs ∙ ap (λ xs. xs ++ drop_while p bs) (sym is))
 
 -- what follows, if anything was read
 abbrev pub LeavesSome : {A : Type 0} → (Text → Type 0) → Option (A × Text) → Type 0
@@ -66,12 +66,12 @@ behind_byte b bs (Some x) e = end_behind b bs x.1 e
 pub backslash_end : (bs : Text) → LeavesSome (IsEndOf bs) (after_backslash bs)
 backslash_end [] = tt
 backslash_end (b ∷ bs) = go (b == newline) (is_octal b) (b == 120) (b == 117) (b == 85) (nat_le 128 b) where
-  go : (t u v w x y : Bool) → LeavesSome (IsEndOf (b ∷ bs)) (if t then Some (32 ∷ [], back is_blank_or_tab bs)
+  go : (t u v w x y : Bool) → LeavesSome (IsEndOf (b ∷ bs)) (if t then Some (32 ∷ [], drop_while is_blank_or_tab bs)
       else if u then character (octal_at 3 0 (b ∷ bs))
       else if v then code_at 2 b bs
       else if w then code_at 4 b bs
       else if x then wide_code_at bs
-      else if y then Some (b ∷ front is_continuation bs, back is_continuation bs)
+      else if y then Some (b ∷ take_while is_continuation bs, drop_while is_continuation bs)
       else Some (letter_value b ∷ [], bs))
   go true u v w x y = end_behind b bs _ (back_end is_blank_or_tab bs)
   go false true v w x y = character_leaves (IsEndOf (b ∷ bs)) (octal_at 3 0 (b ∷ bs)) (octal_end 3 0 (b ∷ bs))

@@ -3,7 +3,7 @@ use Rattle.std.proofs.Common.{◌≡◌, ℕ, zero, suc, ◌+◌, ◌*◌, [], �
 use Rattle.std.specs.Prelude.{encode_utf8}
 use Rattle.std.specs.Char.{digit_value}
 use Rattle.tclchars.specs.Bytes.{newline, is_continuation}
-use Rattle.tclchars.specs.Runs.{Text, front, back}
+use Rattle.tclchars.specs.Runs.{Text, take_while, drop_while}
 use Rattle.tclchars.specs.Backslash.{is_octal, is_hexadecimal, is_blank_or_tab, octal_on, octal_at, hexadecimal_on, hexadecimal_at, character, code_at, wide_code_at, after_backslash}
 use Rattle.tclscript.proofs.NextByte.{both_ways, escape_of}
 
@@ -53,10 +53,10 @@ module _ (k : ℕ) (stop : IsStop k) (r : Text) where
   wide_stop [] = rw (stop.hexadecimal) refl
   wide_stop (x ∷ e) = both_ways (λ (p q : Option (Text × Text)). p ≡ then_some q) (is_hexadecimal x) None (Some (85 ∷ [], x ∷ (e ++ k ∷ r))) None (Some (85 ∷ [], x ∷ e)) refl refl
 
-  run_stop : (p : ℕ → Bool) → p k ≡ false → (e : Text) → (front p (e ++ k ∷ r) ≡ front p e) × (back p (e ++ k ∷ r) ≡ back p e ++ k ∷ r)
+  run_stop : (p : ℕ → Bool) → p k ≡ false → (e : Text) → (take_while p (e ++ k ∷ r) ≡ take_while p e) × (drop_while p (e ++ k ∷ r) ≡ drop_while p e ++ k ∷ r)
   run_stop p h [] = rw h (refl, refl)
   run_stop p h (b ∷ e) = byte (p b) refl (run_stop p h e) where
-    byte : (t : Bool) → p b ≡ t → (front p (e ++ k ∷ r) ≡ front p e) × (back p (e ++ k ∷ r) ≡ back p e ++ k ∷ r) → (front p (b ∷ (e ++ k ∷ r)) ≡ front p (b ∷ e)) × (back p (b ∷ (e ++ k ∷ r)) ≡ back p (b ∷ e) ++ k ∷ r)
+    byte : (t : Bool) → p b ≡ t → (take_while p (e ++ k ∷ r) ≡ take_while p e) × (drop_while p (e ++ k ∷ r) ≡ drop_while p e ++ k ∷ r) → (take_while p (b ∷ (e ++ k ∷ r)) ≡ take_while p (b ∷ e)) × (drop_while p (b ∷ (e ++ k ∷ r)) ≡ drop_while p (b ∷ e) ++ k ∷ r)
     byte true t so = rw t (ap (λ xs. b ∷ xs) so.0, so.1)
     byte false t so = rw t (refl, refl)
 
@@ -67,10 +67,10 @@ module _ (k : ℕ) (stop : IsStop k) (r : Text) where
       (ap character (octal_stop 3 0 (b ∷ e)) ∙ character_stop (octal_at 3 0 (b ∷ e)))
       (code_stop 2 b e) (code_stop 4 b e) (wide_stop e)
       (let run = run_stop is_continuation stop.continuation e in ap₂ (λ (xs ys : Text). let found : Option (Text × Text) = Some (b ∷ xs, ys) in found) run.0 run.1) where
-        go : (t u v w x y : Bool) → (let found : Option (Text × Text) = Some (32 ∷ [], back is_blank_or_tab (e ++ k ∷ r)) in found) ≡ Some (32 ∷ [], back is_blank_or_tab e ++ k ∷ r)
+        go : (t u v w x y : Bool) → (let found : Option (Text × Text) = Some (32 ∷ [], drop_while is_blank_or_tab (e ++ k ∷ r)) in found) ≡ Some (32 ∷ [], drop_while is_blank_or_tab e ++ k ∷ r)
             → character (octal_at 3 0 (b ∷ (e ++ k ∷ r))) ≡ then_some (character (octal_at 3 0 (b ∷ e))) → code_at 2 b (e ++ k ∷ r) ≡ then_some (code_at 2 b e) → code_at 4 b (e ++ k ∷ r) ≡ then_some (code_at 4 b e)
             → wide_code_at (e ++ k ∷ r) ≡ then_some (wide_code_at e)
-            → (let found : Option (Text × Text) = Some (b ∷ front is_continuation (e ++ k ∷ r), back is_continuation (e ++ k ∷ r)) in found) ≡ Some (b ∷ front is_continuation e, back is_continuation e ++ k ∷ r)
+            → (let found : Option (Text × Text) = Some (b ∷ take_while is_continuation (e ++ k ∷ r), drop_while is_continuation (e ++ k ∷ r)) in found) ≡ Some (b ∷ take_while is_continuation e, drop_while is_continuation e ++ k ∷ r)
             → escape_of b t u v w x y (e ++ k ∷ r) ≡ then_some (escape_of b t u v w x y e)
         go true u v w x y h1 h2 h3 h4 h5 h6 = h1
         go false true v w x y h1 h2 h3 h4 h5 h6 = h2

@@ -1,7 +1,7 @@
 -- Marks, runs of bytes, and the ends of what the grammar has.
 use Rattle.std.proofs.Common.{◌≡◌, ℕ, [], ◌∷◌, ◌++◌, length, Bool, true, false, not, ◌==◌, Result, Ok, Err, refl, sym, ap, ◌∙◌, arith, ◌⊎◌, inl, inr}
 use Rattle.std.proofs.lemmas.Bool.Decides.{nat_tests}
-use Rattle.tclchars.specs.Runs.{Text, front, back}
+use Rattle.tclchars.specs.Runs.{Text, take_while, drop_while}
 use Rattle.tclchars.specs.Bytes.{AllPass, MayBegin}
 use Rattle.tclchars.specs.declared.fault.Fault.{Fault}
 use Rattle.tclscript.specs.Reading.{on_mark, closed, ended}
@@ -114,22 +114,22 @@ ended-not nested bs h = rw h refl
 
 -- Runs
 
-run_cons : (p : ℕ → Bool) (b : ℕ) (bs : Text) (t : Bool) → p b ≡ t → (bs ≡ front p bs ++ back p bs) × AllPass p (front p bs) × MayBegin (λ b. not (p b)) (back p bs)
-    → (b ∷ bs ≡ front p (b ∷ bs) ++ back p (b ∷ bs)) × AllPass p (front p (b ∷ bs)) × MayBegin (λ b. not (p b)) (back p (b ∷ bs))
+run_cons : (p : ℕ → Bool) (b : ℕ) (bs : Text) (t : Bool) → p b ≡ t → (bs ≡ take_while p bs ++ drop_while p bs) × AllPass p (take_while p bs) × MayBegin (λ b. not (p b)) (drop_while p bs)
+    → (b ∷ bs ≡ take_while p (b ∷ bs) ++ drop_while p (b ∷ bs)) × AllPass p (take_while p (b ∷ bs)) × MayBegin (λ b. not (p b)) (drop_while p (b ∷ bs))
 run_cons p b bs true t so = rw t (ap (λ xs. b ∷ xs) so.0, (t, so.1), so.2)
 run_cons p b bs false t so = rw t (refl, tt, ap not t)
 
 -- a run, what follows it, and that it is the longest
-pub run_taken : (p : ℕ → Bool) (bs : Text) → (bs ≡ front p bs ++ back p bs) × AllPass p (front p bs) × MayBegin (λ b. not (p b)) (back p bs)
+pub run_taken : (p : ℕ → Bool) (bs : Text) → (bs ≡ take_while p bs ++ drop_while p bs) × AllPass p (take_while p bs) × MayBegin (λ b. not (p b)) (drop_while p bs)
 run_taken p [] = (refl, tt, tt)
 run_taken p (b ∷ bs) = run_cons p b bs (p b) refl (run_taken p bs)
 
-pub front_run : (p : ℕ → Bool) (xs r : Text) → AllPass p xs → MayBegin (λ b. not (p b)) r → front p (xs ++ r) ≡ xs
+pub front_run : (p : ℕ → Bool) (xs r : Text) → AllPass p xs → MayBegin (λ b. not (p b)) r → take_while p (xs ++ r) ≡ xs
 front_run p [] [] all stop = refl
 front_run p [] (b ∷ r) all stop = rw (not_true (p b) stop) refl
 front_run p (x ∷ xs) r all stop = rw (all.0) (ap (λ ys. x ∷ ys) (front_run p xs r all.1 stop))
 
-pub back_run : (p : ℕ → Bool) (xs r : Text) → AllPass p xs → MayBegin (λ b. not (p b)) r → back p (xs ++ r) ≡ r
+pub back_run : (p : ℕ → Bool) (xs r : Text) → AllPass p xs → MayBegin (λ b. not (p b)) r → drop_while p (xs ++ r) ≡ r
 back_run p [] [] all stop = refl
 back_run p [] (b ∷ r) all stop = rw (not_true (p b) stop) refl
 back_run p (x ∷ xs) r all stop = rw (all.0) (back_run p xs r all.1 stop)

@@ -4,7 +4,7 @@ use Rattle.std.proofs.lemmas.Bool.Decides.{nat_tests}
 use Rattle.std.specs.Prelude.{encode_utf8}
 use Rattle.std.specs.Char.{digit_value}
 use Rattle.tclchars.specs.Bytes.{newline, is_continuation}
-use Rattle.tclchars.specs.Runs.{Text, front, back}
+use Rattle.tclchars.specs.Runs.{Text, take_while, drop_while}
 use Rattle.tclchars.specs.Backslash.{is_octal, is_hexadecimal, is_blank_or_tab, digit_at, octal_on, octal_at, hexadecimal_on, hexadecimal_at, character, code_at, wide_code_at, letter_value, after_backslash}
 use Rattle.tclscript.specs.Pieces.{IsEndOf}
 use Rattle.tclscript.proofs.Ends.{end_no_longer}
@@ -23,12 +23,12 @@ none_some x h = cc
 -- what a backslash stands for, by what is known of the first byte behind it
 abbrev pub escape_of : ℕ → Bool → Bool → Bool → Bool → Bool → Bool → Text → Option (Text × Text)
 escape_of b t u v w x y bs =
-    if t then Some (32 ∷ [], back is_blank_or_tab bs)
+    if t then Some (32 ∷ [], drop_while is_blank_or_tab bs)
     else if u then character (octal_at 3 0 (b ∷ bs))
     else if v then code_at 2 b bs
     else if w then code_at 4 b bs
     else if x then wide_code_at bs
-    else if y then Some (b ∷ front is_continuation bs, back is_continuation bs)
+    else if y then Some (b ∷ take_while is_continuation bs, drop_while is_continuation bs)
     else Some (letter_value b ∷ [], bs)
 
 module _ (c : ℕ) (a a' : Text) where
@@ -101,13 +101,13 @@ module _ (c : ℕ) (a a' : Text) where
   wide_along (x ∷ e) = both_ways (λ (p q : Option (Text × Text)). AlongSome p q) (is_hexadecimal x) None (Some (85 ∷ [], x ∷ (e ++ c ∷ a))) None (Some (85 ∷ [], x ∷ (e ++ c ∷ a'))) tt (along_here (85 ∷ []) (x ∷ e))
 
   -- a run
-  run_along : (p : ℕ → Bool) (e : Text) → Along (front p (e ++ c ∷ a), back p (e ++ c ∷ a)) (front p (e ++ c ∷ a'), back p (e ++ c ∷ a'))
+  run_along : (p : ℕ → Bool) (e : Text) → Along (take_while p (e ++ c ∷ a), drop_while p (e ++ c ∷ a)) (take_while p (e ++ c ∷ a'), drop_while p (e ++ c ∷ a'))
   run_along p [] = byte (p c) refl where
-    byte : (t : Bool) → p c ≡ t → Along (front p (c ∷ a), back p (c ∷ a)) (front p (c ∷ a'), back p (c ∷ a'))
-    byte true h = inr (rw h (end_no_longer a (back p a) (back_end p a)))
+    byte : (t : Bool) → p c ≡ t → Along (take_while p (c ∷ a), drop_while p (c ∷ a)) (take_while p (c ∷ a'), drop_while p (c ∷ a'))
+    byte true h = inr (rw h (end_no_longer a (drop_while p a) (back_end p a)))
     byte false h = rw h (inl (refl, [], refl, refl))
   run_along p (b ∷ e) = byte (p b) refl (run_along p e) where
-    byte : (t : Bool) → p b ≡ t → Along (front p (e ++ c ∷ a), back p (e ++ c ∷ a)) (front p (e ++ c ∷ a'), back p (e ++ c ∷ a')) → Along (front p (b ∷ (e ++ c ∷ a)), back p (b ∷ (e ++ c ∷ a))) (front p (b ∷ (e ++ c ∷ a')), back p (b ∷ (e ++ c ∷ a')))
+    byte : (t : Bool) → p b ≡ t → Along (take_while p (e ++ c ∷ a), drop_while p (e ++ c ∷ a)) (take_while p (e ++ c ∷ a'), drop_while p (e ++ c ∷ a')) → Along (take_while p (b ∷ (e ++ c ∷ a)), drop_while p (b ∷ (e ++ c ∷ a))) (take_while p (b ∷ (e ++ c ∷ a')), drop_while p (b ∷ (e ++ c ∷ a')))
     byte true h so = rw h (elim so [ inl k ↦ inl (ap (λ xs. b ∷ xs) k.0, k.1, k.2, k.3) | inr more ↦ inr more ])
     byte false h so = rw h (inl (refl, b ∷ e, refl, refl))
 
@@ -120,14 +120,14 @@ module _ (c : ℕ) (a a' : Text) where
       let x = e ++ c ∷ a in
       let y = e ++ c ∷ a' in
       go (b == newline) (is_octal b) (b == 120) (b == 117) (b == 85) (nat_le 128 b) x y
-      (value_along (λ t. 32 ∷ []) (front is_blank_or_tab x, back is_blank_or_tab x) (front is_blank_or_tab y, back is_blank_or_tab y) (run_along is_blank_or_tab e))
+      (value_along (λ t. 32 ∷ []) (take_while is_blank_or_tab x, drop_while is_blank_or_tab x) (take_while is_blank_or_tab y, drop_while is_blank_or_tab y) (run_along is_blank_or_tab e))
       (character_along (octal_at 3 0 (b ∷ x)) (octal_at 3 0 (b ∷ y)) (octal_along 3 0 (b ∷ e)))
       (code_along 2 b e) (code_along 4 b e) (wide_along e)
-      (value_along (λ t. b ∷ t) (front is_continuation x, back is_continuation x) (front is_continuation y, back is_continuation y) (run_along is_continuation e))
+      (value_along (λ t. b ∷ t) (take_while is_continuation x, drop_while is_continuation x) (take_while is_continuation y, drop_while is_continuation y) (run_along is_continuation e))
       (along_here (letter_value b ∷ []) e) where
-        go : (t u v w x y : Bool) (p q : Text) → AlongSome {A = Text} (Some (32 ∷ [], back is_blank_or_tab p)) (Some (32 ∷ [], back is_blank_or_tab q)) → AlongSome (character (octal_at 3 0 (b ∷ p))) (character (octal_at 3 0 (b ∷ q)))
+        go : (t u v w x y : Bool) (p q : Text) → AlongSome {A = Text} (Some (32 ∷ [], drop_while is_blank_or_tab p)) (Some (32 ∷ [], drop_while is_blank_or_tab q)) → AlongSome (character (octal_at 3 0 (b ∷ p))) (character (octal_at 3 0 (b ∷ q)))
             → AlongSome (code_at 2 b p) (code_at 2 b q) → AlongSome (code_at 4 b p) (code_at 4 b q) → AlongSome (wide_code_at p) (wide_code_at q)
-            → AlongSome {A = Text} (Some (b ∷ front is_continuation p, back is_continuation p)) (Some (b ∷ front is_continuation q, back is_continuation q)) → AlongSome {A = Text} (Some (letter_value b ∷ [], p)) (Some (letter_value b ∷ [], q))
+            → AlongSome {A = Text} (Some (b ∷ take_while is_continuation p, drop_while is_continuation p)) (Some (b ∷ take_while is_continuation q, drop_while is_continuation q)) → AlongSome {A = Text} (Some (letter_value b ∷ [], p)) (Some (letter_value b ∷ [], q))
             → AlongSome (escape_of b t u v w x y p) (escape_of b t u v w x y q)
         go true u v w x y p q h1 h2 h3 h4 h5 h6 h7 = h1
         go false true v w x y p q h1 h2 h3 h4 h5 h6 h7 = h2
@@ -175,10 +175,10 @@ octal_first b bs h =
 pub shorter_escape : (b : ℕ) (bs v r : Text) → after_backslash (b ∷ bs) ≡ Some (v, r) → length r ≤ length bs
 shorter_escape b bs v r h = subst (ShorterSome bs) h (go (b == newline) (is_octal b) refl (b == 120) (b == 117) (b == 85) (nat_le 128 b)) where
   go : (t u : Bool) → is_octal b ≡ u → (v w x y : Bool) → ShorterSome bs (escape_of b t u v w x y bs)
-  go true u e v w x y = end_no_longer bs (back is_blank_or_tab bs) (back_end is_blank_or_tab bs)
+  go true u e v w x y = end_no_longer bs (drop_while is_blank_or_tab bs) (back_end is_blank_or_tab bs)
   go false true e v w x y = ended_some bs (character (octal_at 3 0 (b ∷ bs))) (character_leaves (IsEndOf bs) (octal_at 3 0 (b ∷ bs)) (octal_first b bs e))
   go false false e true w x y = ended_some bs (code_at 2 b bs) (code_leaves 2 b bs)
   go false false e false true x y = ended_some bs (code_at 4 b bs) (code_leaves 4 b bs)
   go false false e false false true y = ended_some bs (wide_code_at bs) (wide_leaves bs)
-  go false false e false false false true = end_no_longer bs (back is_continuation bs) (back_end is_continuation bs)
+  go false false e false false false true = end_no_longer bs (drop_while is_continuation bs) (back_end is_continuation bs)
   go false false e false false false false = omega arith

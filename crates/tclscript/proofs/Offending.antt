@@ -70,10 +70,10 @@ moves_before kind One Two x bs left step m = record {
   base = base_before kind x m.before m.base;
   moves = λ keep s t e k.
       let f = mark kind (length (keep ++ t)) in
-      let back : (m.before ++ keep) ++ t ≡ m.before ++ (keep ++ t) = append_assoc m.before keep t in
+      let regrouped : (m.before ++ keep) ++ t ≡ m.before ++ (keep ++ t) = append_assoc m.before keep t in
       let same : bs ≡ (m.before ++ keep) ++ s = m.whole ∙ ap (λ ys. m.before ++ ys) e ∙ sym (append_assoc m.before keep s) in
-      let one : One ((m.before ++ keep) ++ t) f = subst (λ ys. One ys f) (sym back) (m.moves keep s t e k) in
-      subst (λ ys. Two ys f) (ap (λ ys. x ++ ys) back ∙ sym (append_assoc x m.before (keep ++ t))) (step (m.before ++ keep) s t f (kept_firm kind m.before keep s t m.base k) same one);
+      let one : One ((m.before ++ keep) ++ t) f = subst (λ ys. One ys f) (sym regrouped) (m.moves keep s t e k) in
+      subst (λ ys. Two ys f) (ap (λ ys. x ++ ys) regrouped ∙ sym (append_assoc x m.before (keep ++ t))) (step (m.before ++ keep) s t f (kept_firm kind m.before keep s t m.base k) same one);
 }
 
 moves_same : (kind : Kind) (One Two : Text → Fault → Type 0) (bs : Text) (left : ℕ) → ((p s t : Text) (f : Fault) → Firm p → bs ≡ p ++ s → One (p ++ t) f → Two (p ++ t) f) → Moves kind One bs left → Moves kind Two bs left

@@ -1,7 +1,7 @@
 -- Parts are read exactly.
 use Rattle.std.proofs.Common.{◌≡◌, ◌≢◌, ℕ, zero, suc, ◌<◌, [], ◌∷◌, ◌++◌, length, Bool, true, false, not, ◌==◌, Option, Some, None, Result, Ok, Err, refl, sym, ap, ap₂, subst, ◌∙◌, arith, append_assoc, append-nil, ◌⊎◌, inl, inr}
 use Rattle.std.proofs.lemmas.Bool.Decides.{nat_tests}
-use Rattle.tclchars.specs.Runs.{Text, front, back, begins}
+use Rattle.tclchars.specs.Runs.{Text, take_while, drop_while, begins}
 use Rattle.tclchars.specs.Bytes.{newline, DoesBegin}
 use Rattle.tclchars.specs.Classes.{in_class}
 use Rattle.tclchars.specs.Backslash.{after_backslash}
@@ -267,7 +267,7 @@ module _ (d : ℕ) (inner : Inner) (exact : IsExactInner d inner) where
   there : (c : Context) (bs bs' : Text) (p : Part) (r : Text) → bs ≡ bs' → PartsFollow c bs → Took (DollarIs d c) bs' p r → Took (PartIs c) bs p r
   there c bs bs' p r e b k = record { taken = k.taken; whole = e ∙ k.whole; is = (subst (PartsFollow c) (e ∙ k.whole) b, k.is) }
 
-  begun : (c : Context) (b : ℕ) (bs : Text) → PartsFollow c (b ∷ bs) → Without 36 (b ∷ bs) → Without 91 (b ∷ bs) → Without 92 (b ∷ bs) → DoesBegin (in_class (class_of c)) (front (in_class (class_of c)) (b ∷ bs))
+  begun : (c : Context) (b : ℕ) (bs : Text) → PartsFollow c (b ∷ bs) → Without 36 (b ∷ bs) → Without 91 (b ∷ bs) → Without 92 (b ∷ bs) → DoesBegin (in_class (class_of c)) (take_while (in_class (class_of c)) (b ∷ bs))
   begun c b bs h x y z = rw (other_byte c b bs h x y z) (other_byte c b bs h x y z)
 
   some_text : (c : Context) → PartsFollow c [] → ⊥
@@ -280,14 +280,14 @@ module _ (d : ℕ) (inner : Inner) (exact : IsExactInner d inner) where
   literal_sound c [] p r h x y z e = absurd (some_text c h)
   literal_sound c (b ∷ bs) p r h x y z e =
       let test = in_class (class_of c) in
-      let two = ok_pair (literal (front test (b ∷ bs)), back test (b ∷ bs)) (p, r) e in
+      let two = ok_pair (literal (take_while test (b ∷ bs)), drop_while test (b ∷ bs)) (p, r) e in
       let run = run_taken test (b ∷ bs) in
-      let made : Took (DollarIs d c) (b ∷ bs) (literal (front test (b ∷ bs))) (back test (b ∷ bs)) = record {
-        taken = front test (b ∷ bs);
+      let made : Took (DollarIs d c) (b ∷ bs) (literal (take_while test (b ∷ bs))) (drop_while test (b ∷ bs)) = record {
+        taken = take_while test (b ∷ bs);
         whole = run.0;
         is = ((refl, inl (begun c b bs h x y z, run.1, run.2)), omega arith);
       } in
-      subst (λ p. Took (DollarIs d c) (b ∷ bs) p r) two.0 (subst (λ ys. Took (DollarIs d c) (b ∷ bs) (literal (front test (b ∷ bs))) ys) two.1 made)
+      subst (λ p. Took (DollarIs d c) (b ∷ bs) p r) two.0 (subst (λ ys. Took (DollarIs d c) (b ∷ bs) (literal (take_while test (b ∷ bs))) ys) two.1 made)
 
   pub part_sound : (c : Context) (bs : Text) (p : Part) (r : Text) → PartsFollow c bs → part_at c inner bs ≡ Ok (p, r) → Took (PartIs c) bs p r
   part_sound c bs p r b h = elim (mark_or_none 36 bs) [
@@ -308,7 +308,7 @@ module _ (d : ℕ) (inner : Inner) (exact : IsExactInner d inner) where
       | inl k ↦ subst (λ xs. PartFault d xs f) (sym k.1) (bracket_faulty k.0 f (sym (ap (part_at c inner) k.1 ∙ at_bracket c k.0) ∙ h))
       | inr y ↦ elim (mark_or_none 92 bs) [
         | inl k ↦ subst (λ xs. PartFault d xs f) (sym k.1) (backslash_faulty k.0 f (sym (ap (part_at c inner) k.1 ∙ at_backslash c k.0) ∙ h))
-        | inr z ↦ absurd (ok_err (literal (front (in_class (class_of c)) bs), back (in_class (class_of c)) bs) f (sym (at_literal c bs x y z) ∙ h))
+        | inr z ↦ absurd (ok_err (literal (take_while (in_class (class_of c)) bs), drop_while (in_class (class_of c)) bs) f (sym (at_literal c bs x y z) ∙ h))
       ]
     ]
   ]

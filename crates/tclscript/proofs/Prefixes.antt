@@ -2,7 +2,7 @@
 use Rattle.std.proofs.Common.{◌≡◌, ◌≢◌, ℕ, zero, suc, ◌+◌, ◌*◌, ◌<◌, ◌≤◌, [], ◌∷◌, ◌++◌, length, Bool, true, false, ◌&&◌, ◌==◌, nat_lt, nat_le, if◌then◌else◌, Option, Some, None, refl, sym, subst, ◌∙◌, arith, ◌⊎◌, inl, inr}
 use Rattle.std.specs.Prelude.{encode_utf8}
 use Rattle.std.proofs.lemmas.Bool.Decides.{nat_tests}
-use Rattle.tclchars.specs.Runs.{Text, front, back}
+use Rattle.tclchars.specs.Runs.{Text, take_while, drop_while}
 use Rattle.tclchars.specs.Bytes.{newline, is_continuation}
 use Rattle.tclchars.specs.Backslash.{is_octal, is_blank_or_tab, digit_at, octal_on, octal_at, hexadecimal_on, hexadecimal_at, character, begins_hexadecimal, code_at, wide_code_at, letter_value, after_backslash}
 use Rattle.tclchars.proofs.BackslashLemmas.{digit_below}
@@ -117,18 +117,18 @@ escape_letter b bs h = go (b == newline) (is_octal b) (b == 120) (b == 117) refl
   code false h = some_none (b ∷ [], bs) h
 
   go : (t u v w : Bool) → (b == 117) ≡ w → (x : Bool) → (b == 85) ≡ x → (y : Bool)
-      → (if t then Some (32 ∷ [], back is_blank_or_tab bs)
+      → (if t then Some (32 ∷ [], drop_while is_blank_or_tab bs)
       else if u then character (octal_at 3 0 (b ∷ bs))
       else if v then code_at 2 b bs
       else if w then code_at 4 b bs
       else if x then wide_code_at bs
-      else if y then Some (b ∷ front is_continuation bs, back is_continuation bs)
+      else if y then Some (b ∷ take_while is_continuation bs, drop_while is_continuation bs)
       else Some (letter_value b ∷ [], bs)) ≡ None
       → (b ≡ 117) ⊎ (b ≡ 85)
-  go true u v w f x g y h = absurd (some_none (32 ∷ [], back is_blank_or_tab bs) h)
+  go true u v w f x g y h = absurd (some_none (32 ∷ [], drop_while is_blank_or_tab bs) h)
   go false true v w f x g y h = absurd (small_character (octal_at 3 0 (b ∷ bs)) (octal_small 3 0 (b ∷ bs) (omega arith)) h)
   go false false true w f x g y h = absurd (code (begins_hexadecimal bs) h)
   go false false false true f x g y h = inl (is_byte 117 f)
   go false false false false f true g y h = inr (is_byte 85 g)
-  go false false false false f false g true h = absurd (some_none (b ∷ front is_continuation bs, back is_continuation bs) h)
+  go false false false false f false g true h = absurd (some_none (b ∷ take_while is_continuation bs, drop_while is_continuation bs) h)
   go false false false false f false g false h = absurd (some_none (letter_value b ∷ [], bs) h)

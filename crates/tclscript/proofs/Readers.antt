@@ -1,7 +1,7 @@
 -- What each reader leaves is an end of its text, and shorter where something was read.
 use Rattle.std.proofs.Common.{◌≡◌, ℕ, zero, suc, ◌-◌, ◌<◌, ◌≤◌, [], ◌∷◌, ◌++◌, length, Bool, true, false, ◌==◌, Option, Some, None, Ok, Err, refl, sym, subst, ◌∙◌, arith, append_assoc}
 use Rattle.std.proofs.lemmas.Bool.Decides.{nat_tests}
-use Rattle.tclchars.specs.Runs.{Text, back, begins}
+use Rattle.tclchars.specs.Runs.{Text, drop_while, begins}
 use Rattle.tclchars.specs.Classes.{in_class}
 use Rattle.tclchars.specs.Backslash.{after_backslash}
 use Rattle.tclchars.specs.Braces.{braced_at}
@@ -9,7 +9,7 @@ use Rattle.tclchars.specs.Reading.{◌>>=◌, Read, read_map, items_at, items_st
 use Rattle.tclchars.specs.declared.fault.Fault.{Fault}
 use Rattle.tclchars.specs.declared.runs.Class.TheVariants.{InName}
 use Rattle.tclchars.proofs.BraceClose.{close_sound}
-use Rattle.tclchars.proofs.RunLemmas.{back-cons_true}
+use Rattle.tclchars.proofs.RunLemmas.{drop_while-cons_true}
 use Rattle.tclscript.specs.declared.context.Context.{Context}
 use Rattle.tclscript.specs.declared.context.Context.TheVariants.{InScript, InBracket, InIndex, InQuotes}
 use Rattle.tclscript.specs.declared.runs.Passing.TheVariants.{Blanks, Gap, Name}
@@ -84,8 +84,8 @@ module _ (inner : Inner) (inside : InnerLeaves inner) where
 
 braced_name_leaves : (bs : Text) → Leaves (IsEndOf bs) (braced_name_at bs)
 unfolding braced_name_at
-braced_name_leaves bs = text_then (IsEndOf (back (in_class InName) bs)) (IsEndOf bs) (closed 125 _ (back (in_class InName) bs)) _ (closed_leaves 125 _ (back (in_class InName) bs))
-    (λ rest e. end_through bs (back (in_class InName) bs) rest (back_end (in_class InName) bs) e)
+braced_name_leaves bs = text_then (IsEndOf (drop_while (in_class InName) bs)) (IsEndOf bs) (closed 125 _ (drop_while (in_class InName) bs)) _ (closed_leaves 125 _ (drop_while (in_class InName) bs))
+    (λ rest e. end_through bs (drop_while (in_class InName) bs) rest (back_end (in_class InName) bs) e)
 
 escaped_leaves : (bs : Text) (found : Option (Text × Text)) → LeavesSome (IsEndOf bs) found → Leaves (IsEndOf bs) (escaped bs found)
 escaped_leaves bs (Some p) e = e
@@ -106,13 +106,13 @@ stands InQuotes b bs h k l m = grind (arith, nat_tests)
 no_mark : (mark b : ℕ) (bs : Text) → begins mark (b ∷ bs) ≡ false → (b == mark) ≡ false
 no_mark mark b bs h = h
 
-literal_behind : (context : Context) (bs : Text) → parts_end context bs ≡ false → begins 36 bs ≡ false → begins 91 bs ≡ false → begins 92 bs ≡ false → IsBehind bs (back (in_class (class_of context)) bs)
+literal_behind : (context : Context) (bs : Text) → parts_end context bs ≡ false → begins 36 bs ≡ false → begins 91 bs ≡ false → begins 92 bs ≡ false → IsBehind bs (drop_while (in_class (class_of context)) bs)
 literal_behind InScript [] h k l m = cc
 literal_behind InBracket [] h k l m = cc
 literal_behind InIndex [] h k l m = cc
 literal_behind InQuotes [] h k l m = cc
 literal_behind context (b ∷ bs) h k l m =
-    let here : back (in_class (class_of context)) (b ∷ bs) ≡ back (in_class (class_of context)) bs = back-cons_true (in_class (class_of context)) b bs (stands context b bs h k l m) in
+    let here : drop_while (in_class (class_of context)) (b ∷ bs) ≡ drop_while (in_class (class_of context)) bs = drop_while-cons_true (in_class (class_of context)) b bs (stands context b bs h k l m) in
     subst (IsBehind (b ∷ bs)) (sym here) (behind_mark (b ∷ bs) b bs _ refl (back_end (in_class (class_of context)) bs))
 
 module _ (inner : Inner) (inside : InnerLeaves inner) where

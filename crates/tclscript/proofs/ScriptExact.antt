@@ -332,12 +332,12 @@ module _ (d : ℕ) (inner : Inner) (exact : IsExactInner d inner) (nested : Bool
       let body = h.is_second.first in
       let rest = h.is_second.second in
       let c : Command = record { place = place; source = source; words = ws } in
-      let back : (body ++ rest) ++ r ≡ body ++ (rest ++ r) = append_assoc body rest r in
-      let from : length (body ++ (rest ++ r)) ≡ length h.second + length r = ap length (sym back) ∙ length-append (body ++ rest) r ∙ ap (λ ys. length ys + length r) (sym h.is_second.whole) in
+      let regrouped : (body ++ rest) ++ r ≡ body ++ (rest ++ r) = append_assoc body rest r in
+      let from : length (body ++ (rest ++ r)) ≡ length h.second + length r = ap length (sym regrouped) ∙ length-append (body ++ rest) r ∙ ap (λ ys. length ys + length r) (sym h.is_second.whole) in
       let is : CommandIs total c body (rest ++ r) = (h.is_second.is_first.0, h.is_second.is_first.1, omega (arith, deep), omega (arith, from, all, h.is_first.1)) in
-      let whole : t ++ r ≡ gap ++ (body ++ (rest ++ r)) = ap (λ xs. xs ++ r) (h.whole ∙ ap (λ xs. gap ++ xs) h.is_second.whole) ∙ append_assoc gap (body ++ rest) r ∙ ap (λ xs. gap ++ xs) back in
+      let whole : t ++ r ≡ gap ++ (body ++ (rest ++ r)) = ap (λ xs. xs ++ r) (h.whole ∙ ap (λ xs. gap ++ xs) h.is_second.whole) ∙ append_assoc gap (body ++ rest) r ∙ ap (λ xs. gap ++ xs) regrouped in
       let some = front_some body rest h.is_second.is_first.0 in
-      let passed : IsGap gap (body ++ (rest ++ r)) = subst (IsGap gap) (ap (λ xs. xs ++ r) h.is_second.whole ∙ back) h.is_first.0 in
+      let passed : IsGap gap (body ++ (rest ++ r)) = subst (IsGap gap) (ap (λ xs. xs ++ r) h.is_second.whole ∙ regrouped) h.is_first.0 in
       let k = commands_list total size cs rest r n all h.is_second.is_second (omega (arith, deep)) (omega (arith, ap length whole, length-append gap (body ++ (rest ++ r)), length-append body (rest ++ r))) in (
         c ∷ k.0,
         ap (read_commands total (suc n)) whole ∙ items-more skip_gap (script_ends nested) (command_in total nested inner) IsGap CommandGoesOn (CommandIs total) CommandBad (command_items total) n gap body (rest ++ r) c passed is ∙ ap (read_map (λ xs. c ∷ xs)) k.1,

@@ -3,7 +3,7 @@ use Rattle.std.proofs.Common.{◌≡◌, ◌≢◌, ℕ, zero, suc, ◌<◌, ◌
 use Rattle.std.proofs.lemmas.Bool.Decides.{nat_tests}
 use Rattle.tclchars.specs.Runs.{Text, begins}
 use Rattle.tclchars.specs.Bytes.{newline, hash, backslash, is_gap, DoesBegin}
-use Rattle.tclchars.specs.Braces.{Balanced, brace_step, after_step, behind, braced_at}
+use Rattle.tclchars.specs.Braces.{Balanced, brace_step, after_step, with_first, braced_at}
 use Rattle.tclchars.proofs.BraceLemmas.{braced_at-cons}
 use Rattle.tclchars.proofs.BraceClose.{close_sound}
 use Rattle.tclscript.specs.declared.context.Context.{Context}
@@ -429,18 +429,18 @@ commands_finish size at (command place source ws cs) t long h =
 abbrev Found : Type 0
 Found = Option (Text × Text)
 
-none_behind : (b : ℕ) (found : Found) → behind b found ≡ None → found ≡ None
+none_behind : (b : ℕ) (found : Found) → with_first b found ≡ None → found ≡ None
 none_behind b None h = refl
 none_behind b (Some p) h = cc
 
 -- what closes so many open braces
 closing_braces : (d : ℕ) → (more : Text) × (inside : Text) × (braced_at false d more ≡ Some (inside, []))
 closing_braces zero = (125 ∷ [], [], braced_at-cons false 0 125 [])
-closing_braces (suc d) = (let m = closing_braces d in (125 ∷ m.0, 125 ∷ m.1, braced_at-cons false (suc d) 125 m.0 ∙ ap (behind 125) m.2))
+closing_braces (suc d) = (let m = closing_braces d in (125 ∷ m.0, 125 ∷ m.1, braced_at-cons false (suc d) 125 m.0 ∙ ap (with_first 125) m.2))
 
 closing_end : (escaped : Bool) (d : ℕ) → (more : Text) × (inside : Text) × (braced_at escaped d more ≡ Some (inside, []))
 closing_end false d = closing_braces d
-closing_end true d = (let m = closing_braces d in (97 ∷ m.0, 97 ∷ m.1, braced_at-cons true d 97 m.0 ∙ ap (behind 97) m.2))
+closing_end true d = (let m = closing_braces d in (97 ∷ m.0, 97 ∷ m.1, braced_at-cons true d 97 m.0 ∙ ap (with_first 97) m.2))
 
 some_none : {A : Type 0} (x : A) → Some x ≡ None → ⊥
 some_none x h = cc
@@ -455,7 +455,7 @@ closing (b ∷ bs) escaped d h = on_step (brace_step escaped d b) refl (closing 
   on_step (Some s) e next =
       let none = none_behind b (braced_at s.0 s.1 bs) (sym (braced_at-cons escaped d b bs ∙ ap (after_step b bs (λ e d. braced_at e d bs)) e) ∙ h) in
       let m = next s.0 s.1 none in
-      (m.0, b ∷ m.1, braced_at-cons escaped d b (bs ++ m.0) ∙ ap (after_step b (bs ++ m.0) (λ e d. braced_at e d (bs ++ m.0))) e ∙ ap (behind b) m.2)
+      (m.0, b ∷ m.1, braced_at-cons escaped d b (bs ++ m.0) ∙ ap (after_step b (bs ++ m.0) (λ e d. braced_at e d (bs ++ m.0))) e ∙ ap (with_first b) m.2)
 
 -- no brace closes it yet: more text does
 pub brace_finish : (bs : Text) → braced_at false 0 bs ≡ None → (more : Text) × (inside : Text) × (bs ++ more ≡ inside ++ 125 ∷ []) × Balanced inside

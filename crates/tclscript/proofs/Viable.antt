@@ -57,7 +57,7 @@ between : {X Y : Type 0} (Ends Ends' : Text → Type 0) (Is : X → Text → Tex
     → Completes Ends Is bs fault → Completes Ends' Is' (x ++ bs) fault
 between Ends Ends' Is Is' make x y bs fault step m =
     let p = m.before ++ m.keep in
-    let back : (t : Text) → p ++ t ≡ m.before ++ (m.keep ++ t) = append_assoc m.before m.keep in
+    let regrouped : (t : Text) → p ++ t ≡ m.before ++ (m.keep ++ t) = append_assoc m.before m.keep in
     record {
       value = make m.value (p ++ m.more);
       before = x ++ m.before;
@@ -70,8 +70,8 @@ between Ends Ends' Is Is' make x y bs fault step m =
       firm = subst Firm (sym (append_assoc x m.before m.keep)) (firm_before x p m.firm);
       is = λ after ends.
           subst (λ ys. Is' (make m.value (p ++ m.more)) ys after)
-          (ap (λ ys. x ++ ys) (append_assoc p m.more y ∙ back (m.more ++ y)) ∙ sym (append_assoc x m.before (m.keep ++ (m.more ++ y))))
-          (step m.value p m.rest m.more m.firm (m.whole ∙ sym (back m.rest)) (λ after ends. subst (λ ys. Is m.value ys after) (sym (back m.more)) (m.is after ends)) after ends);
+          (ap (λ ys. x ++ ys) (append_assoc p m.more y ∙ regrouped (m.more ++ y)) ∙ sym (append_assoc x m.before (m.keep ++ (m.more ++ y))))
+          (step m.value p m.rest m.more m.firm (m.whole ∙ sym (regrouped m.rest)) (λ after ends. subst (λ ys. Is m.value ys after) (sym (regrouped m.more)) (m.is after ends)) after ends);
     }
 
 behind : {X Y : Type 0} (Ends Ends' : Text → Type 0) (Is : X → Text → Text → Type 0) (Is' : Y → Text → Text → Type 0) (make : X → Text → Y) (x bs : Text) (fault : Fault)

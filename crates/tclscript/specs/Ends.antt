@@ -1,4 +1,4 @@
--- Where scripts, commands, words and parts end, told by the bytes that follow.
+-- Where scripts, commands, words and parts end (Tcl(n), rules 1 to 6), by the bytes that follow.
 use Rattle.std.specs.Prelude.{ℕ, [], ◌∷◌, Bool, true, false, ◌||◌, ◌&&◌, ◌==◌}
 use Rattle.tclchars.specs.Runs.{Text, begins}
 use Rattle.tclchars.specs.Bytes.{newline, backslash, is_end, is_gap, quote, right_bracket, right_parenthesis}
@@ -7,7 +7,7 @@ use Rattle.tclchars.specs.declared.runs.Class.TheVariants.{BareScript, BareBrack
 use Rattle.tclscript.specs.declared.context.Context.{Context}
 use Rattle.tclscript.specs.declared.context.Context.TheVariants.{InScript, InBracket, InIndex, InQuotes}
 
--- a script in brackets ends at the bracket that closes
+-- a script in brackets ends at the closing bracket
 abbrev pub script_ends : Bool → Text → Bool
 script_ends nested [] = true
 script_ends nested (b ∷ bs) = nested && b == right_bracket
@@ -22,7 +22,7 @@ abbrev pub word_ends : Bool → Text → Bool
 word_ends nested [] = true
 word_ends nested (b ∷ bs) = is_gap b || (nested && b == right_bracket) || (b == backslash && begins newline bs)
 
--- nothing, or this mark
+-- the text is empty or begins with this mark
 abbrev pub stands_before : ℕ → Text → Bool
 stands_before mark [] = true
 stands_before mark (b ∷ bs) = b == mark
@@ -34,14 +34,14 @@ parts_end InBracket bs = word_ends true bs
 parts_end InIndex bs = stands_before right_parenthesis bs
 parts_end InQuotes bs = stands_before quote bs
 
--- what stands for itself there
+-- the bytes that are literal there
 abbrev pub class_of : Context → Class
 class_of InScript = BareScript
 class_of InBracket = BareBracket
 class_of InIndex = BareIndex
 class_of InQuotes = BareQuote
 
--- where a bare word stands, in brackets or not
+-- the context of a word without quotes and braces, in brackets or not
 abbrev pub bare : Bool → Context
 bare true = InBracket
 bare false = InScript

@@ -1,6 +1,6 @@
--- What is wrong with a text that is no script: the first mark or character that a reader from left to right can't go
--- past. By cases over the whole text from somewhere in it to the source's end, with the number of bytes from the mark
--- on.
+-- What is wrong with a text that is no script (own): the first mark or character that a reader from left to right can't
+-- go past. The definitions go by cases over a whole text, from somewhere in the source to its end. A fault has the
+-- number of bytes that remain from its mark on.
 use Rattle.std.specs.Prelude.{◌≡◌, ◌≢◌, ℕ, zero, suc, ◌≤◌, [], ◌∷◌, ◌++◌, length, Bool, true, false, not, ◌||◌, ◌==◌, None}
 use Rattle.tclchars.specs.Runs.{Text}
 use Rattle.tclchars.specs.Bytes.{hash, backslash, AllPass, DoesBegin, dollar, left_brace, left_bracket, left_parenthesis, quote, right_brace, star}
@@ -19,17 +19,17 @@ use Rattle.tclscript.specs.Tree.{Commands, Words, Word, Parts, Part, nesting, wo
 use Rattle.tclscript.specs.Ends.{word_ends, parts_end, bare}
 use Rattle.tclscript.specs.Grammar.{IsBlanks, IsGap, IsName, IsCommands, IsCommand, IsWord, IsParts, IsPart}
 
--- no brace closes what stands behind an opening one
+-- no brace closes the one before this text
 abbrev pub NeverCloses : Text → Type 0
 NeverCloses bs = (inside rest : Text) → bs ≡ inside ++ right_brace ∷ rest → Balanced inside → ⊥
 
--- the mark {*}, behind which the word doesn't end
+-- the mark {*}, after which the word does not end
 abbrev pub Expands : Bool → Text → Type 0
 Expands nested bs = (rest : Text) × (bs ≡ left_brace ∷ (star ∷ (right_brace ∷ rest))) × (word_ends nested rest ≡ false)
 
--- The number says how many brackets and indexes more may nest; the flag, that the text stands in brackets.
+-- The number is how many more brackets and indexes may nest; the flag nested is true in brackets.
 mutual
-  -- of commands, in the first of them or a later one
+  -- in the first of several commands or a later one
   pub data CommandsFault : ℕ → Bool → Text → Fault → Type 0 where
     first_command : {d : ℕ} {nested : Bool} (gap : Text) {body : Text} {f : Fault} → IsGap gap body
         → DoesBegin (λ b. not (b == hash)) body
@@ -39,13 +39,14 @@ mutual
         → IsCommand nested source ws body rest → words_nesting ws ≤ d → CommandsFault d nested rest f
         → CommandsFault d nested (gap ++ (body ++ rest)) f
 
-  -- of a command, in its first word or a later one
+  -- in the first word of a command or a later one
   pub data CommandFault : ℕ → Bool → Text → Fault → Type 0 where
     first_word : {d : ℕ} {nested : Bool} {bs : Text} {f : Fault} → WordFault d nested bs f → CommandFault d nested bs f
     later_word : {d : ℕ} {nested : Bool} (body : Text) (w : Word) {rest : Text} {f : Fault} → IsWord nested w body rest
         → word_nesting w ≤ d
         → WordsFault d nested rest f → CommandFault d nested (body ++ rest) f
 
+  -- in the next of the words after the first, or one after that
   pub data WordsFault : ℕ → Bool → Text → Fault → Type 0 where
     next_word : {d : ℕ} {nested : Bool} (blanks : Text) {body : Text} {f : Fault} → IsBlanks blanks
         → WordFault d nested body f → WordsFault d nested (blanks ++ body) f
@@ -53,14 +54,15 @@ mutual
         → IsWord nested w body rest → word_nesting w ≤ d
         → WordsFault d nested rest f → WordsFault d nested (blanks ++ (body ++ rest)) f
 
+  -- in a word, with the mark {*} before it or without
   pub data WordFault : ℕ → Bool → Text → Fault → Type 0 where
-    plain : {d : ℕ} {nested : Bool} {bs : Text} {f : Fault} → (Expands nested bs → ⊥) → PlainFault d nested bs f
-        → WordFault d nested bs f
+    plain : {d : ℕ} {nested : Bool} {bs : Text} {f : Fault} → (Expands nested bs → ⊥)
+        → PlainFault d nested bs f → WordFault d nested bs f
     expanding : {d : ℕ} {nested : Bool} {body : Text} {f : Fault} → word_ends nested body ≡ false
         → PlainFault d nested body f
         → WordFault d nested (left_brace ∷ (star ∷ (right_brace ∷ body))) f
 
-  -- of a word in braces, in quotes or bare
+  -- in a word in braces, in quotes or in neither
   pub data PlainFault : ℕ → Bool → Text → Fault → Type 0 where
     open_brace : {d : ℕ} {nested : Bool} {bs : Text} → NeverCloses bs
         → PlainFault d nested (left_brace ∷ bs) (OpenBrace (suc (length bs)))
@@ -76,13 +78,14 @@ mutual
     in_bare : {d : ℕ} {nested : Bool} {bs : Text} {f : Fault} → DoesBegin (λ b. not (b == left_brace || b == quote)) bs
         → PartsFault d (bare nested) bs f → PlainFault d nested bs f
 
-  -- of parts, in the first of them or a later one
+  -- in the first of several parts or a later one
   pub data PartsFault : ℕ → Context → Text → Fault → Type 0 where
     first_part : {d : ℕ} {c : Context} {bs : Text} {f : Fault} → PartFault d bs f → PartsFault d c bs f
     later_part : {d : ℕ} {c : Context} (body : Text) (p : Part) {rest : Text} {f : Fault}
         → parts_end c (body ++ rest) ≡ false → IsPart c p body rest → part_nesting p ≤ d
         → PartsFault d c rest f → PartsFault d c (body ++ rest) f
 
+  -- in a substitution
   pub data PartFault : ℕ → Text → Fault → Type 0 where
     open_name : {d : ℕ} {bs : Text} → AllPass (in_class InName) bs
         → PartFault d (dollar ∷ (left_brace ∷ bs)) (OpenBrace (suc (length bs)))
@@ -98,10 +101,10 @@ mutual
     open_index : {d : ℕ} (name bs : Text) (ps : Parts) → IsName name → IsParts InIndex ps bs [] → parts_nesting ps ≤ d
         → PartFault (suc d) (dollar ∷ (name ++ left_parenthesis ∷ bs)) (BadCharacter (suc (length bs)))
 
--- the first fault of a text, with the number of bytes from its mark on
+-- the first fault of a text, with the number of bytes that remain from its mark on
 abbrev pub IsFault : ℕ → Text → Fault → Type 0
 IsFault d bs f = CommandsFault d false bs f
 
--- what is wrong with a text: it is too long, or its first fault
+-- what is wrong with a text: it is too long, or its first fault with the offset
 abbrev pub IsTextFault : Text → TextFault → Type 0
 IsTextFault bs f = IsFaultOf (IsFault max_nesting) bs f

@@ -1,5 +1,5 @@
--- The grammar: which texts are scripts, with their trees (Tcl(n)), by cases on the tree over whole texts. A text stands
--- before what follows it in the source, since what follows says where it ends.
+-- The grammar of scripts (Tcl(n)): which texts are scripts, with their trees. The definitions go by cases on the tree.
+-- Each part of a text is given with the text after it, which decides where the part ends.
 use Rattle.std.specs.Prelude.{◌≡◌, ◌≢◌, ◌⊎◌, ℕ, ◌+◌, [], ◌∷◌, ◌++◌, length, Bool, true, false, not, ◌||◌, ◌==◌, Some}
 use Rattle.tclchars.specs.Runs.{Text}
 use Rattle.tclchars.specs.Bytes.{newline, hash, backslash, is_blank, is_gap, AllPass, MayBegin, DoesBegin, colon, dollar, left_brace, left_bracket, left_parenthesis, quote, right_brace, right_bracket, right_parenthesis, star}
@@ -13,20 +13,20 @@ use Rattle.tclscript.specs.Tree as tree
 use Rattle.tclscript.specs.Tree.{Commands, no_commands, command, Words, no_words, word, Word, word_of, Parts, no_parts, part, Part, literal, braced, variable, indexed, bracket}
 use Rattle.tclscript.specs.Ends.{script_ends, command_ends, word_ends, parts_end, class_of, bare}
 
--- what stands between words: blanks, and newlines behind backslashes
+-- between words: blanks, and newlines after backslashes
 pub data IsBlanks : Text → Type 0 where
   nothing : IsBlanks []
   blank : {b : ℕ} {bs : Text} → is_blank b ≡ true → IsBlanks bs → IsBlanks (b ∷ bs)
   line : {bs : Text} → IsBlanks bs → IsBlanks (backslash ∷ (newline ∷ bs))
 
--- what a comment holds: no newline but behind a backslash, which is passed over with the byte after it
+-- inside a comment: no newline but after a backslash, which takes the next byte with it
 pub data IsComment : Text → Type 0 where
   nothing : IsComment []
   other : {b : ℕ} {bs : Text} → b ≢ backslash → b ≢ newline → IsComment bs → IsComment (b ∷ bs)
   escaped : {b : ℕ} {bs : Text} → IsComment bs → IsComment (backslash ∷ (b ∷ bs))
 
--- What stands between commands, before what follows: white space, ends of commands, newlines behind backslashes, and
--- comments up to a newline or to the source's end, where a backslash may be the last byte.
+-- Between commands, with the text after it: white space, ends of commands, newlines after backslashes, and comments up
+-- to a newline or to the end of the source, where a backslash may be the last byte.
 pub data IsGap : Text → Text → Type 0 where
   nothing : {after : Text} → IsGap [] after
   space : {b : ℕ} {bs after : Text} → is_gap b ≡ true → IsGap bs after → IsGap (b ∷ bs) after
@@ -44,12 +44,12 @@ pub data IsName : Text → Type 0 where
   letter : {b : ℕ} {bs : Text} → is_name b ≡ true → IsName bs → IsName (b ∷ bs)
   colons : (run : Text) {bs : Text} → AllPass is_colon run → IsName bs → IsName (colon ∷ (colon ∷ (run ++ bs)))
 
--- the longest name at the front
+-- the longest name that the text begins with
 abbrev pub IsLongestName : Text → Text → Type 0
 IsLongestName name after = IsName name × ((more rest : Text) → after ≡ more ++ rest → IsName (name ++ more) → more ≡ [])
 
--- what stands for itself, before what follows: a longest run; a dollar sign that begins no variable; a backslash at the
--- end
+-- Literal text, with the text after it: a longest run of literal bytes; a dollar sign that begins no variable; or a
+-- backslash at the end.
 abbrev pub IsRun : Context → Text → Text → Type 0
 IsRun c t after =
     DoesBegin (in_class (class_of c)) t × AllPass (in_class (class_of c)) t
@@ -65,16 +65,17 @@ IsLastBackslash t after = (t ≡ backslash ∷ []) × (after ≡ [])
 abbrev pub IsLiteral : Context → Text → Text → Type 0
 IsLiteral c t after = IsRun c t after ⊎ (IsDollar t after ⊎ IsLastBackslash t after)
 
--- $name, not before a parenthesis
+-- $name, with no parenthesis after it
 abbrev pub IsPlainVariable : Text → Text → Text → Type 0
 IsPlainVariable name bs after =
     (bs ≡ dollar ∷ name) × (name ≢ []) × IsLongestName name after × MayBegin (λ b. not (b == left_parenthesis)) after
 
 -- ${name}
 abbrev pub IsBracedVariable : Text → Text → Type 0
-IsBracedVariable name bs = (bs ≡ dollar ∷ (left_brace ∷ (name ++ right_brace ∷ []))) × AllPass (in_class InName) name
+IsBracedVariable name bs =
+    (bs ≡ dollar ∷ (left_brace ∷ (name ++ right_brace ∷ []))) × AllPass (in_class InName) name
 
--- the text is a first and a second part
+-- the text is a first part and a second one
 pub record Split (bs : Text) (First : Text → Text → Type 0) (Second : Text → Type 0) : Type 0 where
   pub first : Text
   pub second : Text
@@ -82,8 +83,8 @@ pub record Split (bs : Text) (First : Text → Text → Type 0) (Second : Text �
   pub is_first : First first second
   pub is_second : Second second
 
--- A word in braces, in quotes or bare, of these parts: ArePartsOf says of which texts they are the parts. A word ends
--- behind it.
+-- A word in braces, in quotes or in neither, of these parts; ArePartsOf says of which texts they are the parts. The
+-- word ends before the text after it.
 abbrev pub IsBracedWord : Parts → Text → Type 0
 IsBracedWord ps bs =
     (inside : Text) × (ps ≡ part (braced inside) no_parts) × (bs ≡ left_brace ∷ (inside ++ right_brace ∷ []))
@@ -102,16 +103,16 @@ IsPlainWord nested ps ArePartsOf bs after =
     (word_ends nested after ≡ true) × (IsBracedWord ps bs
     ⊎ (IsQuotedWord ArePartsOf bs after ⊎ IsBareWord nested ArePartsOf bs after))
 
--- the mark {*} and a text, where the word doesn't end between them
+-- the mark {*} and a text, where the word does not end between them
 abbrev pub IsExpanding : Bool → (Text → Type 0) → Text → Text → Type 0
 IsExpanding nested Is bs after =
     (body : Text) × (bs ≡ left_brace ∷ (star ∷ (right_brace ∷ body))) × (word_ends nested (body ++ after) ≡ false)
     × Is body
 
--- The flag says that the text stands in brackets.
+-- The flag nested is true in brackets.
 abbrev mutual
-  -- commands, with gaps before them and behind the last; a command doesn't begin as a comment does. The number is how
-  -- many bytes the script has: those before a command's place and those from there on.
+  -- Commands, with gaps before them and after the last; a command doesn't begin as a comment does. The number is the
+  -- length of the whole script: the bytes before the offset of a command, and those from there on.
   pub IsCommands : ℕ → Bool → Commands → Text → Text → Type 0
   IsCommands size nested no_commands bs after = IsGap bs after × (script_ends nested after ≡ true)
   IsCommands size nested (command place source ws cs) bs after =
@@ -125,7 +126,7 @@ abbrev mutual
   IsCommand nested source (word w ws) bs after =
       (rest : Text) × (bs ≡ source ++ rest) × IsWord nested w source (rest ++ after) × IsWords nested ws rest after
 
-  -- more words of a command, behind blanks, up to its end
+  -- more words of a command, each after blanks, up to its end
   pub IsWords : Bool → Words → Text → Text → Type 0
   IsWords nested no_words bs after = IsBlanks bs × (command_ends nested after ≡ true)
   IsWords nested (word w ws) bs after =
@@ -133,9 +134,11 @@ abbrev mutual
       (λ more. Split more (λ body rest. IsWord nested w body (rest ++ after)) (λ rest. IsWords nested ws rest after))
 
   pub IsWord : Bool → Word → Text → Text → Type 0
-  IsWord nested (word_of false ps) bs after = IsPlainWord nested ps (λ c inside more. IsParts c ps inside more) bs after
+  IsWord nested (word_of false ps) bs after =
+      IsPlainWord nested ps (λ c inside more. IsParts c ps inside more) bs after
   IsWord nested (word_of true ps) bs after =
-      IsExpanding nested (λ body. IsPlainWord nested ps (λ c inside more. IsParts c ps inside more) body after) bs after
+      IsExpanding nested
+      (λ body. IsPlainWord nested ps (λ c inside more. IsParts c ps inside more) body after) bs after
 
   -- parts, up to where no more can follow
   pub IsParts : Context → Parts → Text → Text → Type 0

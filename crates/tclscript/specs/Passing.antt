@@ -1,4 +1,5 @@
--- What is passed over byte by byte: blanks, gaps between commands with their comments, and names of variables.
+-- What is skipped or taken byte by byte (Tcl(n), rules 3, 8 and 10): blanks, gaps between commands with their comments,
+-- and names of variables.
 use Rattle.std.specs.Prelude.{ℕ, [], ◌∷◌, Bool, true, false, ◌||◌, ◌&&◌, ◌==◌, if◌then◌else◌, Option, Some, None}
 use Rattle.tclchars.specs.Bytes.{newline, hash, colon, backslash, is_blank, is_gap}
 use Rattle.tclchars.specs.Classes.{is_name}
@@ -11,6 +12,7 @@ abbrev pub step_blanks : ℕ → Text → Option Passing
 step_blanks b after =
     if is_blank b then Some Blanks else if b == backslash && begins newline after then Some Joined else None
 
+-- after a backslash, the newline that it joins
 abbrev pub step_joined : ℕ → Option Passing
 step_joined b = if b == newline then Some Blanks else None
 
@@ -19,7 +21,7 @@ abbrev pub step_gap : ℕ → Text → Option Passing
 step_gap b after =
     if is_gap b || (b == backslash && begins newline after) then Some Gap else if b == hash then Some Comment else None
 
--- a comment ends at a newline; a backslash takes the next byte along
+-- a comment ends at a newline; a backslash takes the next byte with it
 abbrev pub step_comment : ℕ → Passing
 step_comment b = if b == newline then Gap else if b == backslash then Escaped else Comment
 
@@ -28,7 +30,7 @@ abbrev pub step_name : Bool → ℕ → Text → Option Passing
 step_name colons b after =
     if is_name b then Some Name else if b == colon && (colons || begins colon after) then Some Colons else None
 
--- what a byte before others makes of what is passed over; None: it isn't passed
+-- the state after a byte that others follow; None where the scan ends before it
 abbrev pub step : Passing → ℕ → Text → Option Passing
 step Blanks b after = step_blanks b after
 step Joined b after = step_joined b
@@ -38,20 +40,24 @@ step Escaped b after = Some Comment
 step Name b after = step_name false b after
 step Colons b after = step_name true b after
 
+-- the byte as the first of those that are taken
 abbrev pub put_before : ℕ → Text × Text → Text × Text
 put_before b p = (b ∷ p.0, p.1)
 
+-- what is taken from a byte on, by the state after it
 abbrev pub pass_on : ℕ → Text → (Passing → Text × Text) → Option Passing → Text × Text
 pass_on b bs more None = ([], b ∷ bs)
 pass_on b bs more (Some next) = put_before b (more next)
 
--- what is passed, and what follows it
+-- the bytes that a scan from a state takes, and the rest
 unfoldable pub pass : Passing → Text → Text × Text
 pass passing [] = ([], [])
 pass passing (b ∷ bs) = pass_on b bs (λ next. pass next bs) (step passing b bs)
 
+-- the text without the blanks that it begins with
 abbrev pub skip_blanks : Text → Text
 skip_blanks bs = (pass Blanks bs).1
 
+-- the text without the gap that it begins with
 abbrev pub skip_gap : Text → Text
 skip_gap bs = (pass Gap bs).1

@@ -1,19 +1,21 @@
--- Pieces of a source text.
+-- Pieces of a source text: suffixes, prefixes and byte ranges.
 use Rattle.std.specs.Prelude.{◌≡◌, ℕ, ◌-◌, [], ◌++◌, length, take, drop, Bool, ◌||◌, ◌&&◌, nat_lt, nat_le, slice_index, if◌then◌else◌}
 use Rattle.tclchars.specs.Runs.{Text}
 
+-- the whole text ends with the rest
 abbrev pub IsEndOf : Text → Text → Type 0
 IsEndOf whole rest = (before : Text) × (whole ≡ before ++ rest)
 
+-- the whole text begins with the piece
 abbrev pub IsFrontOf : Text → Text → Type 0
 IsFrontOf whole piece = (after : Text) × (whole ≡ piece ++ after)
 
--- a character begins there, or the text ends
+-- a character begins at the offset, or the text ends there
 abbrev pub is_boundary : Text → ℕ → Bool
 is_boundary bs i =
     nat_le i (length bs) && (nat_le (length bs) i || nat_lt (slice_index bs i) 128 || nat_le 192 (slice_index bs i))
 
--- what stands between two places, or nothing where they cut a character
+-- the text between two offsets; the empty text where they cut a character
 abbrev pub between : Text → ℕ → ℕ → Text
 between bs start end =
     if nat_le start end && (is_boundary bs start && is_boundary bs end) then take (end - start) (drop start bs) else []

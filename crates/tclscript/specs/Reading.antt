@@ -1,7 +1,8 @@
--- Reading a script from left to right, with the first fault that is met. A fault has the number of bytes from its mark
--- on.
+-- Reading a script from left to right, with the first fault that is met: the grammar as functions that compute, which
+-- the code follows step by step. By the law `script_of_grammar` they agree with the grammar. A fault has the number of
+-- bytes that remain from its mark on.
 use Rattle.std.specs.Prelude.{ℕ, zero, suc, ◌-◌, List, [], ◌∷◌, length, take, Bool, true, false, ◌==◌, if◌then◌else◌, Option, Some, None, Result, Ok, Err}
-use Rattle.tclchars.specs.Runs.{Text, front, back}
+use Rattle.tclchars.specs.Runs.{Text, take_while, drop_while}
 use Rattle.tclchars.specs.Bytes as bytes
 use Rattle.tclchars.specs.Bytes.{quote, dollar, left_parenthesis, right_parenthesis, star, left_bracket, right_bracket, left_brace, right_brace}
 use Rattle.tclchars.specs.Classes.{in_class}
@@ -20,16 +21,16 @@ use Rattle.tclscript.specs.Passing.{pass, skip_blanks, skip_gap}
 
 -- Marks
 
--- what is read behind this mark where the text begins with it, or otherwise
+-- what is read after this mark, where the text begins with it; else the other
 abbrev pub on_mark : {A : Type 0} → ℕ → Text → (Text → A) → A → A
 on_mark mark [] behind other = other
 on_mark mark (b ∷ bs) behind other = if b == mark then behind bs else other
 
--- what follows the mark that closes, or the fault where it is missing
+-- the rest after the closing mark, or the fault where it is missing
 abbrev pub closed : ℕ → Fault → Text → Result Text Fault
 closed mark fault bs = on_mark mark bs (λ rest. Ok rest) (Err fault)
 
--- what follows a closing brace or quote, where the word ends
+-- the text after a closing brace or quote, where the word ends there
 abbrev pub ended : Bool → Text → Result Text Fault
 ended nested bs = if word_ends nested bs then Ok bs else Err (JoinedToClose (length bs))
 
@@ -40,82 +41,86 @@ pub record Inner : Type 0 where
   pub script : Text → Read Commands
   pub index : Text → Read Parts
 
--- behind a bracket
+-- after an opening bracket
 unfoldable pub bracket_at : Inner → Text → Read Part
 bracket_at inner bs = do
   x ← inner.script bs
   rest ← closed right_bracket (OpenBracket (suc (length bs))) x.1
   Ok (bracket x.0, rest)
 
--- the parts of an index, behind its parenthesis
+-- the parts of an index, after its opening parenthesis
 unfoldable pub index_at : Inner → Text → Read Parts
 index_at inner bs = do
   x ← inner.index bs
   rest ← closed right_parenthesis (BadCharacter (suc (length bs))) x.1
   Ok (x.0, rest)
 
--- behind the brace of a name
+-- after the opening brace of a name
 unfoldable pub braced_name_at : Text → Read Part
 braced_name_at bs = do
-  rest ← closed right_brace (OpenBrace (suc (length bs))) (back (in_class InName) bs)
-  Ok (variable (front (in_class InName) bs), rest)
+  rest ← closed right_brace (OpenBrace (suc (length bs))) (drop_while (in_class InName) bs)
+  Ok (variable (take_while (in_class InName) bs), rest)
 
--- a name without a parenthesis: without a name the dollar is itself
+-- a name without an index; without a name the dollar is literal
 abbrev pub plain_variable : Text → Part
 plain_variable [] = literal (dollar ∷ [])
 plain_variable (b ∷ bs) = variable (b ∷ bs)
 
--- behind a name
+-- after a name
 abbrev pub after_name : Inner → Text × Text → Read Part
 after_name inner p =
     on_mark left_parenthesis p.1 (λ bs. read_map (indexed p.0) (index_at inner bs)) (Ok (plain_variable p.0, p.1))
 
--- behind a dollar
+-- after a dollar
 unfoldable pub dollar_at : Inner → Text → Read Part
 dollar_at inner bs = on_mark left_brace bs braced_name_at (after_name inner (pass Name bs))
 
--- behind a backslash and what it takes along; at the text's end a backslash is itself
+-- after a backslash, by what it stands for; at the end of the text a backslash is literal
 abbrev pub escaped : Text → Option (Text × Text) → Read Part
 escaped bs (Some p) = Ok (backslash p.0, p.1)
 escaped [] None = Ok (literal (bytes.backslash ∷ []), [])
 escaped (b ∷ bs) None = Err (BadCharacter (suc (length (b ∷ bs))))
 
--- behind a backslash
+-- after a backslash
 unfoldable pub backslash_at : Text → Read Part
 backslash_at bs = escaped bs (after_backslash bs)
 
--- a run of text that stands for itself
+-- a run of literal text
 abbrev pub literal_at : Context → Text → Read Part
-literal_at context bs = Ok (literal (front (in_class (class_of context)) bs), back (in_class (class_of context)) bs)
+literal_at context bs =
+    Ok (literal (take_while (in_class (class_of context)) bs), drop_while (in_class (class_of context)) bs)
 
--- one part, where parts don't end
+-- one part, where the parts do not end
 unfoldable pub part_at : Context → Inner → Text → Read Part
 part_at context inner bs =
     on_mark dollar bs (dollar_at inner) (on_mark left_bracket bs (bracket_at inner)
     (on_mark bytes.backslash bs backslash_at (literal_at context bs)))
 
+-- parts, up to where they end in the context
 unfoldable pub parts_with : Context → Inner → Text → Read Parts
 parts_with context inner bs =
     read_map parts_of (items_at (λ bs. bs) (parts_end context) (part_at context inner) (suc (length bs)) bs)
 
 -- Words
 
+-- a word in braces, by the text that they enclose
 abbrev pub word_in_braces : Bool → ℕ → Option (Text × Text) → Read Parts
 word_in_braces nested left None = Err (OpenBrace left)
-word_in_braces nested left (Some p) = ended nested p.1 >>= (λ rest. Ok (part (braced p.0) no_parts, rest))
+word_in_braces nested left (Some p) =
+    ended nested p.1 >>= (λ rest. Ok (part (braced p.0) no_parts, rest))
 
--- a word in braces, behind its first brace
+-- a word in braces, after the opening brace
 unfoldable pub braced_word_at : Bool → Text → Read Parts
 braced_word_at nested bs = word_in_braces nested (suc (length bs)) (braced_at false 0 bs)
 
--- what stands in quotes, behind the first
+-- the parts in quotes, after the opening quote
 unfoldable pub quotes_at : Inner → Text → Read Parts
 quotes_at inner bs = do
   x ← parts_with InQuotes inner bs
   rest ← closed quote (OpenQuote (suc (length bs))) x.1
   Ok (x.0, rest)
 
--- a word in quotes, behind its first quote
+-- a word in quotes, after the opening quote
 unfoldable pub quoted_word_at : Bool → Inner → Text → Read Parts
 quoted_word_at nested inner bs = do
   x ← parts_with InQuotes inner bs
@@ -123,49 +128,53 @@ quoted_word_at nested inner bs = do
   rest ← ended nested after
   Ok (x.0, rest)
 
--- a word that doesn't expand
+-- a word in braces, in quotes or in neither
 unfoldable pub plain_word_at : Bool → Inner → Text → Read Parts
 plain_word_at nested inner bs =
     on_mark left_brace bs (braced_word_at nested)
     (on_mark quote bs (quoted_word_at nested inner) (parts_with (bare nested) inner bs))
 
+-- the text, unless a word ends before it
 abbrev pub unless_word_ends : Bool → Text → Option Text
 unless_word_ends nested bs = if word_ends nested bs then None else Some bs
 
--- what follows the mark {*}, unless a word ends there
+-- the rest after the mark {*}, unless a word ends there
 unfoldable pub after_expansion : Bool → Text → Option Text
 after_expansion nested bs =
     on_mark left_brace bs (λ xs. on_mark star xs
     (λ ys. on_mark right_brace ys (unless_word_ends nested) None) None) None
 
+-- a word, by the rest after its mark {*}
 abbrev pub word_from : Bool → Inner → Text → Option Text → Read Word
 word_from nested inner bs None = read_map (word_of false) (plain_word_at nested inner bs)
 word_from nested inner bs (Some rest) = read_map (word_of true) (plain_word_at nested inner rest)
 
+-- a word, with the mark {*} before it or without
 unfoldable pub word_at : Bool → Inner → Text → Read Word
 word_at nested inner bs = word_from nested inner bs (after_expansion nested bs)
 
 -- Commands and scripts
 
--- what was read before that rest
+-- the text up to the rest
 abbrev pub taken : Text → Text → Text
 taken bs rest = take (length bs - length rest) bs
 
--- the words behind the first
+-- the words after the first
 abbrev pub words_at : Bool → Inner → Text → Read (List Word)
 words_at nested inner bs = items_at skip_blanks (command_ends nested) (word_at nested inner) (suc (length bs)) bs
 
--- a command, whose first word stands at that place
+-- a command, whose first word has that offset
 unfoldable pub command_at : ℕ → Bool → Inner → Text → Read Command
 command_at place nested inner bs = do
   w ← word_at nested inner bs
   read_map (λ ws. record { place = place; source = taken bs w.1; words = word w.0 (words_of ws) })
       (words_at nested inner w.1)
 
--- a command of a script that has so many bytes, with what follows it
+-- a command of a script of so many bytes, with the rest of the script
 abbrev pub command_in : ℕ → Bool → Inner → Text → Read Command
 command_in size nested inner bs = command_at (size - length bs) nested inner bs
 
+-- a script, with the readers of what nests in it
 unfoldable pub script_with : Bool → Inner → Text → Read Commands
 script_with nested inner bs =
     read_map commands_of (items_at skip_gap (script_ends nested) (command_in (length bs) nested inner)
@@ -177,5 +186,6 @@ inner_at zero = record { script = λ bs. Err TooDeep; index = λ bs. Err TooDeep
 inner_at (suc depth) =
     record { script = script_with true (inner_at depth); index = parts_with InIndex (inner_at depth) }
 
+-- the tree of a whole text, in which no more than that may nest
 unfoldable pub whole_script : ℕ → Text → Result Commands Fault
 whole_script depth bs = script_with false (inner_at depth) bs >>= (λ x. Ok x.0)

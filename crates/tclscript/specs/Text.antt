@@ -1,4 +1,4 @@
--- The tree or the fault of a whole text, as a function that computes.
+-- The tree or the fault of a whole text, within the limits, as a function that computes.
 use Rattle.std.specs.Prelude.{◌≤◌, length, Result}
 use Rattle.tclchars.specs.Runs.{Text}
 use Rattle.tclchars.specs.Whole.{whole_of}
@@ -8,10 +8,10 @@ use Rattle.tclscript.specs.Tree.{Commands, nesting}
 use Rattle.tclscript.specs.Grammar.{IsScript}
 use Rattle.tclscript.specs.Reading.{whole_script}
 
--- the text is a script with this tree, within the limits
+-- the text is a script with this tree, within the limits of length and nesting
 abbrev pub IsWithin : Text → Commands → Type 0
 IsWithin bs s = IsScript bs s × (nesting s ≤ max_nesting) × (length bs ≤ max_bytes)
 
--- the tree of a script, or what is wrong with it
+-- the tree of a script, or what is wrong with the text
 abbrev pub script_of : Text → Result Commands TextFault
 script_of bs = whole_of (whole_script max_nesting) bs

@@ -1,11 +1,10 @@
--- A script as a tree: commands of words, words of parts, and in the parts again scripts (in brackets) and parts (in the
--- parentheses of an index).
+-- A script as a tree (Tcl(n)): commands of words, words of parts, and in the parts again scripts (in brackets) and
+-- parts (in the parentheses of an index).
 use Rattle.std.specs.Prelude.{ℕ, List, [], ◌∷◌, Bool, max, suc}
 use Rattle.tclchars.specs.Runs.{Text}
 
 mutual
-  -- commands, each with the place of its first word, in bytes from the front of the script, and with that word's source
-  -- text
+  -- commands, each with the byte offset of its first word in the script, and with that word's source text
   pub data Commands : Type 0 where
     no_commands : Commands
     command : ℕ → Text → Words → Commands → Commands
@@ -14,7 +13,7 @@ mutual
     no_words : Words
     word : Word → Words → Words
 
-  -- a word; the flag says that the elements of its value, a list, are the words
+  -- a word; the flag is true where it expands: the elements of its list are the words
   pub data Word : Type 0 where
     word_of : Bool → Parts → Word
 
@@ -22,9 +21,9 @@ mutual
     no_parts : Parts
     part : Part → Parts → Parts
 
-  -- Literal is a text that stands for itself; braced is what stands between the braces of a word, as it is; backslash
-  -- is what a backslash stands for; variable and indexed have the variable's name, and the parts of an index; bracket
-  -- is a script that stands for its result.
+  -- A literal is its own value; braced is the text between the braces of a word, as it is; backslash is what a
+  -- backslash stands for; variable and indexed have the name of a variable, and the parts of an index; bracket is a
+  -- script whose result is the value.
   pub data Part : Type 0 where
     literal : Text → Part
     braced : Text → Part

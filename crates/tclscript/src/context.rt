@@ -1,23 +1,23 @@
-//! Where the parts of a word stand, and what ends words, commands and scripts there (Tcl(n), rules 1 to 6).
+//! Where the parts of a word are, and what ends words, commands and scripts there (Tcl(n), rules 1 to 6).
 ghost use Rattle.std.specs.Prelude.{◌≡◌};
 ghost use Rattle.tclscript.specs.Ends.{word_ends, command_ends, script_ends, stands_before, parts_end, bare, class_of};
 
 use tclchars::{Class, begins_class};
 
-/// Where the parts of a word stand, which says what stands for itself there and what ends them.
+/// Where the parts of a word are, which decides what is literal there and what ends the parts.
 #[derive(Clone, Copy, Debug, PartialEq, Eq)]
 pub enum Context {
-    /// In a bare word of a script.
+    /// In a word without quotes and braces, in a script outside of brackets.
     InScript,
-    /// In a bare word of a script in brackets.
+    /// In a word without quotes and braces, in a script in brackets.
     InBracket,
-    /// In the parentheses of an index.
+    /// In the parentheses of an array index.
     InIndex,
     /// In quotes.
     InQuotes,
 }
 
-/// What stands for itself there.
+/// The bytes that are literal there.
 pub(crate) fn class_of(context: Context) -> Class
     ensures { result ≡ class_of context }
 {
@@ -29,7 +29,7 @@ pub(crate) fn class_of(context: Context) -> Class
     }
 }
 
-/// Where a bare word stands, in brackets or not.
+/// The context of a word without quotes and braces, in brackets or not.
 pub(crate) fn bare(nested: bool) -> Context
     ensures { result ≡ bare nested }
 {
@@ -40,8 +40,7 @@ pub(crate) fn bare(nested: bool) -> Context
     }
 }
 
-/// Whether a word ends before the text: nothing follows it, or white space, an end of the command, or the bracket that
-/// closes.
+/// Whether a word ends before the text: nothing follows, or white space, an end of the command, or the closing bracket.
 pub(crate) fn word_ends(text: &str, nested: bool) -> bool
     ensures { result ≡ word_ends nested text.now }
 {
@@ -53,7 +52,7 @@ pub(crate) fn word_ends(text: &str, nested: bool) -> bool
     }
 }
 
-/// Whether a command ends before the text, in front of which no blank stands.
+/// Whether a command ends before the text, which begins with no blank.
 pub(crate) fn command_ends(text: &str, nested: bool) -> bool
     ensures { result ≡ command_ends nested text.now }
 {
@@ -63,7 +62,7 @@ pub(crate) fn command_ends(text: &str, nested: bool) -> bool
     }
 }
 
-/// Whether a script ends before the text, in front of which no gap stands.
+/// Whether a script ends before the text, which begins with no gap.
 pub(crate) fn script_ends(text: &str, nested: bool) -> bool
     ensures { result ≡ script_ends nested text.now }
 {
@@ -73,7 +72,7 @@ pub(crate) fn script_ends(text: &str, nested: bool) -> bool
     }
 }
 
-// Whether the text is nothing, or begins with that mark.
+/// Whether the text is empty or begins with that mark.
 fn stands_before(text: &str, mark: u8) -> bool
     ensures { result ≡ stands_before mark text.now }
 {
@@ -83,7 +82,7 @@ fn stands_before(text: &str, mark: u8) -> bool
     }
 }
 
-/// Whether no part begins with the text.
+/// Whether the parts of a word end before the text.
 pub(crate) fn parts_end(text: &str, context: Context) -> bool
     ensures { result ≡ parts_end context text.now }
 {

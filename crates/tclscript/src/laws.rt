@@ -1,4 +1,4 @@
-//! What holds of the definitions that the contracts cite.
+//! Laws of scripts: functions that do nothing, whose contracts are theorems about the definitions.
 ghost use Rattle.std.specs.Prelude.{◌≡◌, ◌≢◌, ◌↔◌, ◌≤◌, suc, [], ◌∷◌, ◌++◌, length, Ok, Err, None};
 ghost use Rattle.tclchars.specs.Runs.{Text};
 ghost use Rattle.tclchars.specs.Bytes.{backslash, left_parenthesis};
@@ -27,7 +27,7 @@ pub fn one_fault()
 {}
 
 /// `script_of` gives a tree exactly where the grammar has it within the limits, and a fault exactly where that is the
-/// text's, want of memory never; and a text with a fault has no tree within the limits.
+/// fault of the text, want of memory never; and a text with a fault has no tree within the limits.
 pub fn script_of_grammar()
     ensures tree { (bs : Text) (s : Commands) → (script_of bs ≡ Ok s) ↔ IsWithin bs s }
     ensures fault { (bs : Text) (f : TextFault) → f ≢ OutOfMemory → (script_of bs ≡ Err f) ↔ IsTextFault bs f }
@@ -36,10 +36,12 @@ pub fn script_of_grammar()
         → ⊥ }
 {}
 
-/// Where a text that isn't nested too deeply is wrong, a script begins with the text before that place. What follows a
-/// closing brace or quote, or what a backslash begins, offends: no script begins with the text up to and with it,
-/// however deep that nests; of what a backslash begins five bytes show it at most. Where a mark is open, a script
-/// begins with the whole text.
+/// Faults are found at the first byte that shows them (the correct-prefix property), in a text that isn't nested too
+/// deeply.
+///
+/// The text before the offset of a fault is the beginning of some script. What follows a closing brace or quote, and
+/// what a backslash begins, is not: no script begins with the text up to and with it, however deep that nests; of what
+/// a backslash begins five bytes show it at most. Where a mark is open, the whole text is the beginning of some script.
 pub fn first_offending()
     ensures before_mark { (before rest : Text) (f : Fault) → IsFault max_nesting (before ++ rest) f → f ≢ TooDeep
         → left_of f ≡ length rest → GoesOn before }

@@ -1,4 +1,4 @@
-//! A script that holds its text.
+//! A script that owns its text.
 ghost use Rattle.std.specs.Prelude.{◌≡◌, ◌≤◌, length, string_bytes, IfOk, IfErr, MatchResult};
 ghost use Rattle.tclchars.specs.Faults.{max_bytes, max_nesting};
 ghost use Rattle.tclchars.specs.declared.fault.TextFault.TheVariants.{OutOfMemory};
@@ -15,16 +15,20 @@ use crate::tree::Script;
 use std::alloc::Global;
 use tclchars::TextFault;
 
-/// A script with its text: the pieces of the tree are ranges of it.
+/// A script with its text: the pieces of the tree are ranges of the text.
 #[derive(Debug, Drop)]
 pub struct OwnedScript {
+    /// The text.
     pub text: String,
+    /// The tree, whose pieces are byte ranges of the text.
     pub script: Script<ByteRange>,
 }
 
-/// The tree of a script, as `parse_script` gives it, with the text, which isn't copied.
+/// The tree of a script, as `parse_script` gives it, with the text, which is moved and not copied.
+///
+/// The errors are those of `parse_script`; the text is then dropped.
 pub fn own_script(alloc: Global, text: String) -> Result<OwnedScript, TextFault>
-    // The text is kept.
+    // The text is unchanged.
     ensures same { IfOk result (λ o. string_bytes o.text ≡ string_bytes text) }
 
     // A tree that is returned is the text's, within the limits.
@@ -34,7 +38,7 @@ pub fn own_script(alloc: Global, text: String) -> Result<OwnedScript, TextFault>
     ensures only { (s : Commands) → IsWithin (string_bytes text) s
         → MatchResult result (λ o. owned_view o ≡ s) (λ e. e ≡ OutOfMemory) }
 
-    // A fault is the text's first, at its place.
+    // A fault is the first of the text, with its offset.
     ensures fault { IfErr result (IsTextFault (string_bytes text)) }
 
     // The tree or the fault is the one that the definition computes, unless memory runs out.

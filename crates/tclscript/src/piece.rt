@@ -1,10 +1,12 @@
-//! A source text and the pieces of it that a tree holds.
+//! A source text, and the pieces of it that a tree holds: slices, or ranges of bytes.
 ghost use Rattle.std.specs.Prelude.{◌≡◌, ◌+◌, ℕ, length};
 ghost use Rattle.tclchars.specs.Runs.{Text};
 ghost use Rattle.tclscript.specs.Pieces.{IsEndOf, IsFrontOf, between};
 
-/// A source text, of which a `P` stands for a piece: `text` is the whole, `shown` the text that a piece stands for, and
-/// `stands` where it stands, by the places of its first byte and of the one behind its last.
+/// A source text whose pieces are values of `P`.
+///
+/// `text` is the whole text, `shown` the text of a piece, and `stands` holds of a piece and its two offsets: of its
+/// first byte, and of the byte after its last.
 pub trait Source<P> {
     ghost text: { Self → Text };
 
@@ -16,12 +18,12 @@ pub trait Source<P> {
     fn as_str(&self) -> &str
         ensures { result.now ≡ text self.now };
 
-    /// The piece at the front of `rest`, which is an end of the source.
+    /// The piece that `rest` begins with; `rest` is a suffix of the source.
     fn cut(&self, rest: &str, piece: &str) -> P
-        requires end { IsEndOf (text self.now) rest.now }
-        requires front { IsFrontOf rest.now piece.now }
+        requires suffix { IsEndOf (text self.now) rest.now }
+        requires prefix { IsFrontOf rest.now piece.now }
         ensures text { shown self.now result ≡ piece.now }
-        ensures place { (start : ℕ) → start + length rest.now ≡ length (text self.now)
+        ensures offsets { (start : ℕ) → start + length rest.now ≡ length (text self.now)
             → stands self.now result start (start + length piece.now) };
 }
 
@@ -42,17 +44,17 @@ impl<'a> Source<&'a str> for &'a str {
     }
 }
 
-/// Where a piece stands in its source, in bytes.
+/// A piece of a source by its byte offsets.
 #[derive(Clone, Copy, Debug, Drop, PartialEq, Eq)]
 pub struct ByteRange {
-    /// The place of the first byte, from 0.
+    /// The offset of the first byte, from 0.
     pub start: usize,
-    /// The place behind the last byte.
+    /// The offset of the byte after the last.
     pub end: usize,
 }
 
 impl ByteRange {
-    /// What stands there in the text; nothing where the range cuts a character, ends before it starts, or ends past the
+    /// The text of the range; the empty text where the range cuts a character, ends before it starts, or ends past the
     /// text.
     pub fn of(self, text: &str) -> &str
         ensures { result.now ≡ between text.now self.start self.end }

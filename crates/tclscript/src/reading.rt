@@ -1,4 +1,4 @@
-//! The words and commands of a script, read (Tcl(n), rules 1 to 9).
+//! The words and commands of a script, read from left to right (Tcl(n), rules 1 to 9).
 ghost use Rattle.std.specs.Prelude.{◌≡◌, ◌∷◌, ◌<◌, length, suc, option_map};
 ghost use Rattle.tclchars.specs.Bytes.{dollar, backslash};
 ghost use Rattle.tclchars.specs.Answers.{Gives};
@@ -15,7 +15,7 @@ use crate::tree::{Command, Part, Script, Word};
 use std::alloc::Global;
 use tclchars::{Class, Fault, ReadError, after_mark, read_backslash, split_close, split_front};
 
-// What follows the mark that closes, or the fault where it is missing.
+/// The rest after the closing mark, or the fault where that is missing.
 fn closed(text: &str, mark: u8, fault: Fault) -> Result<&str, ReadError>
     requires { mark < 128 }
     ensures { Gives stopped_by (λ rest. rest.now) result (closed mark fault text.now) }
@@ -26,7 +26,7 @@ fn closed(text: &str, mark: u8, fault: Fault) -> Result<&str, ReadError>
     }
 }
 
-// What follows a closing brace or quote, where the word ends.
+/// The text after a closing brace or quote, where the word ends there; else the fault that something is joined to it.
 fn ended(text: &str, nested: bool) -> Result<&str, ReadError>
     ensures { Gives stopped_by (λ rest. rest.now) result (ended nested text.now) }
 {
@@ -37,14 +37,14 @@ fn ended(text: &str, nested: bool) -> Result<&str, ReadError>
     }
 }
 
-// How many bytes there are from a mark on, with what stands behind it.
+/// How many bytes remain from a mark of one byte on, of which `behind` is what follows it.
 fn left_with_mark(behind: &str) -> usize
     ensures { result ≡ suc (length behind.now) }
 {
     behind.len() + 1
 }
 
-// What follows the mark {*}, unless a word ends there.
+/// The rest after the mark `{*}`, unless a word ends there: then it is a word in braces.
 #[tactic(auto, unfolding(crate::specs::Reading::after_expansion))]
 fn after_expansion(text: &str, nested: bool) -> Option<&str>
     ensures { option_map (λ rest. rest.now) result ≡ after_expansion nested text.now }
@@ -57,7 +57,7 @@ fn after_expansion(text: &str, nested: bool) -> Option<&str>
     }
 }
 
-// What was read of the text before that rest.
+/// The piece of the source from the text up to the rest.
 fn taken<'a, S: Source<P>, P: Drop>(source: &S, text: &'a str, rest: &'a str) -> P
     requires text { IsEndOf (S.text source.now) text.now }
     requires rest { IsEndOf text.now rest.now }
@@ -66,7 +66,7 @@ fn taken<'a, S: Source<P>, P: Drop>(source: &S, text: &'a str, rest: &'a str) ->
     source.cut(text, text.split_at(text.len() - rest.len()).0)
 }
 
-// The run in front that stands for itself there, and what follows it.
+/// The run of literal bytes that the text begins with, as a part, and the rest.
 fn read_literal<'a, S: Source<P>, P: Drop>(
     source: &S,
     text: &'a str,
@@ -79,7 +79,7 @@ fn read_literal<'a, S: Source<P>, P: Drop>(
     (Part::Literal(source.cut(text, run)), rest)
 }
 
-// A name without a parenthesis, behind a dollar; without a name the dollar is itself.
+/// The part of a dollar and a name without an index; without a name the dollar is literal.
 fn plain_variable<'a, S: Source<P>, P: Drop>(
     source: &S,
     text: &'a str,
@@ -98,7 +98,7 @@ fn plain_variable<'a, S: Source<P>, P: Drop>(
     }
 }
 
-// Behind a backslash, which stands in front of the text; at the text's end it is itself.
+/// The part of a backslash, with which the text begins, and the rest; at the end of the text a backslash is literal.
 #[tactic(auto, unfolding(crate::specs::Reading::backslash_at))]
 fn read_escape<'a, S: Source<P>, P: Drop>(
     source: &S,
@@ -107,7 +107,8 @@ fn read_escape<'a, S: Source<P>, P: Drop>(
 ) -> Result<(Part<P>, &'a str), ReadError>
     requires text { IsEndOf (S.text source.now) text.now }
     requires mark { text.now ≡ backslash ∷ behind.now }
-    ensures { Gives stopped_by (λ x. (part_view (S.shown source.now) x.0, x.1.now)) result (backslash_at behind.now) }
+    ensures { Gives stopped_by (λ x. (part_view (S.shown source.now) x.0, x.1.now)) result
+        (backslash_at behind.now) }
 {
     match read_backslash(behind) {
         Some((c, rest)) => Ok((Part::Backslash(c), rest)),
@@ -121,7 +122,7 @@ fn read_escape<'a, S: Source<P>, P: Drop>(
     }
 }
 
-// Behind the brace of a name.
+/// The variable whose name is in braces, and the rest; `text` follows the opening brace.
 #[tactic(auto, unfolding(crate::specs::Reading::braced_name_at))]
 fn read_braced_name<'a, S: Source<P>, P: Drop>(
     source: &S,
@@ -135,7 +136,7 @@ fn read_braced_name<'a, S: Source<P>, P: Drop>(
     Ok((Part::Variable(source.cut(text, name)), rest))
 }
 
-// A word in braces, behind its first brace.
+/// The one part of a word in braces, and the rest; `text` follows the opening brace.
 #[tactic(auto, unfolding(crate::specs::Reading::braced_word_at))]
 fn read_braced<'a, S: Source<P>, P: Drop>(
     alloc: Global,
@@ -156,7 +157,7 @@ fn read_braced<'a, S: Source<P>, P: Drop>(
     Ok((parts, rest))
 }
 
-// The tree of a source, where so many brackets and indexes nest at most.
+/// The tree of a whole source, in which `depth` brackets and indexes may nest.
 #[tactic(auto, unfolding(crate::specs::Reading::whole_script))]
 pub(crate) fn read_source<S: Source<P>, P: Drop>(
     alloc: Global,
@@ -169,7 +170,7 @@ pub(crate) fn read_source<S: Source<P>, P: Drop>(
     Ok(script)
 }
 
-// A script, and what follows it: nothing, or the bracket that closes where it stands in one.
+/// A script, and the rest of the text: nothing, or in brackets the closing bracket and what follows it.
 #[cycle(read)]
 fn read_script<'a, S: Source<P>, P: Drop>(
     alloc: Global,
@@ -196,7 +197,7 @@ fn read_script<'a, S: Source<P>, P: Drop>(
     }
 }
 
-// A command, whose first word stands in front, at that place of its script, and what follows it.
+/// The command that the text begins with, and the rest; `place` is the offset of its first word in its script.
 #[cycle(read)]
 fn read_command<'a, S: Source<P>, P: Drop>(
     alloc: Global,
@@ -233,7 +234,7 @@ fn read_command<'a, S: Source<P>, P: Drop>(
     }
 }
 
-// The word in front, and what follows it.
+/// The word that the text begins with, and the rest.
 #[cycle(read)]
 #[tactic(auto, unfolding(crate::specs::Reading::word_at))]
 fn read_word<'a, S: Source<P>, P: Drop>(
@@ -271,7 +272,7 @@ fn read_word<'a, S: Source<P>, P: Drop>(
     }
 }
 
-// A word that doesn't expand.
+/// The parts of a word in braces, in quotes or in neither, and the rest.
 #[cycle(read)]
 #[tactic(auto, unfolding(crate::specs::Reading::plain_word_at))]
 fn read_plain_word<'a, S: Source<P>, P: Drop>(
@@ -294,10 +295,10 @@ fn read_plain_word<'a, S: Source<P>, P: Drop>(
     }
 }
 
-/// The parts of a text in quotes, behind the first quote, and what follows the last (Tcl(n), rule 4), where so many
-/// brackets and indexes nest at most.
+/// The parts of a text in quotes, and the rest after the closing quote (Tcl(n), rule 4); `text` follows the opening
+/// quote, and `depth` brackets and indexes may nest in it.
 ///
-/// The fault is `OpenQuote` at the first quote, or the first that is met inside.
+/// The fault is `OpenQuote` at the opening quote, or the first that is met inside.
 #[cycle(read)]
 #[tactic(auto, unfolding(crate::specs::Reading::quotes_at))]
 pub fn read_quotes<'a, S: Source<P>, P: Drop>(
@@ -315,7 +316,7 @@ pub fn read_quotes<'a, S: Source<P>, P: Drop>(
     Ok((parts, rest))
 }
 
-// A word in quotes, behind its first quote.
+/// The parts of a word in quotes, and the rest; `text` follows the opening quote.
 #[cycle(read)]
 #[tactic(auto, unfolding(crate::specs::Reading::quoted_word_at, crate::specs::Reading::quotes_at))]
 fn read_quoted<'a, S: Source<P>, P: Drop>(
@@ -334,7 +335,7 @@ fn read_quoted<'a, S: Source<P>, P: Drop>(
     Ok((parts, rest))
 }
 
-// The parts in front up to where none follows there, and what follows them.
+/// The parts up to where they end in that context, and the rest.
 #[cycle(read)]
 fn read_parts<'a, S: Source<P>, P: Drop>(
     alloc: Global,
@@ -359,7 +360,7 @@ fn read_parts<'a, S: Source<P>, P: Drop>(
     }
 }
 
-// The part in front, where one is, and what follows it.
+/// The part that the text begins with, and the rest; the caller knows that the parts do not end here.
 #[cycle(read)]
 #[tactic(auto, unfolding(crate::specs::Reading::part_at))]
 fn read_part<'a, S: Source<P>, P: Drop>(
@@ -385,12 +386,12 @@ fn read_part<'a, S: Source<P>, P: Drop>(
     }
 }
 
-/// The variable at the front of the text, and what follows it (Tcl(n), rule 8): `$name`, `$name(index)` or `${name}`,
-/// of which `behind` is what stands behind the dollar. Before anything else the dollar is itself. So many brackets and
-/// indexes nest at most.
+/// The variable that the text begins with, and the rest (Tcl(n), rule 8): `$name`, `$name(index)` or `${name}`,
+/// of which `behind` is what follows the dollar. Before anything else the dollar is literal. At most `depth`
+/// brackets and indexes may nest.
 ///
-/// The fault is `OpenBrace` at the brace of a name, `BadCharacter` at the parenthesis of an index, or the first that is
-/// met inside.
+/// The fault is `OpenBrace` at the brace of a name, `BadCharacter` at the parenthesis of an index, or the first
+/// that is met inside.
 #[cycle(read)]
 #[tactic(auto, unfolding(crate::specs::Reading::dollar_at))]
 pub fn read_dollar<'a, S: Source<P>, P: Drop>(
@@ -418,7 +419,7 @@ pub fn read_dollar<'a, S: Source<P>, P: Drop>(
     }
 }
 
-// An element of an array, whose name stands in front of the text.
+/// The part of an array element, whose name the text begins with.
 fn indexed<'a, S: Source<P>, P: Drop>(
     source: &S,
     text: &'a str,
@@ -433,7 +434,7 @@ fn indexed<'a, S: Source<P>, P: Drop>(
     Part::Indexed(source.cut(text, name), parts)
 }
 
-// Behind the parenthesis of an index.
+/// The parts of an index, and the rest; `text` follows the opening parenthesis.
 #[cycle(read)]
 #[tactic(auto, unfolding(crate::specs::Reading::index_at, crate::specs::Reading::inner_at))]
 fn read_index<'a, S: Source<P>, P: Drop>(
@@ -454,10 +455,10 @@ fn read_index<'a, S: Source<P>, P: Drop>(
     Ok((parts, rest))
 }
 
-/// The script in brackets, behind the first bracket, and what follows the last (Tcl(n), rule 7), where so many brackets
-/// and indexes nest at most, this one among them.
+/// The script in brackets, as a part, and the rest (Tcl(n), rule 7); `text` follows the opening bracket. At most
+/// `depth` brackets and indexes may nest, this one included.
 ///
-/// The fault is `TooDeep` where none may nest, `OpenBracket` at the first bracket, or the first that is met inside.
+/// The fault is `TooDeep` where none may nest, `OpenBracket` at the opening bracket, or the first that is met inside.
 #[cycle(read)]
 #[tactic(auto, unfolding(crate::specs::Reading::bracket_at, crate::specs::Reading::inner_at))]
 pub fn read_bracket<'a, S: Source<P>, P: Drop>(

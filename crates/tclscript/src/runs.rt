@@ -1,47 +1,52 @@
-//! The runs of a text that are passed over: blanks, gaps, comments and names (Tcl(n), rules 3, 8 and 10).
+//! What is skipped or taken byte by byte: blanks, gaps with their comments, and names of variables (Tcl(n), rules 3, 8
+//! and 10).
 ghost use Rattle.std.specs.Prelude.{◌≡◌};
 ghost use Rattle.tclchars.specs.Runs.{begins};
 ghost use Rattle.tclchars.specs.Bytes.{is_blank, is_gap};
 ghost use Rattle.tclchars.specs.Classes.{is_name};
 ghost use Rattle.tclscript.specs.Passing.{step_blanks, step_joined, step_gap, step_comment, step_name, step, pass, skip_blanks, skip_gap};
 
-/// What is passed over, byte by byte, and what is known of the byte before.
+/// The state of a scan over bytes: what is being skipped or taken, and what the last byte was.
 #[derive(Clone, Copy)]
 pub(crate) enum Passing {
-    /// What parts words: blanks, and newlines behind a backslash.
+    /// Between words: blanks, and backslashes before newlines.
     Blanks,
-    /// A newline behind a backslash.
+    /// Between words, after a backslash: the next byte is its newline.
     Joined,
-    /// What stands between commands.
+    /// Between commands.
     Gap,
-    /// A comment.
+    /// In a comment.
     Comment,
-    /// What a backslash in a comment takes along.
+    /// In a comment, after a backslash, which takes the next byte with it.
     Escaped,
-    /// The name of a variable.
+    /// In the name of a variable.
     Name,
-    /// The name of a variable, behind one of several colons.
+    /// In the name of a variable, after the first of several colons.
     Colons,
 }
 
+/// Whether the byte separates words.
 fn is_blank(b: u8) -> bool
     ensures { result ≡ is_blank b }
 {
     b == b' ' || b == b'\t' || b == 11 || b == 12 || b == b'\r'
 }
 
+/// Whether the byte may be between commands.
 fn is_gap(b: u8) -> bool
     ensures { result ≡ is_gap b }
 {
     is_blank(b) || b == b'\n' || b == b';'
 }
 
+/// Whether names of variables are made of the byte.
 fn is_name(b: u8) -> bool
     ensures { result ≡ is_name b }
 {
     b.is_ascii_alphanumeric() || b == b'_'
 }
 
+/// Whether the text begins with that byte.
 fn begins(text: &[u8], mark: u8) -> bool
     ensures { result ≡ begins mark text.now }
 {
@@ -51,6 +56,7 @@ fn begins(text: &[u8], mark: u8) -> bool
     }
 }
 
+/// The state after a byte between words, or none.
 fn step_blanks(b: u8, after: &[u8]) -> Option<Passing>
     ensures { result ≡ step_blanks b after.now }
 {
@@ -63,6 +69,7 @@ fn step_blanks(b: u8, after: &[u8]) -> Option<Passing>
     }
 }
 
+/// The state after the newline that a backslash joins, or none.
 fn step_joined(b: u8) -> Option<Passing>
     ensures { result ≡ step_joined b }
 {
@@ -73,6 +80,7 @@ fn step_joined(b: u8) -> Option<Passing>
     }
 }
 
+/// The state after a byte between commands, or none.
 fn step_gap(b: u8, after: &[u8]) -> Option<Passing>
     ensures { result ≡ step_gap b after.now }
 {
@@ -85,6 +93,7 @@ fn step_gap(b: u8, after: &[u8]) -> Option<Passing>
     }
 }
 
+/// The state after a byte of a comment, which a newline ends.
 fn step_comment(b: u8) -> Passing
     ensures { result ≡ step_comment b }
 {
@@ -95,6 +104,7 @@ fn step_comment(b: u8) -> Passing
     }
 }
 
+/// The state after a byte of a name, or none; `colons` is set after a colon of several.
 fn step_name(colons: bool, b: u8, after: &[u8]) -> Option<Passing>
     ensures { result ≡ step_name colons b after.now }
 {
@@ -107,7 +117,7 @@ fn step_name(colons: bool, b: u8, after: &[u8]) -> Option<Passing>
     }
 }
 
-// What a byte before others makes of what is passed over. None: it isn't passed.
+/// The state after the byte `b`, which the bytes `after` follow. None where the scan ends before this byte.
 fn step(passing: Passing, b: u8, after: &[u8]) -> Option<Passing>
     ensures { result ≡ step passing b after.now }
 {
@@ -122,7 +132,7 @@ fn step(passing: Passing, b: u8, after: &[u8]) -> Option<Passing>
     }
 }
 
-/// What is passed at the front of the text, and what follows it.
+/// The bytes that a scan from that state takes, and the rest.
 pub(crate) fn split_passed(text: &str, start: Passing) -> (&str, &str)
     ensures run { result.0.now ≡ (pass start text.now).0 }
     ensures rest { result.1.now ≡ (pass start text.now).1 }
@@ -138,14 +148,14 @@ pub(crate) fn split_passed(text: &str, start: Passing) -> (&str, &str)
     text.split_at(text.len())
 }
 
-/// What follows the blanks in front.
+/// The text without the blanks that it begins with.
 pub(crate) fn skip_blanks(text: &str) -> &str
     ensures { result.now ≡ skip_blanks text.now }
 {
     split_passed(text, Passing::Blanks).1
 }
 
-/// What follows the gap in front: white space, semicolons and comments.
+/// The text without the gap that it begins with: white space, semicolons and comments.
 pub(crate) fn skip_gap(text: &str) -> &str
     ensures { result.now ≡ skip_gap text.now }
 {

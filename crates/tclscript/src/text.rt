@@ -1,4 +1,4 @@
-//! A whole text as a script.
+//! Whole texts as scripts, within the limits of length and nesting.
 ghost use Rattle.std.specs.Prelude.{◌≡◌, ◌≤◌, length, IfOk, IfErr, MatchResult};
 ghost use Rattle.tclchars.specs.Faults.{max_bytes, max_nesting};
 ghost use Rattle.tclchars.specs.declared.fault.TextFault.TheVariants.{OutOfMemory};
@@ -13,13 +13,19 @@ use crate::piece::Source;
 use crate::reading::read_source;
 use crate::tree::Script;
 use std::alloc::Global;
-use tclchars::{MAX_BYTES, MAX_NESTING, ReadError, TextFault, place};
+use tclchars::{MAX_BYTES, MAX_NESTING, ReadError, TextFault, with_offset};
 
 /// The tree of a script (Tcl(n)), whose pieces are slices of the text. Takes time and memory in proportion to the
-/// text's length, and copies no text.
+/// length of the text, and copies no text.
 ///
-/// A text that is no script is refused with the first fault in it and its place; a text of more than 1,048,576 bytes is
-/// `TooLong`, and `OutOfMemory` says nothing of the text.
+/// - `TooLong`: the text has more than 1,048,576 bytes, whatever else is wrong.
+/// - `TooDeep`: brackets and the parentheses of indexes nest more than 200 deep.
+/// - `OpenBrace`, `OpenQuote`, `OpenBracket`: nothing closes the mark at this offset.
+/// - `JoinedToClose`: the character at this offset follows a closing brace or quote directly.
+/// - `BadCharacter`: the backslash at this offset stands for no character, or nothing closes the parenthesis there.
+/// - `OutOfMemory`: a growth was refused; this says nothing about the text.
+///
+/// A text with several faults is refused with the first that a reader from left to right meets.
 pub fn parse_script(alloc: Global, text: &str) -> Result<Script<&str>, TextFault>
     // A tree that is returned is the text's, within the limits.
     ensures found { IfOk result (λ s. IsWithin text.now (script_view (λ piece. piece.now) s)) }
@@ -28,7 +34,7 @@ pub fn parse_script(alloc: Global, text: &str) -> Result<Script<&str>, TextFault
     ensures only { (s : Commands) → IsWithin text.now s
         → MatchResult result (λ t. script_view (λ piece. piece.now) t ≡ s) (λ e. e ≡ OutOfMemory) }
 
-    // A fault is the text's first, at its place.
+    // A fault is the first of the text, with its offset.
     ensures fault { IfErr result (IsTextFault text.now) }
 
     // The tree or the fault is the one that the definition computes, unless memory runs out.
@@ -51,7 +57,7 @@ pub fn parse_pieces<S: Source<P>, P: Drop>(
     read_whole(alloc, source)
 }
 
-// The tree of a source within the limits, or its fault.
+/// The tree of a source within the limits, or its fault.
 fn read_whole<S: Source<P>, P: Drop>(alloc: Global, source: &S) -> Result<Script<P>, TextFault>
     ensures { Reads (script_view (S.shown source.now)) result (script_of (S.text source.now)) }
 {
@@ -62,6 +68,6 @@ fn read_whole<S: Source<P>, P: Drop>(alloc: Global, source: &S) -> Result<Script
     match read_source(alloc, source, MAX_NESTING) {
         Ok(script) => Ok(script),
         Err(ReadError::Memory) => Err(TextFault::OutOfMemory),
-        Err(ReadError::Fault(fault)) => Err(place(fault, len)),
+        Err(ReadError::Fault(fault)) => Err(with_offset(fault, len)),
     }
 }

@@ -1,4 +1,4 @@
-//! The tree of a script.
+//! The tree of a script: commands of words, and words of parts.
 
 /// A script: its commands, in order. A piece of its text is a `P`: a slice of the source, or a range of bytes.
 #[cycle(tree)]
@@ -12,22 +12,22 @@ pub struct Script<P> {
 #[cycle(tree)]
 #[derive(Debug, Drop)]
 pub struct Command<P> {
-    /// Where the first word begins, in bytes from the front of the script: of the source, or of what stands in
+    /// The byte offset of the first word in the script that the command is in: in the source, or in the text in
     /// brackets.
     pub place: usize,
-    /// The text of the first word, as it stands in the source.
+    /// The source text of the first word.
     pub source: P,
     /// The words, of which there is one at least.
     pub words: Vec<Word<P>>,
 }
 
-/// A word: its parts, joined.
+/// A word of a command: the values of its parts, joined.
 #[cycle(tree)]
 #[derive(Debug, Drop)]
 pub struct Word<P> {
-    /// Whether `{*}` stands in front: the elements of its list are words of the command.
+    /// Whether the word begins with `{*}`: the elements of its list are words of the command.
     pub expands: bool,
-    /// The parts, of which the word in empty quotes has none.
+    /// The parts; the word in empty quotes has none.
     pub parts: Vec<Part<P>>,
 }
 
@@ -35,11 +35,11 @@ pub struct Word<P> {
 #[cycle(tree)]
 #[derive(Debug, Drop)]
 pub enum Part<P> {
-    /// Text that stands for itself.
+    /// Text that is its own value.
     Literal(P),
-    /// What stands between the braces of a word, as it is.
+    /// The text between the braces of a word, as it is.
     Braced(P),
-    /// The character that a backslash and what follows it stand for.
+    /// The character that a backslash and the characters after it stand for.
     Backslash(char),
     /// The value of the variable of this name.
     Variable(P),

@@ -1,5 +1,5 @@
-pub mod Numerals
-pub mod Numbers
+pub use Rattle.tclnumber.specs.Numerals
+pub use Rattle.tclnumber.specs.Numbers
 pub use Rattle.tcllist.specs.ListGrammar
 pub use Rattle.tcllist.specs.ListFaults
 pub use Rattle.tcllist.specs.ListReading

@@ -1,4 +1,4 @@
--- An item of a set as contracts see it.
+-- The item of the definitions that an item of the code stands for.
 use Rattle.tclpattern.specs.Search.Items.{Item}
 use Rattle.std.specs.Str.{chars}
 use Rattle.tclpattern.specs.declared.reading.Item as rust_item

@@ -1,4 +1,4 @@
--- What is known of the tails of a pattern at a character of the text.
+-- What the search knows of the rests of a pattern, at a character of the text.
 use Rattle.std.specs.Prelude.{◌≡◌, ◌↔◌, ℕ, List, [], ◌∷◌, Option, Some, None, IsTrue}
 use Rattle.tclpattern.specs.Patterns.{behind_close, IsMatch}
 use Rattle.tclpattern.specs.Search.Tails.{SetMatches}
@@ -13,13 +13,14 @@ abbrev pub behind_first : List ℕ → List ℕ
 behind_first [] = []
 behind_first (x ∷ xs) = xs
 
--- what is known of the tail xs, at the character c with cs behind it
+-- what is known of the rest xs at the character c, where cs is the text after it
 pub record KnowsTail (xs : List ℕ) (c : ℕ) (cs : List ℕ) (t : Tail) : Type 0 where
   pub first : t.first ≡ first_of xs
   pub matches : IsTrue t.matches ↔ IsMatch xs cs
   pub matches_behind_close : IsTrue t.matches_behind_close ↔ IsMatch (behind_close xs) cs
   pub holds : IsTrue t.holds ↔ SetMatches c xs cs
 
+-- the same of a rest, of the one without its first character, and of the one without its first two
 pub record Knows (xs : List ℕ) (c : ℕ) (cs : List ℕ) (w : Window) : Type 0 where
   pub here : KnowsTail xs c cs w.here
   pub next : KnowsTail (behind_first xs) c cs w.next

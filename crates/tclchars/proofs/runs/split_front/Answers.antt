@@ -1,5 +1,5 @@
 use Rattle.std.proofs.Common.{◌≡◌, ◌<◌, List, length, get_or, take, drop, false, ℕ, sym, ◌∙◌, subst, arith}
-use Rattle.tclchars.specs.Runs.{front, back}
+use Rattle.tclchars.specs.Runs.{take_while, drop_while}
 use Rattle.tclchars.specs.Classes.{in_class}
 use Rattle.tclchars.proofs.RunLemmas.{Passed, passed-more, passed-end, run_cut}
 use Rattle.tclchars.proofs.runs.split_front.Goals as goal
@@ -20,12 +20,12 @@ split_at-requires c = run_cut c.args.class c.args.text.now c.loop-n.n c.utf8.tex
     (rw (← c.as_bytes-bytes.ensures.value) c.loop-n.invariant.within)
     (subst (λ (bs : List ℕ). c.loop-n.n < length bs → in_class c.args.class (get_or bs c.loop-n.n 0) ≡ false) c.as_bytes-bytes.ensures.value (stopped c))
 
-parts : (c : goal.After-split_at) → (take c.loop-n.n c.args.text.now ≡ front (in_class c.args.class) c.args.text.now) × (drop c.loop-n.n c.args.text.now ≡ back (in_class c.args.class) c.args.text.now)
+parts : (c : goal.After-split_at) → (take c.loop-n.n c.args.text.now ≡ take_while (in_class c.args.class) c.args.text.now) × (drop c.loop-n.n c.args.text.now ≡ drop_while (in_class c.args.class) c.args.text.now)
 parts c =
     let stop : c.loop-n.n < length c.as_bytes-bytes.result.now → in_class c.args.class (get_or c.as_bytes-bytes.result.now c.loop-n.n 0) ≡ false =
     λ lt. elim c.loop-n-test.branch [ then-loop-n-test+else-in_class w ↦ sym w.in_class.ensures ∙ w.if-in_class.false | else-loop-n-test w ↦ absurd (omega arith) ]
     in
-    subst (λ (bs : List ℕ). (take c.loop-n.n bs ≡ front (in_class c.args.class) bs) × (drop c.loop-n.n bs ≡ back (in_class c.args.class) bs))
+    subst (λ (bs : List ℕ). (take c.loop-n.n bs ≡ take_while (in_class c.args.class) bs) × (drop c.loop-n.n bs ≡ drop_while (in_class c.args.class) bs))
     c.as_bytes-bytes.ensures.value (passed-end _ _ _ c.loop-n.invariant.passed c.loop-n.invariant.within stop)
 
 pub returns-clause-run : goal.returns-clause-run

@@ -3,8 +3,8 @@ use Rattle.tclchars.specs.declared.fault.Fault.TheVariants.{BadExpression}
 use Rattle.tclexpr.proofs.Fronts.{text_front}
 use Rattle.tclexpr.proofs.laws.first_offending.Goals as goal
 
-pub returns-clause-front : goal.returns-clause-front
-returns-clause-front c = text_front
+pub returns-clause-prefix : goal.returns-clause-prefix
+returns-clause-prefix c = text_front
 
-pub returns-clause-place : goal.returns-clause-place
-returns-clause-place c bs at h = (h.1, h.2, text_front max_nesting bs (BadExpression h.1) h.3)
+pub returns-clause-offset : goal.returns-clause-offset
+returns-clause-offset c bs at h = (h.1, h.2, text_front max_nesting bs (BadExpression h.1) h.3)

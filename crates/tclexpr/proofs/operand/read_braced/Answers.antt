@@ -3,8 +3,8 @@ use Rattle.tclchars.proofs.BraceClose.{close_sound}
 use Rattle.tclexpr.proofs.OperandSteps.{braced-read, braced-open}
 use Rattle.tclexpr.proofs.operand.read_braced.Goals as goal
 
-pub cut-requires-clause-front : goal.cut-requires-clause-front
-cut-requires-clause-front g c = (125 ∷ c.in-Some.rest.now, (close_sound c.args.text.now false 0 c.in-Some.inner.now c.in-Some.rest.now (sym c.in-Some.ensures)).0)
+pub cut-requires-clause-prefix : goal.cut-requires-clause-prefix
+cut-requires-clause-prefix g c = (125 ∷ c.in-Some.rest.now, (close_sound c.args.text.now false 0 c.in-Some.inner.now c.in-Some.rest.now (sym c.in-Some.ensures)).0)
 
 pub returns-in-Some : goal.returns-in-Some
 returns-in-Some g c = braced-read c.args.text.now c.in-Some.inner.now (g.S.Source.shown c.args.source.now c.cut.result) c.in-Some.rest.now (sym c.in-Some.ensures) c.cut.ensures.text

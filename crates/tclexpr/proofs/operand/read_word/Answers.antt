@@ -1,13 +1,13 @@
 use Rattle.std.proofs.Common.{◌++◌, ap, sym, ◌∙◌}
-use Rattle.tclchars.specs.Runs.{back}
+use Rattle.tclchars.specs.Runs.{drop_while}
 use Rattle.tclchars.specs.Classes.{is_name}
 use Rattle.tclexpr.specs.Operands.{is_truth}
 use Rattle.tclexpr.proofs.Runs.{front_back}
 use Rattle.tclexpr.proofs.OperandSteps.{word-read, word-false, word-called}
 use Rattle.tclexpr.proofs.operand.read_word.Goals as goal
 
-pub cut-requires-clause-front : goal.cut-requires-clause-front
-cut-requires-clause-front g c = (back is_name c.args.text.now, front_back is_name c.args.text.now ∙ ap (λ w. w ++ back is_name c.args.text.now) (sym c.split_front.ensures.run))
+pub cut-requires-clause-prefix : goal.cut-requires-clause-prefix
+cut-requires-clause-prefix g c = (drop_while is_name c.args.text.now, front_back is_name c.args.text.now ∙ ap (λ w. w ++ drop_while is_name c.args.text.now) (sym c.split_front.ensures.run))
 
 pub returns-then-not-is_truth : goal.returns-then-not-is_truth
 returns-then-not-is_truth g c =

@@ -10,13 +10,13 @@ returns-in_err-expression g c =
     let p = err_from_is_err_and c.from_residual.result c.from_residual.ensures.1 in
     rw (p.1, p.2) (expr-fails max_nesting (g.S.Source.text c.args.source.now) c.as_str.result.now c.in_err-expression.field-0.0 c.as_str.ensures c.in_err-expression.ensures)
 
-pub returns-then-left-eq0 : goal.returns-then-left-eq0
-returns-then-left-eq0 g c =
-    expr-ends max_nesting (g.S.Source.text c.args.source.now) c.as_str.result.now (with_height_view (g.S.Source.shown c.args.source.now) c.in_ok-expression.expression) c.in_ok-expression.rest.now c.skip_white-left.result.now
-    c.as_str.ensures c.in_ok-expression.ensures c.skip_white-left.ensures (omega arith)
+pub returns-then-remaining-eq0 : goal.returns-then-remaining-eq0
+returns-then-remaining-eq0 g c =
+    expr-ends max_nesting (g.S.Source.text c.args.source.now) c.as_str.result.now (with_height_view (g.S.Source.shown c.args.source.now) c.in_ok-expression.expression) c.in_ok-expression.rest.now c.skip_white-remaining.result.now
+    c.as_str.ensures c.in_ok-expression.ensures c.skip_white-remaining.ensures (omega arith)
     ∙ ap (λ e. Ok (expr_view (g.S.Source.shown c.args.source.now) e)) (sym c.into_tree.ensures)
 
-pub returns-else-left-eq0 : goal.returns-else-left-eq0
-returns-else-left-eq0 g c =
-    expr-left max_nesting (g.S.Source.text c.args.source.now) c.as_str.result.now (with_height_view (g.S.Source.shown c.args.source.now) c.in_ok-expression.expression) c.in_ok-expression.rest.now c.skip_white-left.result.now
-    c.as_str.ensures c.in_ok-expression.ensures c.skip_white-left.ensures (omega arith)
+pub returns-else-remaining-eq0 : goal.returns-else-remaining-eq0
+returns-else-remaining-eq0 g c =
+    expr-left max_nesting (g.S.Source.text c.args.source.now) c.as_str.result.now (with_height_view (g.S.Source.shown c.args.source.now) c.in_ok-expression.expression) c.in_ok-expression.rest.now c.skip_white-remaining.result.now
+    c.as_str.ensures c.in_ok-expression.ensures c.skip_white-remaining.ensures (omega arith)

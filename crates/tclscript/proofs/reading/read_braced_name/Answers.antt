@@ -3,5 +3,5 @@ use Rattle.tclchars.specs.declared.runs.Class.TheVariants.{InName}
 use Rattle.tclscript.proofs.Escapes.{run_front}
 use Rattle.tclscript.proofs.reading.read_braced_name.Goals as goal
 
-pub cut-requires-clause-front : goal.cut-requires-clause-front
-cut-requires-clause-front g c = run_front (in_class InName) c.args.text.now c.split_front.result.0.now (c.split_front.ensures.run)
+pub cut-requires-clause-prefix : goal.cut-requires-clause-prefix
+cut-requires-clause-prefix g c = run_front (in_class InName) c.args.text.now c.split_front.result.0.now (c.split_front.ensures.run)

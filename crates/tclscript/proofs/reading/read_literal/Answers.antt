@@ -1,9 +1,9 @@
 use Rattle.std.proofs.Common.{ap, ◌∙◌}
-use Rattle.tclchars.specs.Runs.{front}
+use Rattle.tclchars.specs.Runs.{take_while}
 use Rattle.tclchars.specs.Classes.{in_class}
 use Rattle.tclscript.specs.Ends.{class_of}
 use Rattle.tclscript.proofs.Escapes.{run_front}
 use Rattle.tclscript.proofs.reading.read_literal.Goals as goal
 
-pub cut-requires-clause-front : goal.cut-requires-clause-front
-cut-requires-clause-front g c = run_front (in_class (class_of c.args.context)) c.args.text.now c.split_front.result.0.now (c.split_front.ensures.run ∙ ap (λ k. front (in_class k) c.args.text.now) c.class_of.ensures)
+pub cut-requires-clause-prefix : goal.cut-requires-clause-prefix
+cut-requires-clause-prefix g c = run_front (in_class (class_of c.args.context)) c.args.text.now c.split_front.result.0.now (c.split_front.ensures.run ∙ ap (λ k. take_while (in_class k) c.args.text.now) c.class_of.ensures)

@@ -7,15 +7,15 @@ use Rattle.tclscript.proofs.Ranges.{between_at}
 use Rattle.tclscript.proofs.piece.RefStrSource.cut.Goals as goal
 
 pub split_at-requires : goal.split_at-requires
-split_at-requires c = end_cut c.args.self.now.now c.args.rest.now c.utf8.rest c.requires.end
+split_at-requires c = end_cut c.args.self.now.now c.args.rest.now c.utf8.rest c.requires.suffix
 
 pub split_at-requires-2 : goal.split_at-requires-2
 split_at-requires-2 c =
-    let is : c.args.rest.now ≡ c.split_at.result.1.now = sym (c.split_at.ensures.back ∙ end_drop c.args.self.now.now c.args.rest.now c.requires.end) in
-    front_cut c.split_at.result.1.now c.args.piece.now (subst IsUtf8 is c.utf8.rest) c.utf8.piece (subst (λ (bs : Text). IsFrontOf bs c.args.piece.now) is c.requires.front)
+    let is : c.args.rest.now ≡ c.split_at.result.1.now = sym (c.split_at.ensures.back ∙ end_drop c.args.self.now.now c.args.rest.now c.requires.suffix) in
+    front_cut c.split_at.result.1.now c.args.piece.now (subst IsUtf8 is c.utf8.rest) c.utf8.piece (subst (λ (bs : Text). IsFrontOf bs c.args.piece.now) is c.requires.prefix)
 
-pub returns-clause-place : goal.returns-clause-place
-returns-clause-place c = λ start at.
-    let is : c.args.rest.now ≡ c.split_at.result.1.now = sym (c.split_at.ensures.back ∙ end_drop c.args.self.now.now c.args.rest.now c.requires.end) in
-    between_at c.args.self.now.now c.args.rest.now c.args.piece.now start c.utf8.rest c.utf8.piece c.requires.end c.requires.front at
-    ∙ sym (c.split_at-2.ensures.front ∙ front_take c.split_at.result.1.now c.args.piece.now (subst (λ (bs : Text). IsFrontOf bs c.args.piece.now) is c.requires.front))
+pub returns-clause-offsets : goal.returns-clause-offsets
+returns-clause-offsets c = λ start at.
+    let is : c.args.rest.now ≡ c.split_at.result.1.now = sym (c.split_at.ensures.back ∙ end_drop c.args.self.now.now c.args.rest.now c.requires.suffix) in
+    between_at c.args.self.now.now c.args.rest.now c.args.piece.now start c.utf8.rest c.utf8.piece c.requires.suffix c.requires.prefix at
+    ∙ sym (c.split_at-2.ensures.front ∙ front_take c.split_at.result.1.now c.args.piece.now (subst (λ (bs : Text). IsFrontOf bs c.args.piece.now) is c.requires.prefix))

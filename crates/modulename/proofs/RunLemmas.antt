@@ -1,0 +1,169 @@
+-- Runs of digits, and the order of their numbers.
+use Rattle.std.proofs.Common.{◌≡◌, ℕ, ◌+◌, ◌-◌, ◌*◌, ◌^◌, ◌<◌, ◌≤◌, List, [], ◌∷◌, ◌++◌, length, true, false, Some, refl, sym, ap, ◌∙◌, arith, lit<, inl, inr, take, drop, get_or, append_assoc, length-append}
+use Rattle.std.proofs.lemmas.List.{take_all}
+use Rattle.std.proofs.Math.Seq.{take-append_seam, drop-append_seam}
+use Rattle.std.specs.Prelude.{◌==◌}
+use Rattle.std.specs.declared.cmp.Ordering.TheVariants.{Less, Equal, Greater}
+use Rattle.std.specs.Ordering.{nat_cmp, ordering_then}
+use Rattle.std.specs.Cmp.Lexicographic.{slice_cmp}
+use Rattle.std.proofs.Math.Nat.{pow-succ', pow-le-pow_right, mul-le-mul_right}
+use Rattle.std.proofs.lemmas.Bool.{and_parts, cases_lt}
+use Rattle.std.proofs.lemmas.Bool.Decides.{nat_tests}
+use Rattle.modulename.specs.Versions.{is_digit, with_digit, pieces, pieces_behind, run}
+use Rattle.modulename.specs.DigitRuns.{number_behind, number_of, are_digits, begins_digit, begins_zero, FollowsDigits}
+
+pieces_behind_run : (n : ℕ) (ds rest : List ℕ) → are_digits ds ≡ true → begins_digit rest ≡ false
+    → pieces_behind (Some n) (ds ++ rest) ≡ run (number_behind n ds) ∷ pieces rest
+pieces_behind_run n [] [] h k = refl
+pieces_behind_run n [] (b ∷ bs) h k = rw k refl
+pieces_behind_run n (d ∷ ds) rest h k =
+    let p = and_parts (is_digit d) (are_digits ds) h in
+    let e : is_digit d ≡ true = p.0 in
+    rw e (pieces_behind_run (with_digit n d) ds rest p.1 k)
+
+-- the first piece of a text that begins with a digit
+pub pieces_of_run : (text ds rest : List ℕ) → text ≡ ds ++ rest → are_digits ds ≡ true → begins_digit rest ≡ false
+    → begins_digit text ≡ true → pieces text ≡ run (number_of ds) ∷ pieces rest
+pieces_of_run text [] rest e h k first = absurd (let f : begins_digit text ≡ begins_digit rest = ap begins_digit e in cc)
+pieces_of_run text (d ∷ ds) rest e h k first =
+    let p = and_parts (is_digit d) (are_digits ds) h in
+    let f : is_digit d ≡ true = p.0 in
+    ap pieces e ∙ rw f (pieces_behind_run (with_digit 0 d) ds rest p.1 k)
+
+digit_bounds : (d : ℕ) → is_digit d ≡ true → (48 ≤ d) × (d ≤ 57)
+digit_bounds d h = (grind (arith, nat_tests), grind (arith, nat_tests))
+
+at_least_step : (n x p v : ℕ) → (10 * n + x) * p ≤ v → n * (10 * p) ≤ v
+at_least_step n x p v h = omega arith
+
+below_step : (n x p v : ℕ) → x ≤ 9 → v < (10 * n + x + 1) * p → v < (n + 1) * (10 * p)
+below_step n x p v small h = omega (arith, mul-le-mul_right {m = x} {n = 9} p small)
+
+-- between which powers of ten a number lies
+at_least : (n : ℕ) (ds : List ℕ) → n * 10 ^ length ds ≤ number_behind n ds
+at_least n [] = omega arith
+at_least n (d ∷ ds) = rw pow-succ' (at_least_step n (d - 48) (10 ^ length ds) (number_behind (with_digit n d) ds) (at_least (with_digit n d) ds))
+
+below : (n : ℕ) (ds : List ℕ) → are_digits ds ≡ true → number_behind n ds < (n + 1) * 10 ^ length ds
+below n [] h = omega arith
+below n (d ∷ ds) h =
+    let p = and_parts (is_digit d) (are_digits ds) h in
+    let small : d - 48 ≤ 9 = omega (arith, digit_bounds d p.0) in
+    rw pow-succ' (below_step n (d - 48) (10 ^ length ds) (number_behind (with_digit n d) ds) small (below (with_digit n d) ds p.1))
+
+less : (x y : ℕ) → x < y → nat_cmp x y ≡ Less
+less x y h = grind (arith, nat_tests)
+
+greater : (x y : ℕ) → y < x → nat_cmp x y ≡ Greater
+greater x y h = grind (arith, nat_tests)
+
+equal : (x : ℕ) → nat_cmp x x ≡ Equal
+equal x = grind (arith, nat_tests)
+
+-- two numbers with as many digits
+same_length : (m : ℕ) (a b : List ℕ) → length a ≡ length b → are_digits a ≡ true → are_digits b ≡ true
+    → slice_cmp nat_cmp a b ≡ nat_cmp (number_behind m a) (number_behind m b)
+same_length m [] [] e h k = sym (equal m)
+same_length m [] (y ∷ ys) e h k = absurd (omega arith)
+same_length m (x ∷ xs) [] e h k = absurd (omega arith)
+same_length m (x ∷ xs) (y ∷ ys) e h k = elim (cases_lt x y) [
+  | inl lt ↦ rw (less x y lt) (sym (less (number_behind (with_digit m x) xs) (number_behind (with_digit m y) ys) (first_below x y xs ys lt he hx hxs hy)))
+  | inr ge ↦ elim (cases_lt y x) [
+    | inl gt ↦ rw (greater x y gt) (sym (greater (number_behind (with_digit m x) xs) (number_behind (with_digit m y) ys) (first_below y x ys xs gt (sym he) hy hys hx)))
+    | inr le ↦ same (same_length (with_digit m x) xs ys he hxs hys) (let q : x ≡ y = omega arith in q)
+  ]
+]
+  where
+    hx : is_digit x ≡ true
+    hx = (and_parts (is_digit x) (are_digits xs) h).0
+
+    hxs : are_digits xs ≡ true
+    hxs = (and_parts (is_digit x) (are_digits xs) h).1
+
+    hy : is_digit y ≡ true
+    hy = (and_parts (is_digit y) (are_digits ys) k).0
+
+    hys : are_digits ys ≡ true
+    hys = (and_parts (is_digit y) (are_digits ys) k).1
+
+    he : length xs ≡ length ys
+    he = omega arith
+
+    first_below : (a b : ℕ) (cs bs : List ℕ) → a < b → length cs ≡ length bs → is_digit a ≡ true → are_digits cs ≡ true → is_digit b ≡ true
+        → number_behind (with_digit m a) cs < number_behind (with_digit m b) bs
+    first_below a b cs bs lt same_len ha hcs hb =
+        let low : 48 ≤ a = (digit_bounds a ha).0 in
+        let more : with_digit m a + 1 ≤ with_digit m b = omega arith in
+        let product : (with_digit m a + 1) * 10 ^ length cs ≤ with_digit m b * 10 ^ length cs = mul-le-mul_right {m = with_digit m a + 1} {n = with_digit m b} (10 ^ length cs) more in
+        let power : with_digit m b * 10 ^ length cs ≡ with_digit m b * 10 ^ length bs = ap (λ n. with_digit m b * 10 ^ n) same_len in
+        omega (arith, below (with_digit m a) cs hcs, at_least (with_digit m b) bs, product, power)
+
+    same : slice_cmp nat_cmp xs ys ≡ nat_cmp (number_behind (with_digit m x) xs) (number_behind (with_digit m x) ys)
+        → x ≡ y → ordering_then (nat_cmp x y) (slice_cmp nat_cmp xs ys) ≡ nat_cmp (number_behind (with_digit m x) xs) (number_behind (with_digit m y) ys)
+    same rest q =
+        ap (λ o. ordering_then o (slice_cmp nat_cmp xs ys)) (ap (nat_cmp x) (sym q) ∙ equal x)
+        ∙ rest
+        ∙ ap (λ d. nat_cmp (number_behind (with_digit m x) xs) (number_behind (with_digit m d) ys)) q
+
+-- a number with fewer digits is less
+shorter : (a b : List ℕ) → are_digits a ≡ true → are_digits b ≡ true → begins_zero b ≡ false → length a < length b → number_of a < number_of b
+shorter a [] h k g lt = absurd (omega arith)
+shorter a (d ∷ ds) h k g lt =
+    let digit = digit_bounds d (and_parts (is_digit d) (are_digits ds) k).0 in
+    let first : 1 ≤ with_digit 0 d = first_digit d digit.0 g in
+    let power : 10 ^ length a ≤ 10 ^ length ds = pow-le-pow_right {n = 10} (lit< tt) (let q : length a ≤ length ds = omega arith in q) in
+    let product : 1 * 10 ^ length ds ≤ with_digit 0 d * 10 ^ length ds = mul-le-mul_right {m = 1} {n = with_digit 0 d} (10 ^ length ds) first in
+    omega (arith, below 0 a h, at_least (with_digit 0 d) ds, power, product)
+  where
+    first_digit : (d : ℕ) → 48 ≤ d → (d == 48) ≡ false → 1 ≤ with_digit 0 d
+    first_digit d low other = let q : 48 < d = grind (arith, nat_tests) in omega arith
+
+-- two numbers without zeros in front
+pub order_of_numbers : (a b : List ℕ) → are_digits a ≡ true → are_digits b ≡ true → begins_zero a ≡ false → begins_zero b ≡ false
+    → ordering_then (nat_cmp (length a) (length b)) (slice_cmp nat_cmp a b) ≡ nat_cmp (number_of a) (number_of b)
+order_of_numbers a b h k f g = elim (cases_lt (length a) (length b)) [
+  | inl lt ↦ rw (less (length a) (length b) lt) (sym (less (number_of a) (number_of b) (shorter a b h k g lt)))
+  | inr ge ↦ elim (cases_lt (length b) (length a)) [
+    | inl gt ↦ rw (greater (length a) (length b) gt) (sym (greater (number_of a) (number_of b) (shorter b a k h f gt)))
+    | inr le ↦ level (let q : length a ≡ length b = omega arith in q)
+  ]
+]
+  where
+    level : length a ≡ length b → ordering_then (nat_cmp (length a) (length b)) (slice_cmp nat_cmp a b) ≡ nat_cmp (number_of a) (number_of b)
+    level q = ap (λ o. ordering_then o (slice_cmp nat_cmp a b)) (ap (nat_cmp (length a)) (sym q) ∙ equal (length a)) ∙ same_length 0 a b q h k
+
+one_more_digit : (front : List ℕ) (b : ℕ) → are_digits front ≡ true → is_digit b ≡ true → are_digits (front ++ b ∷ []) ≡ true
+one_more_digit [] b h k = rw k refl
+one_more_digit (d ∷ ds) b h k =
+    let p = and_parts (is_digit d) (are_digits ds) h in
+    let e : is_digit d ≡ true = p.0 in
+    rw e (one_more_digit ds b p.1 k)
+
+-- a step over one more digit
+pub behind_one : (text rest after : List ℕ) → after ≡ take (length rest - 1) (drop 1 rest) → 1 ≤ length rest
+    → is_digit (get_or rest 0 0) ≡ true → FollowsDigits text rest → FollowsDigits text after
+behind_one text [] after e some digit follows = absurd (omega arith)
+behind_one text (b ∷ bs) after e some digit (front, whole, digits) =
+    let is : after ≡ bs = e ∙ take_all (length (b ∷ bs) - 1) bs (omega arith) in
+    (front ++ b ∷ [], whole ∙ sym (append_assoc front (b ∷ []) bs) ∙ ap (λ x. (front ++ b ∷ []) ++ x) (sym is), one_more_digit front b digits digit)
+
+-- the digits in front, and what follows them, cut at their place
+pub cut : (text rest : List ℕ) (n : ℕ) → FollowsDigits text rest → n ≡ length text - length rest
+    → (are_digits (take n text) ≡ true) × (drop n text ≡ rest)
+cut text rest n (front, whole, digits) e =
+    let q : n ≡ length front = omega (arith, ap length whole, length-append front rest) in (
+      ap are_digits (ap (λ k. take k text) q ∙ ap (take (length front)) whole ∙ take-append_seam front rest) ∙ digits,
+      ap (λ k. drop k text) q ∙ ap (drop (length front)) whole ∙ drop-append_seam front rest,
+    )
+
+pub begins_none : (rest : List ℕ) → length rest < 1 → begins_digit rest ≡ false
+begins_none [] h = refl
+begins_none (b ∷ bs) h = absurd (omega arith)
+
+pub begins_other : (rest : List ℕ) → is_digit (get_or rest 0 0) ≡ false → begins_digit rest ≡ false
+begins_other [] h = refl
+begins_other (b ∷ bs) h = h
+
+pub begins_with : (rest : List ℕ) → is_digit (get_or rest 0 0) ≡ true → begins_digit rest ≡ true
+begins_with [] h = absurd (let e : is_digit 0 ≡ false = refl in cc)
+begins_with (b ∷ bs) h = h

@@ -1,3 +1,0 @@
-pub mod Versions
--- for this crate's own contracts alone
-pub mod Runs

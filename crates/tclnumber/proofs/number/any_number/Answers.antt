@@ -1,0 +1,19 @@
+use Rattle.std.proofs.Common.{sym, ap, ◌∙◌}
+use Rattle.tclnumber.specs.Numerals.{trimmed, whole_of}
+use Rattle.tclnumber.proofs.NumberLemmas.{class-some, class-fraction, class-text, numeral-is}
+use Rattle.tclnumber.proofs.number.any_number.Goals as goal
+
+pub returns-in-Some : goal.returns-in-Some
+returns-in-Some c =
+    numeral-is c.args.text.now c.trim-signed.result.now c.without_sign-digits.result.now _ (c.trim-signed.ensures) c.without_sign-digits.ensures
+    (c.whole_of.ensures ∙ ap (λ b. whole_of b c.in-Some.n) c.is_minus.ensures ∙ class-some _ c.without_sign-digits.result.now _ c.in-Some.n c.in-Some.ensures)
+
+pub returns-then-is_fraction : goal.returns-then-is_fraction
+returns-then-is_fraction c =
+    numeral-is c.args.text.now c.trim-signed.result.now c.without_sign-digits.result.now _ (c.trim-signed.ensures) c.without_sign-digits.ensures
+    (sym (class-fraction _ c.without_sign-digits.result.now _ c.in-None.ensures (sym c.is_fraction.ensures ∙ c.if-is_fraction.true)))
+
+pub returns-else-is_fraction : goal.returns-else-is_fraction
+returns-else-is_fraction c =
+    numeral-is c.args.text.now c.trim-signed.result.now c.without_sign-digits.result.now _ (c.trim-signed.ensures) c.without_sign-digits.ensures
+    (sym (class-text _ c.without_sign-digits.result.now _ c.in-None.ensures (sym c.is_fraction.ensures ∙ c.if-is_fraction.false)))

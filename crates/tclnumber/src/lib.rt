@@ -1,0 +1,10 @@
+//! Numbers as texts: which texts Tcl reads as a number, and which whole number that is (expr(n)).
+//! Touches nothing and takes no memory.
+//! Used by the operators, the commands of values, the rules of evaluation and the evaluator.
+#![tactic(auto)]
+
+mod laws;
+mod number;
+
+pub use laws::{number_in_expression, numeral_of_fraction, numeral_of_whole};
+pub use number::{Numeral, read_number};
