@@ -1,4 +1,4 @@
--- What the types of the program stand for.
+-- What the arguments of the program stand for in the rules: values of names, and the items of foreach. Own.
 use Rattle.std.specs.Prelude.{ℕ, ◌*◌, List, map, length, drop, string_bytes, String}
 use Rattle.std.specs.Borrow.{Bor}
 use Rattle.std.specs.declared.alloc.Global.{Global}
@@ -12,9 +12,10 @@ use Rattle.tclforms.specs.declared.items.Items as program
 abbrev pub named_values : List (Bor (List ℕ) × String Global) → List (Text × Text)
 named_values vs = map (λ v. (v.0.now, string_bytes v.1)) vs
 
+-- the value of a parameter, and the words that remain
 abbrev pub allotment_view : Allotment → Text × List Text
 allotment_view t = (string_bytes t.value, texts_of t.rest.now)
 
--- what is left of a list after so many turns
+-- the items of a list that remain after so many turns, with its variables
 abbrev pub left_after : ℕ → program.Items → Items
 left_after turns l = (texts_of l.names.items, drop (turns * length l.names.items) (texts_of l.items.items))

@@ -1,4 +1,4 @@
--- What a foreach of the program goes over.
+-- What the lists of a foreach of the program stand for. Own.
 use Rattle.std.specs.Prelude.{List, map}
 use Rattle.tclrules.specs.Plans.{Items}
 use Rattle.tclforms.specs.ArgumentViews.{left_after}

@@ -1,4 +1,4 @@
-//! What a call gives the parameters of a procedure (proc(n)).
+//! The values that a call gives the parameters of a procedure (proc(n)).
 ghost use Rattle.std.specs.Prelude.{◌≡◌, OnOk, map, string_bytes};
 ghost use Rattle.tclchars.specs.Answers.{Gives};
 ghost use Rattle.tcloperators.specs.Faults.{reason_of};
@@ -13,14 +13,14 @@ use tcloperators::{ValueFault, wrong_words};
 use tclvalue::list_text;
 use tclvariables::Parameter;
 
-/// The value of a parameter, and the words that are left.
+/// The value of a parameter, and the words that remain for the others.
 #[derive(Drop)]
 struct Allotment<'w> {
     value: String,
     rest: &'w [String],
 }
 
-/// The value of a parameter that takes one word, or has its default.
+/// The value of a parameter that takes one word, or its default where no word remains.
 fn argument<'w>(
     alloc: Global,
     name: &str,
@@ -45,7 +45,7 @@ fn argument<'w>(
     }
 }
 
-/// The value of a parameter with others behind it; `args`, where it is the last, takes all words.
+/// The value of a parameter with these after it; `args`, where it is the last, takes all words that remain as a list.
 fn taken<'w>(
     alloc: Global,
     name: &str,
@@ -66,7 +66,7 @@ fn taken<'w>(
     argument(alloc, name, parameter, words)
 }
 
-/// Keeps the value of a name, unless one is kept already.
+/// Adds the value of a name, unless the name has one already.
 fn keep_first<'a>(
     names: &mut IndexSet<&'a str>,
     values: &mut Vec<(&'a str, String)>,
@@ -84,8 +84,8 @@ fn keep_first<'a>(
     Ok(())
 }
 
-/// The parameters of the procedure of this name, each with its value for these words. Of a parameter that comes again
-/// the first value stands.
+/// The parameters of the procedure of this name, each with its value for these words. Of a name that comes again the first
+/// value counts.
 ///
 /// Errors: `TclError` (13) where the words are too few or too many; `OutOfMemory` (11).
 pub fn allotted<'a>(

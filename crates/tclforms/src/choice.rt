@@ -5,14 +5,14 @@ ghost use Rattle.tclrules.specs.Rules.{is_default, fits, falls, chosen};
 
 use tclvalue::glob;
 
-/// Whether a pattern with these behind it is the default.
+/// Whether a pattern is the default: it is `default`, and no pattern follows.
 fn is_default(pattern: &str, behind: &[String]) -> bool
     ensures { result ≡ is_default pattern.now (in_twos (map string_bytes behind.now)) }
 {
     pattern == "default" && behind.len() < 2
 }
 
-/// Whether a text fits a pattern.
+/// Whether a text matches a pattern: by glob, or as it is.
 fn fits(by_glob: bool, text: &str, pattern: &str) -> bool
     ensures { result ≡ fits by_glob text.now pattern.now }
 {
@@ -23,7 +23,7 @@ fn fits(by_glob: bool, text: &str, pattern: &str) -> bool
     }
 }
 
-/// The body that a body stands for, with patterns behind it: `-` is the next one.
+/// The body that is evaluated for a body with these patterns and bodies after it: `-` stands for the next.
 fn falls<'a>(body: &'a str, behind: &'a [String]) -> &'a str
     ensures { result.now ≡ falls body.entry.now (in_twos (map string_bytes behind.entry.now)) }
 {
@@ -39,8 +39,8 @@ fn falls<'a>(body: &'a str, behind: &'a [String]) -> &'a str
     body
 }
 
-/// The body of the first pattern that fits a text, or of `default` where that is the last pattern. The patterns have
-/// each its body behind it.
+/// The body of the first pattern that matches a text, or of `default` where that is the last pattern. Patterns and bodies
+/// stand by turns.
 pub fn chosen<'a>(by_glob: bool, text: &str, patterns: &'a [String]) -> Option<&'a str>
     ensures { option_map (λ body. body.now) result
         ≡ chosen by_glob text.now (in_twos (map string_bytes patterns.entry.now)) }

@@ -1,7 +1,7 @@
 //! One list of a foreach.
 ghost use Rattle.std.specs.Prelude.{◌<◌, ◌^◌, length};
 
-/// The names of a list of foreach, one at least, and its items, which are fewer than turns can be counted.
+/// One variable at least and the items that they take, which are fewer than turns can be counted.
 #[derive(Drop)]
 pub(crate) struct Items {
     pub(crate) names: Vec<String>,

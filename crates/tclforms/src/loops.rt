@@ -1,4 +1,4 @@
-//! What foreach(n) goes over.
+//! What the turns of foreach(n) take.
 ghost use Rattle.std.specs.Prelude.{◌≡◌, ◌++◌, map, string_bytes, IfOk, OnOk};
 ghost use Rattle.tclchars.specs.Answers.{Gives};
 ghost use Rattle.tcloperators.specs.Faults.{reason_of};
@@ -14,7 +14,7 @@ use std::alloc::{AllocError, Global};
 use std::marker::Model;
 use tcloperators::{ValueFault, elements};
 
-/// The names and the items in two lists.
+/// The variables and the items in two lists; the first must name one variable at least.
 fn items_of(alloc: Global, names: &str, items: &str) -> Result<Items, ValueFault>
     ensures { Gives reason_of (left_after 0) result (one_loop (names.now, items.now)) }
 {
@@ -26,7 +26,7 @@ fn items_of(alloc: Global, names: &str, items: &str) -> Result<Items, ValueFault
     Ok(Items { names, items })
 }
 
-/// The items that are left after so many turns.
+/// The items that remain after so many turns.
 fn left(list: &Items, turns: usize) -> &[String]
     ensures { (texts_of list.entry.now.names.items, texts_of result.now) ≡ left_after turns list.entry.now }
 {
@@ -38,7 +38,7 @@ fn left(list: &Items, turns: usize) -> &[String]
     }
 }
 
-/// Names with the items that they take; missing ones are empty.
+/// Appends the variables with the items that they take in a turn; a variable without one takes the empty text.
 fn push_pairs<'a>(
     alloc: Global,
     out: &mut Vec<(&'a str, String)>,
@@ -63,7 +63,7 @@ fn push_pairs<'a>(
     Ok(())
 }
 
-/// The lists that a foreach goes over, with what is left of each: its names, and its items.
+/// The lists that a foreach goes through, each with its variables and the items that remain.
 #[derive(Drop)]
 pub struct Loops {
     lists: Vec<Items>,
@@ -82,10 +82,10 @@ impl Model for Loops {
 }
 
 impl Loops {
-    /// The names and the items of these lists.
+    /// The variables and items of these lists, each given as the text of its variables and that of its items.
     ///
-    /// Errors: `TclError` (13) where a text is no list, and where names are none; `Text` (12) where a list is too long;
-    /// `OutOfMemory` (11). They are judged from left to right, the names of a list before its items.
+    /// Errors: `TclError` (13) where a text is no list, or a list of variables is empty; `Text` (12) where a list is too long;
+    /// `OutOfMemory` (11). They are judged from left to right, the variables of a list before its items.
     pub fn of(alloc: Global, lists: &[(&str, &str)]) -> Result<Loops, ValueFault>
         ensures { Gives reason_of (λ l. l) result (loops (pair_texts lists.now)) }
     {
@@ -101,7 +101,7 @@ impl Loops {
         })
     }
 
-    /// Whether no items are left.
+    /// Whether no items remain.
     pub fn are_done(&self) -> bool
         ensures { result ≡ are_done self.now }
     {
@@ -113,7 +113,7 @@ impl Loops {
         true
     }
 
-    /// The variables of a turn, each with its item.
+    /// The variables of the next turn, each with its item.
     pub fn turn_pairs(&self, alloc: Global) -> Result<Vec<(&str, String)>, AllocError>
         ensures { IfOk result (λ pairs. named_values pairs.items ≡ turn_pairs self.entry.now) }
     {
@@ -124,7 +124,7 @@ impl Loops {
         Ok(pairs)
     }
 
-    /// Goes on to what is left after a turn.
+    /// Drops the items of a turn.
     pub fn shorten(&mut self)
         ensures { self.new ≡ shortened self.old }
     {

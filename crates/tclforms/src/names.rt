@@ -1,9 +1,9 @@
-//! Names of commands that are reserved.
+//! The names of commands that are reserved: no procedure may have them.
 ghost use Rattle.std.specs.Prelude.{◌≡◌, map, is_some};
 ghost use Rattle.tclvalue.specs.Commands.{command_named};
 ghost use Rattle.tclrules.specs.Names.{is_among, is_reserved, core_commands, left_out_commands, module_commands, left_out_module_commands};
 
-/// Commands of Tcl that are left out.
+/// Commands of Tcl that are unsupported.
 const LEFT_OUT: [&str; 57] = [
     "after",
     "apply",
@@ -64,7 +64,7 @@ const LEFT_OUT: [&str; 57] = [
     "vwait",
 ];
 
-/// Commands of values.
+/// Commands of values: those that tclvalue computes.
 const VALUES: [&str; 8] = [
     "list", "llength", "lindex", "lrange", "split", "join", "concat", "string",
 ];
@@ -92,7 +92,7 @@ const MODULES: [&str; 13] = [
     "module-version",
 ];
 
-/// Commands of modulefiles that are left out.
+/// Commands of modulefiles that are unsupported.
 const LEFT_OUT_MODULES: [&str; 28] = [
     "module",
     "depends-on",
@@ -138,7 +138,7 @@ fn is_in(names: &[&str], name: &str) -> bool
     false
 }
 
-/// Whether a command of this name is left out.
+/// Whether Tcl has a command of this name that is unsupported.
 #[tactic(auto, unfolding(tclrules::specs::Names::left_out_commands))]
 pub fn is_left_out(name: &str) -> bool
     ensures { result ≡ is_among left_out_commands name.now }
@@ -161,7 +161,7 @@ fn is_of_values(name: &str) -> bool
     is_in(&VALUES, name)
 }
 
-/// Whether a command of modulefiles has this name.
+/// Whether a command of modulefiles or default files has this name (modulefile(5)).
 #[tactic(auto, unfolding(tclrules::specs::Names::module_commands))]
 fn is_of_modules(name: &str) -> bool
     ensures { result ≡ is_among module_commands name.now }
@@ -169,7 +169,7 @@ fn is_of_modules(name: &str) -> bool
     is_in(&MODULES, name)
 }
 
-/// Whether a command of modulefiles of this name is left out.
+/// Whether modulefile(5) has a command of this name that is unsupported.
 #[tactic(auto, unfolding(tclrules::specs::Names::left_out_module_commands))]
 pub fn is_left_out_of_modules(name: &str) -> bool
     ensures { result ≡ is_among left_out_module_commands name.now }
@@ -177,7 +177,7 @@ pub fn is_left_out_of_modules(name: &str) -> bool
     is_in(&LEFT_OUT_MODULES, name)
 }
 
-/// Whether no procedure may have this name.
+/// Whether no procedure may have this name: that of any command of Tcl or modulefiles, supported or not.
 pub fn is_reserved(name: &str) -> bool
     ensures { result ≡ is_reserved name.now }
 {

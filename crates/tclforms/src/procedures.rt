@@ -1,4 +1,4 @@
-//! The parameters of procedures (proc(n)).
+//! The parameters of procedures, as proc(n) is given them.
 ghost use Rattle.std.specs.Prelude.{◌≡◌, map, string_bytes};
 ghost use Rattle.tclchars.specs.Answers.{Gives};
 ghost use Rattle.tcloperators.specs.Faults.{reason_of};
@@ -12,7 +12,7 @@ use std::alloc::Global;
 use tcloperators::{ValueFault, elements, not_a_list};
 use tclvariables::Parameter;
 
-/// The parameter of these words: a name, and perhaps a default.
+/// The parameter of these words: a name, and perhaps its default.
 fn parameter(alloc: Global, words: &[String]) -> Result<Parameter, ValueFault>
     ensures { Gives reason_of parameter_view result (parameter (map string_bytes words.now)) }
 {
@@ -29,7 +29,7 @@ fn parameter(alloc: Global, words: &[String]) -> Result<Parameter, ValueFault>
     }
 }
 
-/// The parameters of these lists.
+/// The parameters of these lists, one each.
 fn parameters_of(alloc: Global, lists: &[String]) -> Result<Vec<Parameter>, ValueFault>
     ensures { Gives reason_of (λ ps. map parameter_view ps.items) result (parameters (map string_bytes lists.now)) }
 {
@@ -41,7 +41,7 @@ fn parameters_of(alloc: Global, lists: &[String]) -> Result<Vec<Parameter>, Valu
     Ok(parameters)
 }
 
-/// The parameters of a procedure of this name, of which these are the lists.
+/// The parameters of a procedure of this name, in the text that proc(n) has for them.
 ///
 /// Errors: `TclError` (13) where the name is reserved, where the text or one of its elements is no list, and where an
 /// element has no name or more than a name and a default; `Text` (12) where a list is too long; `OutOfMemory` (11). The
