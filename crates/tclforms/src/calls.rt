@@ -84,8 +84,8 @@ fn keep_first<'a>(
     Ok(())
 }
 
-/// The parameters of the procedure of this name, each with its value for these words. Of a name that comes again the first
-/// value counts.
+/// The parameters of the procedure of this name, each with its value for these words. Of a name that comes again the
+/// first value counts.
 ///
 /// Errors: `TclError` (13) where the words are too few or too many; `OutOfMemory` (11).
 pub fn allotted<'a>(

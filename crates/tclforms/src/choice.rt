@@ -39,8 +39,8 @@ fn falls<'a>(body: &'a str, behind: &'a [String]) -> &'a str
     body
 }
 
-/// The body of the first pattern that matches a text, or of `default` where that is the last pattern. Patterns and bodies
-/// stand by turns.
+/// The body of the first pattern that matches a text, or of `default` where that is the last pattern. Patterns and
+/// bodies are given by turns.
 pub fn chosen<'a>(by_glob: bool, text: &str, patterns: &'a [String]) -> Option<&'a str>
     ensures { option_map (λ body. body.now) result
         ≡ chosen by_glob text.now (in_twos (map string_bytes patterns.entry.now)) }

@@ -1,4 +1,4 @@
-//! Where the names of variables lead.
+//! The location that the name of a variable denotes (Tcl(n), rule 8; global(n)).
 ghost use Rattle.std.specs.Prelude.{◌≡◌, option_map};
 ghost use Rattle.tclchars.specs.Answers.{Gives};
 ghost use Rattle.tclvalue.specs.Faults.{reason_of, HasReason, left_out};
@@ -11,15 +11,16 @@ use std::alloc::Global;
 use tclchars::after_mark;
 use tclvalue::ValueFault;
 
-/// Where a name leads: a variable, or an element of `env`.
+/// The location of a variable: what its name denotes where the command is evaluated.
 #[derive(Drop)]
 pub enum Place<'a> {
-    /// The variable of this name; the flag says that it is global.
+    /// The scalar variable of this name; the flag says that it is a global one.
     Plain(bool, &'a str),
-    /// The element of `env` with this index; the flag says that `env` is in sight.
+    /// The element of `env` with this index; the flag says that `env` denotes the global array here.
     Element(bool, &'a str),
 }
 
+/// The fault of a kind of variable that is unsupported.
 fn left_out(alloc: Global, name: &str) -> ValueFault
     ensures { HasReason (left_out name.now) result }
 {
@@ -29,6 +30,7 @@ fn left_out(alloc: Global, name: &str) -> ValueFault
     }
 }
 
+/// Whether two colons follow one another in a name, which part its namespaces.
 fn has_colons(name: &str) -> bool
     ensures { result ≡ has_colons name.now }
 {
@@ -42,7 +44,7 @@ fn has_colons(name: &str) -> bool
     false
 }
 
-// What stands before the first parenthesis that opens, and from it on.
+/// A name up to its first opening parenthesis, and from there on.
 fn split_array(name: &str) -> (&str, &str)
     ensures array { result.0.now ≡ front no_opening name.now }
     ensures rest { result.1.now ≡ back no_opening name.now }
@@ -55,7 +57,7 @@ fn split_array(name: &str) -> (&str, &str)
     name.split_at(n)
 }
 
-// A name and its index, where it has one.
+/// The parts of a name: that of its array and its index, where it has one.
 fn apart(name: &str) -> (&str, Option<&str>)
     ensures { (result.0.now, option_map (λ i. i.now) result.1) ≡ apart name.now }
 {
@@ -69,7 +71,7 @@ fn apart(name: &str) -> (&str, Option<&str>)
     }
 }
 
-// Where a name leads in whose front no colons stand.
+/// The location of a name without leading colons, which must have no others.
 fn unqualified_place<'a>(
     alloc: Global,
     global: bool,
@@ -94,9 +96,9 @@ fn unqualified_place<'a>(
     }
 }
 
-/// Where a name with an index, or without one, leads.
+/// The location of a name with an index, or without one.
 ///
-/// Errors: `LeftOut` for another array than `env` and a namespace, `OutOfMemory`.
+/// Errors: `LeftOut` for another array than `env` and for a namespace, `OutOfMemory`.
 pub fn place_of<'a>(
     variables: &Variables,
     alloc: Global,
@@ -115,9 +117,9 @@ pub fn place_of<'a>(
     }
 }
 
-/// Where a name as it is spelled leads.
+/// The location of a name as it is spelled, with its index in parentheses.
 ///
-/// Errors: `LeftOut` for another array than `env` and a namespace, `OutOfMemory`.
+/// Errors: `LeftOut` for another array than `env` and for a namespace, `OutOfMemory`.
 pub fn place_named<'a>(
     variables: &Variables,
     alloc: Global,
@@ -129,8 +131,8 @@ pub fn place_named<'a>(
     place_of(variables, alloc, array, index)
 }
 
-/// The variable that a name leads to, where it may be written: neither `env` nor an element of it. The flag says that
-/// it is global.
+/// The scalar variable that a name denotes, which may be written: neither `env` nor an element of it. The flag says that
+/// it is a global one.
 ///
 /// Errors: `LeftOut` for `env`, another array and a namespace, `OutOfMemory`.
 pub fn writable<'a>(
@@ -151,7 +153,7 @@ pub fn writable<'a>(
     }
 }
 
-/// The name of the global variable that a procedure sees once `global` names it so: no element of `env`.
+/// The name of the global variable that `global` makes a procedure see by this name: no element of `env`.
 ///
 /// Errors: `LeftOut` for an element of an array and a namespace, `OutOfMemory`.
 pub fn sharable<'a>(
