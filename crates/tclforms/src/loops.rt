@@ -84,8 +84,8 @@ impl Model for Loops {
 impl Loops {
     /// The variables and items of these lists, each given as the text of its variables and that of its items.
     ///
-    /// Errors: `TclError` (13) where a text is no list, or a list of variables is empty; `Text` (12) where a list is too
-    /// long; `OutOfMemory` (11). They are judged from left to right, the variables of a list before its items.
+    /// Errors: `TclError` (13) where a text is no list, or a list of variables is empty; `Text` (12) where a list is
+    /// too long; `OutOfMemory` (11). They are judged from left to right, the variables of a list before its items.
     pub fn of(alloc: Global, lists: &[(&str, &str)]) -> Result<Loops, ValueFault>
         ensures { Gives reason_of (λ l. l) result (loops (pair_texts lists.now)) }
     {

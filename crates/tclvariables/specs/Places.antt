@@ -4,8 +4,8 @@ use Rattle.tclchars.specs.Runs.{Text}
 use Rattle.tclvalue.specs.Faults.{Answer, ◌>>=◌}
 use Rattle.tclrules.specs.Variables as rules
 use Rattle.tclrules.specs.Variables.{State, place_named, sharable}
-use Rattle.tclvariables.specs.declared.place.Place.{Place}
-use Rattle.tclvariables.specs.declared.place.Place.TheVariants as places
+use Rattle.tclvariables.specs.declared.location.Place.{Place}
+use Rattle.tclvariables.specs.declared.location.Place.TheVariants as places
 
 -- a location of the program
 abbrev pub place_view : Place → rules.Place

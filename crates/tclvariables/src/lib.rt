@@ -5,11 +5,11 @@
 
 mod content;
 mod local;
-mod place;
+mod location;
 mod table;
 mod variables;
 
 pub use content::Content;
 pub use local::Local;
-pub use place::{Place, place_named, place_of, sharable, writable};
+pub use location::{Place, place_named, place_of, sharable, writable};
 pub use variables::{Parameter, Procedure, Variables};

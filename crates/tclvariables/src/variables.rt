@@ -146,8 +146,8 @@ impl Variables {
         }
     }
 
-    /// Takes the text of a variable, if it is set, so that it can grow without a copy: the variable holds the empty text
-    /// until `put` gives it the text again.
+    /// Takes the text of a variable, if it is set, so that it can grow without a copy: the variable holds the empty
+    /// text until `put` gives it the text again.
     pub fn take(&mut self, alloc: Global, global: bool, name: &str) -> Option<String>
         ensures value { option_map string_bytes result ≡ value_at self.old (global, name.now) }
         ensures given_back { (t : Text) → with_value self.new (global, name.now) t
@@ -186,7 +186,8 @@ impl Variables {
         }
     }
 
-    /// Begins a procedure, which has no variables at first. Gives the frame of the procedure that called it, if one did.
+    /// Begins a procedure, which has no variables at first. Gives the frame of the procedure that called it, if one
+    /// did.
     pub fn enter(&mut self, alloc: Global) -> Option<Local>
         ensures entered { self.new ≡ in_frame self.old new_frame }
         ensures caller { result ≡ self.old.frame }

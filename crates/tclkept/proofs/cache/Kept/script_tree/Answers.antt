@@ -3,7 +3,7 @@ use Rattle.tclscript.specs.Text.{script_of}
 use Rattle.tclscript.specs.Owned.{owned_view}
 use Rattle.tclkept.specs.Kept.{IsKeptScript}
 use Rattle.tclkept.proofs.Answering.{shared_reads}
-use Rattle.tclkept.proofs.kept.Kept.script_tree.Goals as goal
+use Rattle.tclkept.proofs.cache.Kept.script_tree.Goals as goal
 
 pub returns-in-Some-clause-tree : goal.returns-in-Some-clause-tree
 returns-in-Some-clause-tree c =

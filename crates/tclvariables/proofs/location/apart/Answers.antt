@@ -1,6 +1,6 @@
 use Rattle.std.proofs.Common.{◌≡◌, ◌++◌, ◌∷◌, [], sym, ap, ◌∙◌}
 use Rattle.tclvariables.proofs.Apart.{apart_none, apart_whole, apart_at}
-use Rattle.tclvariables.proofs.place.apart.Goals as goal
+use Rattle.tclvariables.proofs.location.apart.Goals as goal
 
 pub returns-in_default : goal.returns-in_default
 returns-in_default c = apart_none _ c.in_default.ensures.cases

@@ -1,7 +1,7 @@
 use Rattle.std.proofs.Common.{◌≤◌, ◌-◌, length}
 use Rattle.tclchars.proofs.RunLemmas.{Passed}
 use Rattle.tclvariables.specs.Places.{no_opening}
-use Rattle.tclvariables.proofs.place.split_array.Given as goal
+use Rattle.tclvariables.proofs.location.split_array.Given as goal
 
 abbrev pub invariant-loop-n : goal.invariant-loop-n
 invariant-loop-n l = record { within : l.n ≤ length l.bytes; passed : Passed no_opening l.bytes l.n }

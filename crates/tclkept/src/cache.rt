@@ -1,4 +1,4 @@
-//! Scripts and expressions that are kept.
+//! The cache of scripts and expressions.
 ghost use Rattle.std.specs.Prelude.{◌≡◌, ◌++◌, ◌∷◌, [], None, false, IfOk, OnErr, string_bytes};
 ghost use Rattle.tclchars.specs.Whole.{Reads};
 ghost use Rattle.tclscript.specs.Text.{script_of};
@@ -18,7 +18,7 @@ use tclexpr::OwnedExpr;
 use tclscript::OwnedScript;
 
 /// Texts that were evaluated as scripts, and texts that were evaluated as expressions, each with its tree: of each kind
-/// at most 1,024 texts with together 8,388,608 bytes.
+/// at most 1,024 texts, of at most 8,388,608 bytes together. Nothing is ever dropped.
 #[derive(Drop)]
 pub struct Kept {
     alloc: Global,
@@ -44,7 +44,7 @@ impl Model for Kept {
 }
 
 impl Kept {
-    /// No texts.
+    /// The empty cache.
     pub fn new(alloc: Global) -> Kept
         ensures scripts { result.scripts ≡ [] }
         ensures expressions { result.expressions ≡ [] }
@@ -57,7 +57,7 @@ impl Kept {
         }
     }
 
-    // Parses a text that isn't kept, and keeps it.
+    /// Parses a script that isn't cached, and caches it.
     fn add_script(&mut self, text: &str) -> Result<Rc<OwnedScript>, TextFault>
         requires new { place_of self.old.scripts text.now ≡ None }
         requires room { is_full self.old.scripts text.now ≡ false }
@@ -76,10 +76,10 @@ impl Kept {
         }
     }
 
-    /// The place of a text among the scripts, from 0. A text that isn't kept is parsed and added last; it is not, and
-    /// None is the answer, where the limits would be passed.
+    /// The index of a text among the cached scripts, from 0. A text that isn't cached is parsed and added last, unless it
+    /// would exceed the limits: then the answer is None.
     ///
-    /// Errors: the fault of a text that would be added (2 to 9), and want of memory (1). Then nothing changes.
+    /// Errors: the fault of a text that would be added (2 to 9), and `OutOfMemory` (1). Then nothing changes.
     pub fn script(&mut self, text: &str) -> Result<Option<usize>, TextFault>
         ensures answers { AnswersPlace script_of (scripts_of self.old) text.now result (scripts_of self.new) }
         ensures others { self.new.expressions ≡ self.old.expressions }
@@ -98,10 +98,10 @@ impl Kept {
         Ok(Some(place))
     }
 
-    /// The tree of a script: that which is kept, or else one that is kept from now on, or is made for this call alone
-    /// where the limits would be passed.
+    /// The tree of a script: the cached one, or one that is cached from now on, or one for this call alone where it would
+    /// exceed the limits.
     ///
-    /// Errors: the fault of the text (2 to 9), and want of memory (1). Then nothing changes.
+    /// Errors: the fault of the text (2 to 9), and `OutOfMemory` (1). Then nothing changes.
     pub fn script_tree(&mut self, text: &str) -> Result<Rc<OwnedScript>, TextFault>
         ensures text { IfOk result (λ tree. string_bytes tree.value.text ≡ text.now) }
         ensures tree { Reads (λ tree. script.owned_view tree.value) result (script_of text.now) }
@@ -120,7 +120,7 @@ impl Kept {
         self.add_script(text)
     }
 
-    // Parses a text that isn't kept, and keeps it.
+    /// Parses an expression that isn't cached, and caches it.
     fn add_expr(&mut self, text: &str) -> Result<Rc<OwnedExpr>, TextFault>
         requires new { place_of self.old.expressions text.now ≡ None }
         requires room { is_full self.old.expressions text.now ≡ false }
@@ -140,10 +140,10 @@ impl Kept {
         }
     }
 
-    /// The place of a text among the expressions, from 0. A text that isn't kept is parsed and added last; it is not,
-    /// and None is the answer, where the limits would be passed.
+    /// The index of a text among the cached expressions, from 0. A text that isn't cached is parsed and added last,
+    /// unless it would exceed the limits: then the answer is None.
     ///
-    /// Errors: the fault of a text that would be added (2 to 9), and want of memory (1). Then nothing changes.
+    /// Errors: the fault of a text that would be added (2 to 9), and `OutOfMemory` (1). Then nothing changes.
     pub fn expr(&mut self, text: &str) -> Result<Option<usize>, TextFault>
         ensures answers { AnswersPlace expr_of (expressions_of self.old) text.now result (expressions_of self.new) }
         ensures others { self.new.scripts ≡ self.old.scripts }
@@ -162,10 +162,10 @@ impl Kept {
         Ok(Some(place))
     }
 
-    /// The tree of an expression: that which is kept, or else one that is kept from now on, or is made for this call
-    /// alone where the limits would be passed.
+    /// The tree of an expression: the cached one, or one that is cached from now on, or one for this call alone where it
+    /// would exceed the limits.
     ///
-    /// Errors: the fault of the text (2 to 9), and want of memory (1). Then nothing changes.
+    /// Errors: the fault of the text (2 to 9), and `OutOfMemory` (1). Then nothing changes.
     pub fn expr_tree(&mut self, text: &str) -> Result<Rc<OwnedExpr>, TextFault>
         ensures text { IfOk result (λ tree. string_bytes tree.value.text ≡ text.now) }
         ensures tree { Reads (λ tree. expression.owned_view tree.value) result (expr_of text.now) }

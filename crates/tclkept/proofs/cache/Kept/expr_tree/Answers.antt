@@ -3,7 +3,7 @@ use Rattle.tclexpr.specs.Text.{expr_of}
 use Rattle.tclexpr.specs.Owned.{owned_view}
 use Rattle.tclkept.specs.Kept.{IsKeptExpression}
 use Rattle.tclkept.proofs.Answering.{shared_reads}
-use Rattle.tclkept.proofs.kept.Kept.expr_tree.Goals as goal
+use Rattle.tclkept.proofs.cache.Kept.expr_tree.Goals as goal
 
 pub returns-in-Some-clause-tree : goal.returns-in-Some-clause-tree
 returns-in-Some-clause-tree c =

@@ -131,8 +131,8 @@ pub fn place_named<'a>(
     place_of(variables, alloc, array, index)
 }
 
-/// The scalar variable that a name denotes, which may be written: neither `env` nor an element of it. The flag says that
-/// it is a global one.
+/// The scalar variable that a name denotes, where it may be written: neither `env` nor an element of it. The flag says
+/// that it is a global one.
 ///
 /// Errors: `LeftOut` for `env`, another array and a namespace, `OutOfMemory`.
 pub fn writable<'a>(

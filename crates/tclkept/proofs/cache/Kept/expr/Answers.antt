@@ -2,7 +2,7 @@ use Rattle.std.proofs.Common.{sym, ap}
 use Rattle.tclexpr.specs.Text.{expr_of}
 use Rattle.tclexpr.specs.Owned.{owned_view}
 use Rattle.tclkept.proofs.Answering.{there_answers, full_answers, passed_answers, added_answers}
-use Rattle.tclkept.proofs.kept.Kept.expr.Goals as goal
+use Rattle.tclkept.proofs.cache.Kept.expr.Goals as goal
 
 pub returns-in-Some-clause-answers : goal.returns-in-Some-clause-answers
 returns-in-Some-clause-answers c = rw (← c.self.view_is) (there_answers owned_view expr_of c.self.inside.expressions c.args.text.now c.in-Some.place (sym c.in-Some.ensures))

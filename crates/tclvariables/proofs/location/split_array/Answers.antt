@@ -2,7 +2,7 @@ use Rattle.std.proofs.Common.{◌≡◌, get_or, true, refl, arith}
 use Rattle.std.proofs.lemmas.Bool.{ne_eqb}
 use Rattle.tclchars.proofs.RunLemmas.{passed-more}
 use Rattle.tclvariables.specs.Places.{no_opening}
-use Rattle.tclvariables.proofs.place.split_array.Goals as goal
+use Rattle.tclvariables.proofs.location.split_array.Goals as goal
 
 pub loop-n-preserved : goal.loop-n-preserved
 loop-n-preserved c =
