@@ -20,8 +20,8 @@ use tcloperators::ValueFault;
 /// The form of a core command, by its name and the words after it; None for another name.
 ///
 /// Errors, as far as the words alone show them. `TclError` (13): a wrong number of words, a bad option, patterns that
-/// are no list or whose last body is missing. `LeftOut` (19): what is unsupported. `Text` (12): a list that is too long.
-/// `OutOfMemory` (11).
+/// are no list or whose last body is missing. `LeftOut` (19): what is unsupported. `Text` (12): a list that is too
+/// long. `OutOfMemory` (11).
 #[tactic(auto, unfolding(tclrules::specs::Forms::core_form))]
 pub fn core_form<'a>(
     alloc: Global,

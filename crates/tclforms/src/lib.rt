@@ -1,7 +1,7 @@
 //! What the words of Tcl's core commands ask for (the page of each command): the form of a command, the items of
 //! foreach, the body that switch chooses, the parameters of procedures, and the names that are reserved.
 //! Takes memory and touches nothing else.
-//! Used by tclcommands, tclcontrol, the evaluator, modulefile and defaultfiles.
+//! Used by tclcommands, tclcontrol, tclevaluator, modulefile and defaultfiles.
 #![tactic(auto)]
 
 mod calls;

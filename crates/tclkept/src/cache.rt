@@ -76,8 +76,8 @@ impl Kept {
         }
     }
 
-    /// The index of a text among the cached scripts, from 0. A text that isn't cached is parsed and added last, unless it
-    /// would exceed the limits: then the answer is None.
+    /// The index of a text among the cached scripts, from 0. A text that isn't cached is parsed and added last, unless
+    /// it would exceed the limits: then the answer is None.
     ///
     /// Errors: the fault of a text that would be added (2 to 9), and `OutOfMemory` (1). Then nothing changes.
     pub fn script(&mut self, text: &str) -> Result<Option<usize>, TextFault>
@@ -98,8 +98,8 @@ impl Kept {
         Ok(Some(place))
     }
 
-    /// The tree of a script: the cached one, or one that is cached from now on, or one for this call alone where it would
-    /// exceed the limits.
+    /// The tree of a script: the cached one, or one that is cached from now on, or one for this call alone where it
+    /// would exceed the limits.
     ///
     /// Errors: the fault of the text (2 to 9), and `OutOfMemory` (1). Then nothing changes.
     pub fn script_tree(&mut self, text: &str) -> Result<Rc<OwnedScript>, TextFault>
@@ -162,8 +162,8 @@ impl Kept {
         Ok(Some(place))
     }
 
-    /// The tree of an expression: the cached one, or one that is cached from now on, or one for this call alone where it
-    /// would exceed the limits.
+    /// The tree of an expression: the cached one, or one that is cached from now on, or one for this call alone where
+    /// it would exceed the limits.
     ///
     /// Errors: the fault of the text (2 to 9), and `OutOfMemory` (1). Then nothing changes.
     pub fn expr_tree(&mut self, text: &str) -> Result<Rc<OwnedExpr>, TextFault>

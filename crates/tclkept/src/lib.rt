@@ -1,6 +1,6 @@
-//! A cache of parsed texts: scripts and expressions with their trees, so that what is evaluated again isn't parsed again.
+//! A cache of parsed texts: scripts and expressions with their trees, so that nothing is parsed twice.
 //! Takes memory and touches nothing else.
-//! Used by the evaluator, and by those who evaluate more than one file.
+//! Used by tclevaluator and tcleval.
 #![tactic(auto)]
 
 mod cache;

@@ -9,7 +9,8 @@ use Rattle.tcllist.specs.ListReading.{list_of}
 use Rattle.tcloperators.specs.Faults.{Answer, text, error}
 use Rattle.tcloperators.specs.Messages.{not_a_list}
 
--- a text that is too long isn't parsed, so nothing is known of it; any other fault of the parser means that it is no list
+-- a text that is too long isn't parsed, so nothing is known of it; any other fault of the parser means that it is no
+-- list
 abbrev pub listed : Result (List Text) TextFault → Answer (List Text)
 listed (Ok es) = Ok es
 listed (Err TooLong) = Err (text TooLong)

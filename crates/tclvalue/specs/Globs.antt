@@ -32,8 +32,8 @@ abbrev pub after_escape : (Text → Bool) → ℕ → Text → Bool
 after_escape rest c [] = false
 after_escape rest c (p ∷ ps) = p == c && rest ps
 
--- the pattern matches the character, and rest accepts the pattern after it. A star matches no character, or this one and
--- stays
+-- the pattern matches the character, and rest accepts the pattern after it. A star matches no character, or this one
+-- and stays
 abbrev pub matches_first : (Text → Bool) → Bool → ℕ → ℕ → Text → Bool
 matches_first rest without c p ps =
     if p == star then without || rest (p ∷ ps)
