@@ -11,7 +11,7 @@ use Rattle.tcloperators.specs.Elements.{elements_of}
 use Rattle.tclrules.specs.Rules.{loops, named, shortened}
 use Rattle.tclforms.specs.Views.{texts_of, in_twos, pair_texts}
 use Rattle.tclforms.specs.ArgumentViews.{left_after}
-use Rattle.tclforms.specs.Lists.{behind, one_loop}
+use Rattle.tclforms.specs.Lists.{prefixed, one_loop}
 use Rattle.tclforms.specs.declared.items.Items as program
 
 length_texts : (ts : List (String Global)) → length (texts_of ts) ≡ length ts
@@ -71,16 +71,16 @@ loops_first p ps = go (elements_of p.0 >>= named)
     go (Ok vs) = goes vs (elements_of p.1)
     go (Err f) = refl
 
-loops_behind : (done : List Items) (p : Text × Text) (ps : List (Text × Text)) (l : Items) → one_loop p ≡ Ok l → behind done (loops (p ∷ ps)) ≡ behind (done ++ l ∷ []) (loops ps)
-loops_behind done p ps l e = ap (behind done) (loops_first p ps ∙ rw e refl) ∙ go (loops ps)
+loops_behind : (done : List Items) (p : Text × Text) (ps : List (Text × Text)) (l : Items) → one_loop p ≡ Ok l → prefixed done (loops (p ∷ ps)) ≡ prefixed (done ++ l ∷ []) (loops ps)
+loops_behind done p ps l e = ap (prefixed done) (loops_first p ps ∙ rw e refl) ∙ go (loops ps)
   where
-    go : (a : Answer (List Items)) → behind done (a >>= (λ ls. Ok (l ∷ ls))) ≡ behind (done ++ l ∷ []) a
+    go : (a : Answer (List Items)) → prefixed done (a >>= (λ ls. Ok (l ∷ ls))) ≡ prefixed (done ++ l ∷ []) a
     go (Ok ls) = ap Ok (sym (append_assoc done (l ∷ []) ls))
     go (Err f) = refl
 
 -- a step over the lists
-pub loops_step : (all rest : List (Bor (List ℕ) × Bor (List ℕ))) (read new : List program.Items) (d : Bor (List ℕ) × Bor (List ℕ)) (l : program.Items) → loops (pair_texts all) ≡ behind (map (left_after 0) read) (loops (pair_texts rest)) → 1 ≤ length rest → one_loop ((get_or rest 0 d).0.now, (get_or rest 0 d).1.now) ≡ Ok (left_after 0 l) → new ≡ read ++ l ∷ []
-    → loops (pair_texts all) ≡ behind (map (left_after 0) new) (loops (pair_texts (take (length rest - 1) (drop 1 rest))))
+pub loops_step : (all rest : List (Bor (List ℕ) × Bor (List ℕ))) (read new : List program.Items) (d : Bor (List ℕ) × Bor (List ℕ)) (l : program.Items) → loops (pair_texts all) ≡ prefixed (map (left_after 0) read) (loops (pair_texts rest)) → 1 ≤ length rest → one_loop ((get_or rest 0 d).0.now, (get_or rest 0 d).1.now) ≡ Ok (left_after 0 l) → new ≡ read ++ l ∷ []
+    → loops (pair_texts all) ≡ prefixed (map (left_after 0) new) (loops (pair_texts (take (length rest - 1) (drop 1 rest))))
 loops_step all [] read new d l i n e f = absurd (omega arith)
 loops_step all (p ∷ ps) read new d l i n e f =
     let t : take (length (p ∷ ps) - 1) ps ≡ ps = take_all (length (p ∷ ps) - 1) ps (omega arith) in

@@ -8,8 +8,8 @@ use Rattle.tclrules.specs.Plans.{Items}
 use Rattle.tclrules.specs.Rules.{named, parameters, unless_reserved}
 
 -- these elements before those of an answer
-abbrev pub behind : {A : Type 0} → List A → Answer (List A) → Answer (List A)
-behind done more = more >>= (λ rest. Ok (done ++ rest))
+abbrev pub prefixed : {A : Type 0} → List A → Answer (List A) → Answer (List A)
+prefixed done more = more >>= (λ rest. Ok (done ++ rest))
 
 -- the parameters of a procedure of this name, in the text that proc has for them
 abbrev pub defined : Text → Text → Answer (List Parameter)

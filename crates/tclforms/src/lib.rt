@@ -1,5 +1,4 @@
-//! What the words of Tcl's core commands ask for (the page of each command): the form of a command, the items of
-//! foreach, the body that switch chooses, the parameters of procedures, and the names that are reserved.
+//! What the words of Tcl's core commands ask for: forms, foreach items, switch bodies, parameters, reserved names.
 //! Takes memory and touches nothing else.
 //! Used by tclcommands, tclcontrol, tclevaluator, modulefile and defaultfiles.
 #![tactic(auto)]

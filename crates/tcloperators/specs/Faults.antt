@@ -1,4 +1,4 @@
--- Why there is no value, and what a call of this crate answers. Want of memory is no reason: any call may have it.
+-- Why there is no value, and what a call of this crate answers. Running out of memory is no reason: it may end any call.
 use Rattle.std.specs.Prelude.{◌≡◌, ℕ, string_bytes, String, Option, Some, None, IfSome, Result, Ok, Err}
 use Rattle.std.specs.declared.alloc.Global.{Global}
 use Rattle.tclchars.specs.Answers.{Gives}
@@ -26,7 +26,7 @@ abbrev pub ◌>>=◌ : {A B : Type 0} → Answer A → (A → Answer B) → Answ
 (Ok x) >>= f = f x
 (Err e) >>= f = Err e
 
--- the reason that a fault of the program stands for; want of memory is none
+-- the reason that a fault of the program stands for; running out of memory is none
 abbrev pub reason_of : ValueFault → Option Reason
 reason_of faults.OutOfMemory = None
 reason_of (faults.Text fault) = Some (text fault)

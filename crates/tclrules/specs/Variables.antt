@@ -73,7 +73,7 @@ abbrev pub has_colons : Text → Bool
 has_colons [] = false
 has_colons (b ∷ bs) = (b == 58 && begins 58 bs) || has_colons bs
 
--- the location that a name denotes: a scalar variable, or an element of env. The flag says that it is a global one
+-- the location that a name denotes: a scalar variable, or an element of env. The flag is true of a global one
 pub data Place : Type 0 where
   Plain : Bool → Text → Place
   Element : Bool → Text → Place
@@ -110,12 +110,12 @@ abbrev pub place_named : State → Text → Answer Place
 place_named s name = place_of s (apart name).0 (apart name).1
 
 -- the scalar variable at a location; neither env nor an element of it may be written or unset
-abbrev pub plain : Place → Answer (Bool × Text)
-plain (Plain global name) = if bytes_eq name env then Err (left_out env) else Ok (global, name)
-plain (Element global i) = Err (left_out env)
+abbrev pub writable_scalar : Place → Answer (Bool × Text)
+writable_scalar (Plain global name) = if bytes_eq name env then Err (left_out env) else Ok (global, name)
+writable_scalar (Element global i) = Err (left_out env)
 
 abbrev pub writable : State → Text → Answer (Bool × Text)
-writable s name = place_named s name >>= plain
+writable s name = place_named s name >>= writable_scalar
 
 -- Reading and changing
 

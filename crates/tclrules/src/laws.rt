@@ -61,7 +61,7 @@ pub fn unrefused()
 pub fn grown()
     ensures grows { (s : Setting) (o : Outcome Ending) (w : World)
         → ComesTo s o w → Grows s.oracle s.told.records w.told.records }
-    ensures kept { (s : Setting) (o : Outcome Ending) (w : World) (holds : List CommandWords → Bool)
+    ensures preserved { (s : Setting) (o : Outcome Ending) (w : World) (holds : List CommandWords → Bool)
         → ComesTo s o w → holds s.told.records ≡ true → KeepsRecords s.oracle holds → holds w.told.records ≡ true }
 {}
 

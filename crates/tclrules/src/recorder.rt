@@ -112,10 +112,10 @@ impl Host for Recorder {
             }
             HostAnswer::Done(String::new(self.alloc))
         } else if name.as_str() == "puts" {
-            let Ok(said) = message_of(self.alloc, words) else {
+            let Ok(text) = message_of(self.alloc, words) else {
                 return HostAnswer::OutOfMemory;
             };
-            let Some(message) = said else {
+            let Some(message) = text else {
                 return HostAnswer::Unknown;
             };
             if self.messages.push(message).is_err() {

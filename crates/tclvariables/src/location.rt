@@ -14,9 +14,9 @@ use tclvalue::ValueFault;
 /// The location of a variable: what its name denotes where the command is evaluated.
 #[derive(Drop)]
 pub enum Place<'a> {
-    /// The scalar variable of this name; the flag says that it is a global one.
+    /// The scalar variable of this name; the flag is true of a global one.
     Plain(bool, &'a str),
-    /// The element of `env` with this index; the flag says that `env` denotes the global array here.
+    /// The element of `env` with this index; the flag is true where `env` denotes the global array.
     Element(bool, &'a str),
 }
 

@@ -37,7 +37,7 @@ pub struct Procedure {
 /// The global variables, the frame of the procedure that runs, the procedures, and how many bytes of the file precede
 /// its current command.
 ///
-/// Where a call is refused for want of memory, nothing has changed.
+/// A call that fails for `AllocError` has changed nothing.
 #[derive(Drop)]
 pub struct Variables {
     globals: Table,
