@@ -149,11 +149,11 @@ fn of_list<'a>(
 pub(crate) fn switch_form(alloc: Global, words: &[String]) -> Result<Form<'_>, ValueFault>
     ensures { Gives reason_of form_view result (switch_form (map string_bytes words.entry.now)) }
 {
-    let parted = parted(words);
-    match parted.rest {
-        [text, list] => of_list(alloc, parted.options, text, list),
+    let split = parted(words);
+    match split.rest {
+        [text, list] => of_list(alloc, split.options, text, list),
         [text, patterns @ ..] if patterns.len() > 1 => {
-            of_words(alloc, parted.options, text, patterns)
+            of_words(alloc, split.options, text, patterns)
         }
         _ => Err(wrong_words(alloc, "switch")),
     }
