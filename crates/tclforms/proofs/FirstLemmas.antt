@@ -88,7 +88,7 @@ but_for_none : (ds : Variables) → but_for ds [] ≡ []
 but_for_none [] = refl
 but_for_none (d ∷ ds) = but_for_none ds
 
--- none is left
+-- no parameter remains
 firsts_done : (done : Variables) → firsts_behind done (Ok []) ≡ Ok done
 firsts_done done = ap Ok (ap (λ r. done ++ r) (but_for_none done) ∙ append-nil done)
 
@@ -96,7 +96,7 @@ names_seen : (n : Text) (ks : List (Bor Text)) → list_any (λ k. bytes_eq n k.
 names_seen n [] = refl
 names_seen n (k ∷ ks) = ap (λ b. bytes_eq n k.now || b) (names_seen n ks)
 
--- a name is kept where it is new
+-- a name is added where it is new
 pub kept_first : (ks : List (Bor Text)) (vs : List (Bor Text × String Global)) (n : Bor Text) (v : String Global) (r : Bool) → AreNamesOf ks vs → r ≡ not (list_any (λ k. bytes_eq n.now k.now) ks)
     → (r ≡ true → named_values (vs ++ (n, v) ∷ []) ≡ with_first (named_values vs) n.now (string_bytes v)) × (r ≡ false → named_values vs ≡ with_first (named_values vs) n.now (string_bytes v))
 kept_first ks vs n v r a h = go (list_any (λ k. bytes_eq n.now k.now) ks) refl

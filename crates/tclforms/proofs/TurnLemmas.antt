@@ -1,4 +1,4 @@
--- What is left of lists after turns.
+-- The items of lists that remain after turns.
 use Rattle.std.proofs.Common.{◌≡◌, ℕ, zero, suc, ◌+◌, ◌-◌, ◌*◌, ◌^◌, ◌<◌, ◌≤◌, min, Bool, true, false, nat_lt, List, [], ◌∷◌, ◌++◌, length, map, take, drop, get_or, String, Global, Bor, Ok, Err, refl, sym, ap, ◌∙◌, add-one, append_assoc, arith, length-drop}
 use Rattle.std.specs.Prelude.{string_bytes}
 use Rattle.std.proofs.lemmas.Bool.Decides.{nat_tests}
