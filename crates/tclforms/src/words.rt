@@ -145,7 +145,7 @@ pub(crate) fn error_form(alloc: Global, words: &[String]) -> Result<Form<'_>, Va
     }
 }
 
-/// `catch script ?name?`; its options are unsupported.
+/// `catch script ?name?`; a third word, for options, is one too many.
 pub(crate) fn catch_form(alloc: Global, words: &[String]) -> Result<Form<'_>, ValueFault>
     ensures { Gives reason_of form_view result (catch_form (map string_bytes words.entry.now)) }
 {
