@@ -1,4 +1,4 @@
--- Why there is no value, and what a call of this crate answers. Running out of memory is no reason: it may end any call.
+-- Why there is no value, and what a call of this crate answers. Running out of memory is no reason: any call may do so.
 use Rattle.std.specs.Prelude.{◌≡◌, ℕ, string_bytes, String, Option, Some, None, IfSome, Result, Ok, Err}
 use Rattle.std.specs.declared.alloc.Global.{Global}
 use Rattle.tclchars.specs.Answers.{Gives}
