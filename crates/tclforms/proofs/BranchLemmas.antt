@@ -20,13 +20,13 @@ of_words c w ws f false e h =
     let g : f ≡ (c, w, ws) = cc in
     rw (e, g) refl
 
--- the first branch, and what is behind it
+-- the first branch, and the words after it
 of_first : (ws : List Text) (f : FirstBranch) → first_branch ws ≡ Some f → branches ws ≡ branch f.0 f.1 (behind_body f.2)
 of_first [] f h = absurd (cc)
 of_first (c ∷ []) f h = absurd (cc)
 of_first (c ∷ w ∷ ws) f h = of_words c w ws f (bytes_eq w (codes "then")) refl h
 
--- a pair more in front
+-- one more pair before the others
 one_more : (ps : List (Text × Text)) (c b : Text) (more : Answer Branches) → behind_pairs ps (branch c b more) ≡ behind_pairs (ps ++ (c, b) ∷ []) more
 one_more ps c b (Ok m) = ap (λ (qs : List (Text × Text)). Ok (qs, m.1)) (sym (append_assoc ps ((c, b) ∷ []) m.0))
 one_more ps c b (Err f) = refl
@@ -49,7 +49,7 @@ at_last (w ∷ ws) h = tested (bytes_eq w (codes "elseif")) refl h
     tested true e g = absurd (cc)
     tested false e g = rw e refl
 
--- a branch with elseif behind it
+-- a branch with elseif after it
 pub goes_on : (all rest rs more : List Text) (ps : List (Text × Text)) (c b : Text) → branches all ≡ behind_pairs ps (branches rest) → first_branch rest ≡ Some (c, b, rs) → behind_elseif rs ≡ Some more
     → branches all ≡ behind_pairs (ps ++ (c, b) ∷ []) (branches more)
 goes_on all rest rs more ps c b i f h =

@@ -1,3 +1,5 @@
 pub mod WordLemmas
 pub mod BranchLemmas
 pub mod SwitchLemmas
+pub mod TurnLemmas
+pub mod FirstLemmas

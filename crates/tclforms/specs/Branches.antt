@@ -1,4 +1,4 @@
--- How the words of if and foreach are taken apart from the front.
+-- How the words of if(n) and foreach(n) are read from the first on. Own.
 use Rattle.std.specs.Prelude.{List, [], ◌∷◌, ◌++◌, if◌then◌else◌, Option, Some, None, Ok, codes, bytes_eq}
 use Rattle.tclchars.specs.Runs.{Text}
 use Rattle.tcloperators.specs.Faults.{Answer, ◌>>=◌}
@@ -7,14 +7,16 @@ use Rattle.tclrules.specs.Forms.{Branches}
 use Rattle.tclforms.specs.Views.{texts_of}
 use Rattle.tclforms.specs.declared.conditional.Branch.{Branch}
 
--- a condition with its body, and the words behind them
+-- a condition with its body, and the words after them
 abbrev pub FirstBranch : Type 0
 FirstBranch = Text × Text × List Text
 
+-- the branch with this condition, from the words after then on
 abbrev pub behind_then : Text → List Text → Option FirstBranch
 behind_then c [] = None
 behind_then c (b ∷ ws) = Some (c, b, ws)
 
+-- the branch that the words begin with, from its condition on
 abbrev pub first_branch : List Text → Option FirstBranch
 first_branch [] = None
 first_branch (c ∷ []) = None
@@ -23,14 +25,16 @@ first_branch (c ∷ w ∷ ws) = if bytes_eq w (codes "then") then behind_then c 
 abbrev pub branch_view : Branch → FirstBranch
 branch_view b = (b.condition.now, b.body.now, texts_of b.rest.now)
 
+-- the words after elseif, where they begin with it
 abbrev pub behind_elseif : List Text → Option (List Text)
 behind_elseif [] = None
 behind_elseif (w ∷ ws) = if bytes_eq w (codes "elseif") then Some ws else None
 
--- more pairs of texts, and what is behind them
+-- these pairs before those of an answer, whose other part stays
 abbrev pub behind_pairs : {A : Type 0} → List (Text × Text) → Answer (List (Text × Text) × A)
     → Answer (List (Text × Text) × A)
 behind_pairs ps more = more >>= (λ m. Ok (ps ++ m.0, m.1))
 
+-- the form of if with these branches
 abbrev pub if_of : Answer Branches → Answer forms.Form
 if_of more = more >>= (λ m. Ok (forms.If m.0 m.1))

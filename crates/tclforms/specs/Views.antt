@@ -1,4 +1,4 @@
--- The forms of the program, as the rules see them.
+-- What the forms of the program stand for in the rules (tclrules/specs/Forms.antt). Own.
 use Rattle.std.specs.Prelude.{ℕ, List, [], ◌∷◌, map, string_bytes, String, Option, Some, None, Ok, Err}
 use Rattle.std.specs.Borrow.{Bor}
 use Rattle.std.specs.Option.{option_map}
@@ -13,23 +13,26 @@ use Rattle.tclforms.specs.declared.form.Simple.TheVariants as simple
 use Rattle.tclforms.specs.declared.form.Patterns.{Patterns}
 use Rattle.tclforms.specs.declared.form.Patterns.TheVariants as patterns
 
+-- the texts of words
 abbrev pub texts_of : List (String Global) → List Text
 texts_of ws = map string_bytes ws
 
--- texts in twos; one that is left alone isn't there
+-- texts by turns as pairs; a last one without a partner is dropped
 abbrev pub in_twos : List Text → List (Text × Text)
 in_twos [] = []
 in_twos (a ∷ []) = []
 in_twos (a ∷ b ∷ ts) = (a, b) ∷ in_twos ts
 
--- pairs of the program
+-- pairs of borrowed texts
 abbrev pub pair_texts : List (Bor (List ℕ) × Bor (List ℕ)) → List (Text × Text)
 pair_texts ps = map (λ p. (p.0.now, p.1.now)) ps
 
+-- the patterns and bodies of a switch, by turns
 abbrev pub pattern_texts : Patterns → List Text
 pattern_texts (patterns.Words ws) = texts_of ws.now
 pattern_texts (patterns.Elements es) = texts_of es.items
 
+-- a form of a command that evaluates no script
 abbrev pub simple_view : Simple → forms.Form
 simple_view (simple.Get v) = forms.Get v.now
 simple_view (simple.Set v x) = forms.Set v.now x.now
@@ -47,6 +50,7 @@ simple_view (simple.Exists v) = forms.Exists v.now
 simple_view (simple.Global vs) = forms.Global (texts_of vs.now)
 simple_view (simple.Put ws) = forms.Put (texts_of ws.now)
 
+-- any form
 abbrev pub form_view : Form → forms.Form
 form_view (form.Simple s) = simple_view s
 form_view (form.Express xs) = forms.Express (texts_of xs.now)
@@ -57,7 +61,7 @@ form_view (form.Foreach ps b) = forms.Foreach (pair_texts ps.items) b.now
 form_view (form.Switch by_glob t ps) = forms.Switch by_glob t.now (in_twos (pattern_texts ps))
 form_view (form.Catch s v) = forms.Catch s.now (option_map (λ v. v.now) v)
 
--- an answer that may be none
+-- an optional answer as the answer of an option
 abbrev pub turned : {A : Type 0} → Option (Answer A) → Answer (Option A)
 turned None = Ok None
 turned (Some (Ok x)) = Ok (Some x)

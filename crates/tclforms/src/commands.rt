@@ -1,4 +1,4 @@
-//! The core commands by their names.
+//! The core commands by their names (the page of each), but those that take values alone.
 ghost use Rattle.std.specs.Prelude.{map, string_bytes};
 ghost use Rattle.std.specs.Option.{option_map};
 ghost use Rattle.tclchars.specs.Answers.{Gives};
@@ -17,11 +17,11 @@ use crate::words::{
 use std::alloc::Global;
 use tcloperators::ValueFault;
 
-/// The form of a core command, by its name and the words behind it; None for another name.
+/// The form of a core command, by its name and the words after it; None for another name.
 ///
-/// Errors: what is wrong of the words alone. `TclError` (13): a wrong number of words, a bad option, patterns that are
-/// no list or whose last body is missing. `LeftOut` (19): what is left out. `Text` (12): a list that is too long.
-/// `OutOfMemory` (11).
+/// Errors, as far as the words alone show them. `TclError` (13): a wrong number of words, a bad option, patterns that
+/// are no list or whose last body is missing. `LeftOut` (19): what is unsupported. `Text` (12): a list that is too
+/// long. `OutOfMemory` (11).
 #[tactic(auto, unfolding(tclrules::specs::Forms::core_form))]
 pub fn core_form<'a>(
     alloc: Global,

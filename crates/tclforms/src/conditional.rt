@@ -11,7 +11,7 @@ use crate::form::Form;
 use std::alloc::Global;
 use tcloperators::{ValueFault, wrong_words};
 
-/// A condition with its body, and the words behind them.
+/// A condition with its body, and the words after them.
 #[derive(Clone, Copy)]
 struct Branch<'a> {
     condition: &'a str,
@@ -19,6 +19,7 @@ struct Branch<'a> {
     rest: &'a [String],
 }
 
+/// The branch with this condition, from the words after `then` on.
 fn behind_then<'a>(condition: &'a str, words: &'a [String]) -> Option<Branch<'a>>
     ensures branch { option_map branch_view result
         ≡ behind_then condition.entry.now (map string_bytes words.entry.now) }
@@ -34,6 +35,7 @@ fn behind_then<'a>(condition: &'a str, words: &'a [String]) -> Option<Branch<'a>
     }
 }
 
+/// The branch that the words begin with, from its condition on.
 fn first_branch(words: &[String]) -> Option<Branch<'_>>
     ensures branch { option_map branch_view result ≡ first_branch (map string_bytes words.entry.now) }
     ensures shorter { IfSome result (λ b. length b.rest.now < length words.entry.now) }
@@ -49,7 +51,7 @@ fn first_branch(words: &[String]) -> Option<Branch<'_>>
     }
 }
 
-/// The form with these branches, and behind them a last body.
+/// The form with these branches and a last body, which is the one word that remains.
 fn last_body<'a>(
     alloc: Global,
     branches: Vec<(&'a str, &'a str)>,
@@ -64,7 +66,7 @@ fn last_body<'a>(
     }
 }
 
-/// The form with these branches, and behind them else with a last body, or nothing.
+/// The form with these branches and then `else` with a last body, or nothing.
 fn last_words<'a>(
     alloc: Global,
     branches: Vec<(&'a str, &'a str)>,
@@ -80,7 +82,7 @@ fn last_words<'a>(
     }
 }
 
-/// The words behind `elseif`, where it stands in front.
+/// The words after `elseif`, where they begin with it.
 fn behind_elseif(words: &[String]) -> Option<&[String]>
     ensures rest { option_map (λ ws. texts_of ws.now) result ≡ behind_elseif (map string_bytes words.entry.now) }
     ensures shorter { IfSome result (λ ws. length ws.now < length words.entry.now) }
@@ -91,7 +93,7 @@ fn behind_elseif(words: &[String]) -> Option<&[String]>
     }
 }
 
-/// if(n)
+/// `if c ?then? b ?elseif c ?then? b?... ?else? ?b?`
 pub(crate) fn if_form(alloc: Global, words: &[String]) -> Result<Form<'_>, ValueFault>
     ensures { Gives reason_of form_view result (if_form (map string_bytes words.entry.now)) }
 {

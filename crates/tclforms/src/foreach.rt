@@ -9,7 +9,7 @@ use crate::form::Form;
 use std::alloc::Global;
 use tcloperators::{ValueFault, wrong_words};
 
-/// foreach(n)
+/// `foreach names list ?names list?... body`
 pub(crate) fn foreach_form(alloc: Global, words: &[String]) -> Result<Form<'_>, ValueFault>
     ensures { Gives reason_of form_view result (foreach_form (map string_bytes words.entry.now)) }
 {

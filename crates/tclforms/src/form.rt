@@ -1,8 +1,8 @@
-//! What a command is told to do.
-
+//! What a core command asks for: its form.
 ghost use Rattle.std.specs.Prelude.{◌≡◌, map, string_bytes};
 
-/// The form of a core command, with its words.
+/// The form of a core command with its operands. Scripts and expressions in it are texts, which are parsed when they
+/// are evaluated.
 #[derive(Drop)]
 pub enum Form<'a> {
     /// A command that evaluates no script.
@@ -17,7 +17,7 @@ pub enum Form<'a> {
     For(&'a str, &'a str, &'a str, &'a str),
     /// `foreach`: names with their lists, and the body.
     Foreach(Vec<(&'a str, &'a str)>, &'a str),
-    /// `switch`: whether patterns are compared by glob, the text, and the patterns with their bodies.
+    /// `switch`: whether patterns are compared by glob (`-glob`), the text, and the patterns with their bodies.
     Switch(bool, &'a str, Patterns<'a>),
     /// `catch s v`
     Catch(&'a str, Option<&'a str>),
@@ -30,13 +30,13 @@ pub enum Simple<'a> {
     Get(&'a str),
     /// `set v x`
     Set(&'a str, &'a str),
-    /// `unset v...`; whether an absent variable is no error.
+    /// `unset v...`; the flag is that of `-nocomplain`: an absent variable is no error.
     Unset(bool, &'a [String]),
     /// `append v x...`
     Append(&'a str, &'a [String]),
     /// `lappend v x...`
     ListAppend(&'a str, &'a [String]),
-    /// `incr v n...`, of which the number of words isn't judged yet.
+    /// `incr v n...`; the number of words is judged after the variable, by `increase_of`.
     Increase(&'a str, &'a [String]),
     /// `proc n args b`
     Define(&'a str, &'a str, &'a str),
@@ -54,11 +54,11 @@ pub enum Simple<'a> {
     Exists(&'a str),
     /// `global v...`
     Global(&'a [String]),
-    /// `puts`, with all its words.
+    /// `puts`, with all its words, which the host is given.
     Put(&'a [String]),
 }
 
-/// The patterns of a switch, each with its body behind it.
+/// The patterns and bodies of a switch, by turns.
 #[derive(Drop)]
 pub enum Patterns<'a> {
     /// Words of the command.
@@ -70,7 +70,7 @@ pub enum Patterns<'a> {
 impl Patterns<'_> {
     ghost use Rattle.tclforms.specs.Views.{pattern_texts};
 
-    /// The patterns, each with its body behind it.
+    /// The patterns and bodies by turns, wherever they are held.
     pub fn as_slice(&self) -> &[String]
         ensures { map string_bytes result.now ≡ pattern_texts self.entry.now }
     {

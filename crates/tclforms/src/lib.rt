@@ -1,14 +1,28 @@
-//! The words of Tcl's core commands, taken apart: the form of each command, and what is judged of words alone.
+//! What the words of Tcl's core commands ask for: forms, foreach items, switch bodies, parameters, reserved names.
+//! Takes memory and touches nothing else.
+//! Used by tclcommands, tclcontrol, tclevaluator, modulefile and defaultfiles.
 #![tactic(auto)]
 
+mod calls;
+mod choice;
 mod commands;
 mod conditional;
 mod foreach;
 mod form;
+mod items;
+mod loops;
 mod messages;
+mod names;
+mod procedures;
 mod switch;
 mod words;
 
+pub use calls::allotted;
+pub use choice::chosen;
 pub use commands::core_form;
 pub use form::{Form, Patterns, Simple};
+pub use loops::Loops;
+pub use messages::{no_command, not_to_unset, outside_loop};
+pub use names::{is_left_out, is_left_out_of_modules, is_reserved};
+pub use procedures::parameters;
 pub use words::increase_of;

@@ -1,12 +1,13 @@
-//! Errors of core commands that catch(n) sees, and what is left out of info.
-ghost use Rattle.std.specs.Prelude.{◌++◌, codes};
+//! The errors of core commands that catch(n) sees, and the fault of an option or subcommand that is unsupported.
+ghost use Rattle.std.specs.Prelude.{◌≡◌, ◌++◌, codes, IfOk, string_bytes};
 ghost use Rattle.tcloperators.specs.Faults.{HasReason, error, left_out};
 ghost use Rattle.tclrules.specs.Messages.{bad_option, no_body};
+ghost use Rattle.tclrules.specs.Messages.{in_quotes, no_command, outside_loop, not_to_unset, no_loop_variable, is_taken};
 
-use std::alloc::Global;
+use std::alloc::{AllocError, Global};
 use tcloperators::{ValueFault, tcl_error};
 
-/// An option isn't known.
+/// switch(n) has no such option.
 #[tactic(auto, unfolding(tclrules::specs::Messages::bad_option))]
 pub(crate) fn bad_option(alloc: Global, word: &str) -> ValueFault
     ensures { HasReason (error (bad_option word.now)) result }
@@ -14,7 +15,7 @@ pub(crate) fn bad_option(alloc: Global, word: &str) -> ValueFault
     tcl_error(format!(in alloc; "bad option \"{word}\""))
 }
 
-/// The last pattern of a switch has no body.
+/// The last pattern of a switch has `-` for its body.
 #[tactic(auto, unfolding(tclrules::specs::Messages::no_body))]
 pub(crate) fn no_body(alloc: Global, pattern: &str) -> ValueFault
     ensures { HasReason (error (no_body pattern.now)) result }
@@ -22,7 +23,7 @@ pub(crate) fn no_body(alloc: Global, pattern: &str) -> ValueFault
     tcl_error(format!(in alloc; "no body for pattern \"{pattern}\""))
 }
 
-/// What a command of this name is asked for, or this option, isn't computed.
+/// The fault of a command or an option of this name that is unsupported.
 pub(crate) fn left_out(alloc: Global, name: &str) -> ValueFault
     ensures { HasReason (left_out name.now) result }
 {
@@ -32,7 +33,7 @@ pub(crate) fn left_out(alloc: Global, name: &str) -> ValueFault
     }
 }
 
-/// A subcommand of info isn't computed.
+/// The fault of a subcommand of info(n) that is unsupported.
 pub(crate) fn left_out_info(alloc: Global, word: &str) -> ValueFault
     ensures { HasReason (left_out (codes "info " ++ word.now)) result }
 {
@@ -40,4 +41,67 @@ pub(crate) fn left_out_info(alloc: Global, word: &str) -> ValueFault
         Ok(name) => ValueFault::LeftOut(name),
         Err(_) => ValueFault::OutOfMemory,
     }
+}
+
+/// The text between double quotes.
+fn in_quotes(alloc: Global, text: &str) -> Result<String, AllocError>
+    ensures { IfOk result (λ t. string_bytes t ≡ in_quotes text.now) }
+{
+    format!(in alloc; "\"{text}\"")
+}
+
+/// Neither Tcl, nor a procedure, nor the host has a command of this name.
+#[tactic(auto, unfolding(tclrules::specs::Messages::no_command))]
+pub fn no_command(alloc: Global, name: &str) -> ValueFault
+    ensures { HasReason (error (no_command name.now)) result }
+{
+    tcl_error(format!(in alloc; "invalid command name \"{name}\""))
+}
+
+/// `break` or `continue` ended the body of a procedure.
+pub fn outside_loop(alloc: Global, command: &str) -> ValueFault
+    ensures { HasReason (error (outside_loop command.now)) result }
+{
+    tcl_error(outside_loop_message(alloc, command))
+}
+
+/// The message of `outside_loop`.
+#[tactic(auto, unfolding(tclrules::specs::Messages::outside_loop))]
+fn outside_loop_message(alloc: Global, command: &str) -> Result<String, AllocError>
+    ensures { IfOk result (λ t. string_bytes t ≡ outside_loop command.now) }
+{
+    let quoted = in_quotes(alloc, command)?;
+    format!(in alloc; "invoked {quoted} outside of a loop")
+}
+
+/// unset(n) names a variable that isn't set.
+pub fn not_to_unset(alloc: Global, name: &str) -> ValueFault
+    ensures { HasReason (error (not_to_unset name.now)) result }
+{
+    tcl_error(not_to_unset_message(alloc, name))
+}
+
+/// The message of `not_to_unset`.
+#[tactic(auto, unfolding(tclrules::specs::Messages::not_to_unset))]
+fn not_to_unset_message(alloc: Global, name: &str) -> Result<String, AllocError>
+    ensures { IfOk result (λ t. string_bytes t ≡ not_to_unset name.now) }
+{
+    let quoted = in_quotes(alloc, name)?;
+    format!(in alloc; "can't unset {quoted}: no such variable")
+}
+
+/// foreach(n) has a list of variables that is empty.
+#[tactic(auto, unfolding(tclrules::specs::Messages::no_loop_variable))]
+pub(crate) fn no_loop_variable(alloc: Global) -> ValueFault
+    ensures { HasReason (error no_loop_variable) result }
+{
+    tcl_error(String::from_str(alloc, "no variable for foreach"))
+}
+
+/// proc(n) names a command that is reserved.
+#[tactic(auto, unfolding(tclrules::specs::Messages::is_taken))]
+pub(crate) fn is_taken(alloc: Global, name: &str) -> ValueFault
+    ensures { HasReason (error (is_taken name.now)) result }
+{
+    tcl_error(format!(in alloc; "can't redefine \"{name}\""))
 }

@@ -11,20 +11,21 @@ use crate::messages::{bad_option, left_out, no_body};
 use std::alloc::Global;
 use tcloperators::{ValueFault, elements, not_a_list, wrong_words};
 
-/// A word is an option where more than one word follows.
+/// Whether a word is an option: it begins with `-`, and more than one word follows it.
 fn is_option(word: &str, behind: &[String]) -> bool
     ensures { result ≡ is_option word.now (map string_bytes behind.now) }
 {
     word.as_bytes().first() == Some(&b'-') && behind.len() > 1
 }
 
-/// The options in front of the other words.
+/// The options of a switch, and the words after them.
 #[derive(Clone, Copy)]
 struct Split<'a> {
     options: &'a [String],
     rest: &'a [String],
 }
 
+/// The options that words begin with, and the words after them; `--` ends the options.
 fn parted(words: &[String]) -> Split<'_>
     ensures { (texts_of result.options.now, texts_of result.rest.now) ≡ options (map string_bytes words.entry.now) }
 {
@@ -47,7 +48,7 @@ fn parted(words: &[String]) -> Split<'_>
     }
 }
 
-/// Whether an option says that patterns are compared by glob.
+/// Whether an option asks for patterns that are compared by glob.
 fn glob_option(alloc: Global, option: &str) -> Result<bool, ValueFault>
     ensures { Gives reason_of (λ b. b) result (glob_option option.now) }
 {
@@ -59,7 +60,7 @@ fn glob_option(alloc: Global, option: &str) -> Result<bool, ValueFault>
     }
 }
 
-/// Whether patterns are compared by glob: the last option counts.
+/// Whether patterns are compared by glob: the last option decides, and without one they are compared exactly.
 fn by_glob(alloc: Global, options: &[String]) -> Result<bool, ValueFault>
     ensures { Gives reason_of (λ b. b) result (by_glob false (map string_bytes options.now)) }
 {
@@ -70,7 +71,7 @@ fn by_glob(alloc: Global, options: &[String]) -> Result<bool, ValueFault>
     Ok(glob)
 }
 
-/// The last pattern, where its body is `-`.
+/// The last pattern, where its body is `-`, which would be that of the next.
 fn bodiless(patterns: &[String]) -> Option<&str>
     ensures { option_map (λ p. p.now) result ≡ bodiless (in_twos (map string_bytes patterns.entry.now)) }
 {
@@ -84,13 +85,14 @@ fn bodiless(patterns: &[String]) -> Option<&str>
     None
 }
 
+/// The pattern, where its body is `-`.
 fn last_pattern<'a>(pattern: &'a str, body: &str) -> Option<&'a str>
     ensures { option_map (λ p. p.now) result ≡ bodiless ((pattern.entry.now, body.now) ∷ []) }
 {
     if body == "-" { Some(pattern) } else { None }
 }
 
-/// The form with these patterns, unless the last body stands for the next.
+/// The form with these patterns, unless the last body is `-`.
 fn with_patterns<'a>(
     alloc: Global,
     by_glob: bool,
@@ -106,7 +108,7 @@ fn with_patterns<'a>(
     }
 }
 
-/// The form with patterns that are words.
+/// The form with patterns and bodies that are words of the command.
 #[tactic(auto, using(crate::proofs::SwitchLemmas::words_even, crate::proofs::SwitchLemmas::words_odd))]
 fn of_words<'a>(
     alloc: Global,
@@ -124,7 +126,7 @@ fn of_words<'a>(
     with_patterns(alloc, by_glob, text, Patterns::Words(patterns))
 }
 
-/// The form with patterns that are the elements of a list.
+/// The form with patterns and bodies that are the elements of one list.
 #[tactic(auto, using(crate::proofs::SwitchLemmas::words_even, crate::proofs::SwitchLemmas::words_odd))]
 fn of_list<'a>(
     alloc: Global,
@@ -143,15 +145,15 @@ fn of_list<'a>(
     with_patterns(alloc, by_glob, text, Patterns::Elements(patterns))
 }
 
-/// switch(n)
+/// `switch ?options? text pattern body ?pattern body?...`, or with the patterns and bodies in one list.
 pub(crate) fn switch_form(alloc: Global, words: &[String]) -> Result<Form<'_>, ValueFault>
     ensures { Gives reason_of form_view result (switch_form (map string_bytes words.entry.now)) }
 {
-    let parted = parted(words);
-    match parted.rest {
-        [text, list] => of_list(alloc, parted.options, text, list),
+    let split = parted(words);
+    match split.rest {
+        [text, list] => of_list(alloc, split.options, text, list),
         [text, patterns @ ..] if patterns.len() > 1 => {
-            of_words(alloc, parted.options, text, patterns)
+            of_words(alloc, split.options, text, patterns)
         }
         _ => Err(wrong_words(alloc, "switch")),
     }

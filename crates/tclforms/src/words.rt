@@ -1,4 +1,4 @@
-//! Forms whose words are taken as they stand.
+//! The commands whose words are taken as they are: no word is a list, and none is given to more than one operand.
 ghost use Rattle.std.specs.Prelude.{map, string_bytes};
 ghost use Rattle.tclchars.specs.Answers.{Gives};
 ghost use Rattle.tcloperators.specs.Faults.{reason_of};
@@ -11,7 +11,7 @@ use crate::messages::{left_out, left_out_info};
 use std::alloc::Global;
 use tcloperators::{ValueFault, wrong_words};
 
-/// set(n)
+/// `set name ?value?`
 pub(crate) fn set_form(alloc: Global, words: &[String]) -> Result<Form<'_>, ValueFault>
     ensures { Gives reason_of form_view result (set_form (map string_bytes words.entry.now)) }
 {
@@ -22,7 +22,7 @@ pub(crate) fn set_form(alloc: Global, words: &[String]) -> Result<Form<'_>, Valu
     }
 }
 
-/// The words behind `--`.
+/// The words after `--`, where they begin with it; else all.
 fn after_dashes(words: &[String]) -> &[String]
     ensures { texts_of result.now ≡ after_dashes (map string_bytes words.entry.now) }
 {
@@ -32,7 +32,7 @@ fn after_dashes(words: &[String]) -> &[String]
     }
 }
 
-/// unset(n)
+/// `unset ?-nocomplain? ?--? ?name?...`
 pub(crate) fn unset_form(words: &[String]) -> Form<'_>
     ensures { Gives reason_of form_view (Ok result) (unset_form (map string_bytes words.entry.now)) }
 {
@@ -44,7 +44,7 @@ pub(crate) fn unset_form(words: &[String]) -> Form<'_>
     }
 }
 
-/// append(n)
+/// `append name ?text?...`
 pub(crate) fn append_form(alloc: Global, words: &[String]) -> Result<Form<'_>, ValueFault>
     ensures { Gives reason_of form_view result (append_form (map string_bytes words.entry.now)) }
 {
@@ -54,7 +54,7 @@ pub(crate) fn append_form(alloc: Global, words: &[String]) -> Result<Form<'_>, V
     }
 }
 
-/// lappend(n)
+/// `lappend name ?element?...`
 pub(crate) fn lappend_form(alloc: Global, words: &[String]) -> Result<Form<'_>, ValueFault>
     ensures { Gives reason_of form_view result (lappend_form (map string_bytes words.entry.now)) }
 {
@@ -64,7 +64,7 @@ pub(crate) fn lappend_form(alloc: Global, words: &[String]) -> Result<Form<'_>, 
     }
 }
 
-/// incr(n)
+/// `incr name ?increment?`, whose number of words `increase_of` judges.
 pub(crate) fn incr_form(alloc: Global, words: &[String]) -> Result<Form<'_>, ValueFault>
     ensures { Gives reason_of form_view result (incr_form (map string_bytes words.entry.now)) }
 {
@@ -74,7 +74,7 @@ pub(crate) fn incr_form(alloc: Global, words: &[String]) -> Result<Form<'_>, Val
     }
 }
 
-/// expr(n)
+/// `expr text ?text?...`
 pub(crate) fn expr_form(alloc: Global, words: &[String]) -> Result<Form<'_>, ValueFault>
     ensures { Gives reason_of form_view result (expr_form (map string_bytes words.entry.now)) }
 {
@@ -84,7 +84,7 @@ pub(crate) fn expr_form(alloc: Global, words: &[String]) -> Result<Form<'_>, Val
     }
 }
 
-/// while(n)
+/// `while condition body`
 pub(crate) fn while_form(alloc: Global, words: &[String]) -> Result<Form<'_>, ValueFault>
     ensures { Gives reason_of form_view result (while_form (map string_bytes words.entry.now)) }
 {
@@ -94,7 +94,7 @@ pub(crate) fn while_form(alloc: Global, words: &[String]) -> Result<Form<'_>, Va
     }
 }
 
-/// for(n)
+/// `for start condition next body`
 pub(crate) fn for_form(alloc: Global, words: &[String]) -> Result<Form<'_>, ValueFault>
     ensures { Gives reason_of form_view result (for_form (map string_bytes words.entry.now)) }
 {
@@ -104,7 +104,7 @@ pub(crate) fn for_form(alloc: Global, words: &[String]) -> Result<Form<'_>, Valu
     }
 }
 
-/// proc(n)
+/// `proc name parameters body`
 pub(crate) fn proc_form(alloc: Global, words: &[String]) -> Result<Form<'_>, ValueFault>
     ensures { Gives reason_of form_view result (proc_form (map string_bytes words.entry.now)) }
 {
@@ -114,7 +114,7 @@ pub(crate) fn proc_form(alloc: Global, words: &[String]) -> Result<Form<'_>, Val
     }
 }
 
-/// return(n)
+/// `return ?value?`; its options are unsupported.
 pub(crate) fn return_form(alloc: Global, words: &[String]) -> Result<Form<'_>, ValueFault>
     ensures { Gives reason_of form_view result (return_form (map string_bytes words.entry.now)) }
 {
@@ -125,7 +125,7 @@ pub(crate) fn return_form(alloc: Global, words: &[String]) -> Result<Form<'_>, V
     }
 }
 
-/// exit(n)
+/// `exit ?code?`, whose code has no effect.
 pub(crate) fn exit_form(alloc: Global, words: &[String]) -> Result<Form<'_>, ValueFault>
     ensures { Gives reason_of form_view result (exit_form (map string_bytes words.entry.now)) }
 {
@@ -135,7 +135,7 @@ pub(crate) fn exit_form(alloc: Global, words: &[String]) -> Result<Form<'_>, Val
     }
 }
 
-/// error(n)
+/// `error message ?info? ?code?`, whose info and code have no effect.
 pub(crate) fn error_form(alloc: Global, words: &[String]) -> Result<Form<'_>, ValueFault>
     ensures { Gives reason_of form_view result (error_form (map string_bytes words.entry.now)) }
 {
@@ -145,7 +145,7 @@ pub(crate) fn error_form(alloc: Global, words: &[String]) -> Result<Form<'_>, Va
     }
 }
 
-/// catch(n)
+/// `catch script ?name?`; a third word, for options, is one too many.
 pub(crate) fn catch_form(alloc: Global, words: &[String]) -> Result<Form<'_>, ValueFault>
     ensures { Gives reason_of form_view result (catch_form (map string_bytes words.entry.now)) }
 {
@@ -156,7 +156,7 @@ pub(crate) fn catch_form(alloc: Global, words: &[String]) -> Result<Form<'_>, Va
     }
 }
 
-/// info(n), exists
+/// `info exists name`, from the name on.
 fn exists_form(alloc: Global, words: &[String]) -> Result<Form<'_>, ValueFault>
     ensures { Gives reason_of form_view result (exists_form (map string_bytes words.entry.now)) }
 {
@@ -166,7 +166,7 @@ fn exists_form(alloc: Global, words: &[String]) -> Result<Form<'_>, ValueFault>
     }
 }
 
-/// info(n)
+/// `info exists name`; other subcommands of info(n) are unsupported.
 pub(crate) fn info_form(alloc: Global, words: &[String]) -> Result<Form<'_>, ValueFault>
     ensures { Gives reason_of form_view result (info_form (map string_bytes words.entry.now)) }
 {
@@ -179,7 +179,7 @@ pub(crate) fn info_form(alloc: Global, words: &[String]) -> Result<Form<'_>, Val
     }
 }
 
-/// puts(n)
+/// `puts ?-nonewline? stderr text`; other channels are unsupported.
 pub(crate) fn puts_form(alloc: Global, words: &[String]) -> Result<Form<'_>, ValueFault>
     ensures { Gives reason_of form_view result (puts_form (map string_bytes words.entry.now)) }
 {
@@ -191,6 +191,7 @@ pub(crate) fn puts_form(alloc: Global, words: &[String]) -> Result<Form<'_>, Val
     }
 }
 
+/// The form of `puts` with an option before its channel, which has to be `-nonewline`.
 fn without_newline<'a>(
     alloc: Global,
     option: &str,
@@ -207,7 +208,7 @@ fn without_newline<'a>(
     }
 }
 
-/// What goes to another channel than standard error is left out.
+/// The form of `puts` with this channel; any but standard error is unsupported.
 fn to_stderr<'a>(alloc: Global, channel: &str, words: &'a [String]) -> Result<Form<'a>, ValueFault>
     ensures { Gives reason_of form_view result (to_stderr channel.now (map string_bytes words.entry.now)) }
 {
@@ -218,7 +219,7 @@ fn to_stderr<'a>(alloc: Global, channel: &str, words: &'a [String]) -> Result<Fo
     }
 }
 
-/// break(n), continue(n)
+/// The form of `break` or `continue`, which take no words.
 pub(crate) fn alone<'a>(
     alloc: Global,
     name: &str,
@@ -234,7 +235,7 @@ pub(crate) fn alone<'a>(
     }
 }
 
-/// What `incr` adds, by the words behind its variable.
+/// The increment of `incr`, by the words after its variable: 1 where there is none.
 ///
 /// Errors: `TclError` for more than one word, `OutOfMemory`.
 pub fn increase_of(alloc: Global, words: &[String]) -> Result<&str, ValueFault>

@@ -54,7 +54,7 @@ module _ {X : Type 0} (p : X → Bool) (d : X) where
           let n : 1 + position_or_len p xs ≡ suc (position_or_len p xs) = omega arith in
           rw (e, n) (k (omega arith))
 
-  -- what stands at the place passes
+  -- the entry at the index passes the test
   at_place : (xs : List X) (i : ℕ) → position p xs ≡ Some i → p (get_or xs i d) ≡ true
   at_place xs i h = go (nat_lt (position_or_len p xs) (length xs)) refl h
     where

@@ -1,4 +1,4 @@
--- The scripts and the expressions that are kept, as trees of the program.
+-- A cache of scripts and of expressions, and what makes it right: each text with its own tree. Own.
 use Rattle.std.specs.Prelude.{◌≡◌, string_bytes, Ok}
 use Rattle.std.specs.List.{All}
 use Rattle.tclchars.specs.Runs.{Text}
@@ -13,18 +13,19 @@ use Rattle.tclexpr.specs.Owned as expression
 use Rattle.tclexpr.specs.declared.owned.OwnedExpr.{OwnedExpr}
 use Rattle.tclkept.specs.Trees.{Trees, AreLimited, BeginsWith, seen}
 
+-- the scripts and expressions that were parsed, with the trees of the program
 pub record Kept : Type 0 where
   pub scripts : Trees OwnedScript
   pub expressions : Trees OwnedExpr
 
--- with what the trees stand for
+-- the scripts, and the expressions, with what their trees stand for in the grammar
 abbrev pub scripts_of : Kept → Trees Commands
 scripts_of k = seen script.owned_view k.scripts
 
 abbrev pub expressions_of : Kept → Trees (Expr Operand)
 expressions_of k = seen expression.owned_view k.expressions
 
--- a tree of the program that is made of this text, and stands for the text's tree
+-- the tree was parsed from this text, and stands for the tree that the grammar has for it
 pub record IsKeptScript (e : Text × OwnedScript) : Type 0 where
   pub text : string_bytes e.1.text ≡ e.0
   pub tree : script_of e.0 ≡ Ok (script.owned_view e.1)
@@ -33,12 +34,13 @@ pub record IsKeptExpression (e : Text × OwnedExpr) : Type 0 where
   pub text : string_bytes e.1.text ≡ e.0
   pub tree : expr_of e.0 ≡ Ok (expression.owned_view e.1)
 
--- distinct texts within the limits, each with its own tree
+-- the cache is right: distinct texts within the limits, each with its own tree
 pub record AreKept (k : Kept) : Type 0 where
   pub scripts_limited : AreLimited k.scripts
   pub expressions_limited : AreLimited k.expressions
   pub scripts_own : All IsKeptScript k.scripts
   pub expressions_own : All IsKeptExpression k.expressions
 
+-- the second cache has all of the first, in the same order, and perhaps more after it
 abbrev pub BeginWith : Kept → Kept → Type 0
 BeginWith old new = BeginsWith old.scripts new.scripts × BeginsWith old.expressions new.expressions

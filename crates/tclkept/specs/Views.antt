@@ -1,6 +1,6 @@
--- What is kept, as the contracts see it.
+-- What the cache of the program stands for, and the invariant of its type.
 use Rattle.tclkept.specs.Kept.{Kept, AreKept}
-use Rattle.tclkept.specs.declared.kept.Kept.TheInside.{Inside}
+use Rattle.tclkept.specs.declared.cache.Kept.TheInside.{Inside}
 
 abbrev pub kept_view : Inside → Kept
 kept_view k = record { scripts = k.scripts; expressions = k.expressions }

@@ -1,8 +1,10 @@
-//! Texts that were parsed before, each with its tree, so that what is evaluated again isn't parsed again.
+//! A cache of parsed texts: scripts and expressions with their trees, so that nothing is parsed twice.
+//! Takes memory and touches nothing else.
+//! Used by tclevaluator and tcleval.
 #![tactic(auto)]
 
-mod kept;
+mod cache;
 mod parsed;
 mod texts;
 
-pub use kept::Kept;
+pub use cache::Kept;

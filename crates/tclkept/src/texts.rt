@@ -1,4 +1,4 @@
-//! Texts in the order of their coming, each with what was made of it.
+//! Distinct texts in the order of their coming, each with its tree.
 ghost use Rattle.std.specs.Prelude.{◌≡◌, [], ◌∷◌, ◌++◌, false, length, ℕ, None, Some, IfOk, IfSome, IsNone, OnOk, OnErr};
 ghost use Rattle.std.specs.List.{Contains};
 ghost use Rattle.tclkept.specs.Trees.{AreLimited, is_full, place_of};
@@ -8,13 +8,13 @@ use std::alloc::{AllocError, Global};
 use std::marker::Model;
 use std::rc::Rc;
 
-/// How many texts are kept at most.
+/// How many texts are cached at most.
 const MAX_TEXTS: usize = 1024;
 
-/// How many bytes the texts that are kept have together at most.
+/// How many bytes the cached texts have together at most.
 const MAX_BYTES: usize = 8_388_608;
 
-/// Distinct texts in the order of their coming, each with what was made of it.
+/// Distinct texts in the order of their coming, each with its tree, within the limits.
 #[derive(Drop)]
 pub(crate) struct Texts<T: Drop> {
     made: IndexMap<String, Rc<T>>,
@@ -52,14 +52,14 @@ impl<T: Drop> Texts<T> {
         self.made.len()
     }
 
-    /// The place of a text, from 0.
+    /// The index of a text, from 0.
     pub(crate) fn place(&self, text: &str) -> Option<usize>
         ensures { result ≡ place_of self.now text.now }
     {
         self.made.get_index_of(text)
     }
 
-    /// What was made of a text.
+    /// The tree of a text.
     pub(crate) fn made_of(&self, text: &str) -> Option<&Rc<T>>
         ensures found { IfSome result (λ made. Contains self.now (text.now, made.now.value)) }
         ensures there { IfSome result (λ _. (place : ℕ) × (place_of self.now text.now ≡ Some place)) }
@@ -71,14 +71,14 @@ impl<T: Drop> Texts<T> {
         }
     }
 
-    /// Whether one text more would pass a limit.
+    /// Whether this text would exceed a limit.
     pub(crate) fn is_full(&self, text: &str) -> bool
         ensures { result ≡ is_full self.now text.now }
     {
         self.made.len() >= MAX_TEXTS || text.len() > MAX_BYTES - self.bytes
     }
 
-    /// Adds a text that isn't there, last. Where memory runs out, nothing changes.
+    /// Adds a text that isn't there, at the end. Where memory runs out, nothing changes.
     pub(crate) fn add(&mut self, text: &str, made: Rc<T>) -> Result<(), AllocError>
         requires new { place_of self.old text.now ≡ None }
         requires room { is_full self.old text.now ≡ false }

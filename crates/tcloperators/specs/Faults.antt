@@ -1,4 +1,4 @@
--- Why there is no value, and what a call answers. Nothing is said of memory here.
+-- Why there is no value, and what a call of this crate answers. Running out of memory is no reason: any call may do so.
 use Rattle.std.specs.Prelude.{◌≡◌, ℕ, string_bytes, String, Option, Some, None, IfSome, Result, Ok, Err}
 use Rattle.std.specs.declared.alloc.Global.{Global}
 use Rattle.tclchars.specs.Answers.{Gives}
@@ -16,15 +16,17 @@ pub data Reason : Type 0 where
   fraction : Reason
   left_out : (name : Text) → Reason
 
+-- a value, or the reason why there is none
 abbrev pub Answer : Type 0 → Type 0
 Answer A = Result A Reason
 
+-- goes on with a value; the first reason ends it
 infixl 10 ◌>>=◌
 abbrev pub ◌>>=◌ : {A B : Type 0} → Answer A → (A → Answer B) → Answer B
 (Ok x) >>= f = f x
 (Err e) >>= f = Err e
 
--- the reason that a fault names; want of memory is none
+-- the reason that a fault of the program stands for; running out of memory is none
 abbrev pub reason_of : ValueFault → Option Reason
 reason_of faults.OutOfMemory = None
 reason_of (faults.Text fault) = Some (text fault)
@@ -34,7 +36,7 @@ reason_of faults.NumberTooLarge = Some number_too_large
 reason_of faults.FractionOperand = Some fraction
 reason_of (faults.LeftOut name) = Some (left_out (string_bytes name))
 
--- the number of a fault
+-- the number of a fault in the table of refusals
 abbrev pub number_of : ValueFault → ℕ
 number_of faults.OutOfMemory = 11
 number_of (faults.Text fault) = 12
@@ -48,6 +50,6 @@ number_of (faults.LeftOut name) = 19
 abbrev pub HasReason : Reason → ValueFault → Type 0
 HasReason reason e = IfSome (reason_of e) (λ r. r ≡ reason)
 
--- the same for a text
+-- a call gave the text of this answer, or its reason, unless memory ran out
 abbrev pub GivesText : Result (String Global) ValueFault → Answer Text → Type 0
 GivesText result answer = Gives reason_of string_bytes result answer

@@ -1,19 +1,20 @@
--- Arithmetic of expr(n) over unbounded whole numbers, cut to 64 bits at the end.
+-- Arithmetic of expr(n), OPERATORS, over whole numbers without bound; a result outside 64 bits is a reason.
 use Rattle.std.specs.Prelude.{◌≡◌, ℕ, zero, suc, ◌/◌, ◌^◌, ◌<◌, Bool, true, false, not, ◌&&◌, ◌||◌, nat_lt, if◌then◌else◌, Ok, Err}
 use Rattle.std.specs.Prelude.{ℤ, pos, negsuc, neg_ℤ, ◌-ℤ◌, ◌*ℤ◌, ◌+ℤ◌, ◌≤ℤ◌, ◌<ℤ◌}
 use Rattle.std.specs.Int.{w64, div_ceil, int_bit_and, int_bit_or, int_bit_xor}
 use Rattle.tcloperators.specs.Faults.{Answer, error, number_too_large}
 use Rattle.tcloperators.specs.Messages.{divide_by_zero, negative_shift}
 
--- within 64 bits with a sign
+-- a number of 64 bits with a sign
 abbrev pub fits : ℤ → Bool
 fits (pos n) = nat_lt n (2 ^ 63)
 fits (negsuc n) = nat_lt n (2 ^ 63)
 
--- a number is refused outside 64 bits
+-- the number, or the reason that it lies outside 64 bits
 abbrev pub within_64_bits : ℤ → Answer ℤ
 within_64_bits z = if fits z then Ok z else Err number_too_large
 
+-- the number with this sign (true: negative) and absolute value
 abbrev pub signed : Bool → ℕ → ℤ
 signed false n = pos n
 signed true n = neg_ℤ (pos n)
@@ -25,7 +26,7 @@ quotient (pos a) (negsuc b) = signed true (div_ceil a (suc b))
 quotient (negsuc a) (pos b) = signed true (div_ceil (suc a) b)
 quotient (negsuc a) (negsuc b) = signed false (suc a / suc b)
 
--- what the quotient leaves; its sign is that of b
+-- the rest of the quotient; its sign is that of b
 abbrev pub remainder : ℤ → ℤ → ℤ
 remainder a b = a -ℤ quotient a b *ℤ b
 
@@ -39,10 +40,11 @@ is_zero (pos zero) = true
 is_zero (pos (suc n)) = false
 is_zero (negsuc n) = false
 
--- no number is divided by 0
+-- the value of an operator with this divisor; 0 is an error
 abbrev pub unless_zero : ℤ → ℤ → Answer ℤ
 unless_zero b z = if is_zero b then Err (error divide_by_zero) else within_64_bits z
 
+-- the values of + - * / %
 abbrev pub sum : ℤ → ℤ → Answer ℤ
 sum a b = within_64_bits (a +ℤ b)
 
@@ -58,7 +60,7 @@ divided a b = unless_zero b (quotient a b)
 abbrev pub remaining : ℤ → ℤ → Answer ℤ
 remaining a b = unless_zero b (remainder a b)
 
--- a shift to the left multiplies by a power of two; one to the right divides by it, rounded down
+-- the values of << and >>: times a power of two, and divided by it, rounded down
 abbrev pub shifted_left : ℤ → ℤ → Answer ℤ
 shifted_left a (pos k) = within_64_bits (a *ℤ pos (2 ^ k))
 shifted_left a (negsuc k) = Err (error negative_shift)
@@ -67,7 +69,7 @@ abbrev pub shifted_right : ℤ → ℤ → Answer ℤ
 shifted_right a (pos k) = within_64_bits (quotient a (pos (2 ^ k)))
 shifted_right a (negsuc k) = Err (error negative_shift)
 
--- the operators of bits, on two's complement of 64 bits; what each makes of one bit is said below
+-- the values of & ^ | ~ on two's complement of 64 bits; the law bits has what each makes of one bit
 abbrev pub bits_of_both : ℤ → ℤ → ℤ
 bits_of_both a b = int_bit_and w64 a b
 
@@ -84,6 +86,7 @@ other_bits a = neg_ℤ a -ℤ pos 1
 abbrev pub has_bit : ℤ → ℕ → Bool
 has_bit a k = not (is_zero (remainder (quotient a (pos (2 ^ k))) (pos 2)))
 
+-- one of the two, and not both
 abbrev pub just_one : Bool → Bool → Bool
 just_one x y = x && not y || not x && y
 

@@ -1,4 +1,5 @@
--- The operators of expr(n) on texts. The operands are judged from the left, before a zero divisor or a negative shift.
+-- The operators of expr(n) on the texts of their operands. The operands are judged from the left, before a zero divisor
+-- or a negative shift.
 use Rattle.std.specs.Prelude.{Bool, true, false, not, ◌||◌, ◌&&◌, if◌then◌else◌, ℤ, neg_ℤ, Option, Some, None, Ok, Err, [], ◌∷◌, codes, length, take, bytes_eq}
 use Rattle.std.specs.List.{list_any}
 use Rattle.std.specs.Str.{chars, str_eq_ignore_ascii_case}
@@ -21,7 +22,7 @@ use Rattle.tcloperators.specs.Messages.{not_numeric, no_boolean}
 use Rattle.tcloperators.specs.Numbers.{within_64_bits, is_zero, sum, difference, product, divided, remaining, shifted_left, shifted_right}
 use Rattle.tcloperators.specs.Numbers.{bits_of_both, bits_of_one, bits_of_either, other_bits}
 
--- the number of an operand that has to be whole
+-- the number of an operand that has to be whole; the symbol is that of the operator, for the message
 abbrev pub whole_of : Text → Numeral → Answer ℤ
 whole_of symbol (numerals.Whole z) = Ok z
 whole_of symbol numerals.TooLarge = Err number_too_large
@@ -41,12 +42,14 @@ number_of numerals.Text = Ok None
 abbrev pub number_operand : Text → Answer (Option ℤ)
 number_operand t = number_of (numeral t)
 
+-- the empty text
 abbrev pub is_nil : Text → Bool
 is_nil [] = true
 is_nil (c ∷ cs) = false
 
--- truth: a whole number is true unless it is 0; of words, in any case of their letters, the fronts of true and yes, and
--- on, are true, the fronts of false and no, and of and off, are false
+-- truth: a whole number is true unless it is 0. Of words, in any case of their letters, true and yes, or their first
+-- letters, and on are true; false and no, or their first letters, and of and off are false. First: a text is the first
+-- letters of a word, one at least
 abbrev pub is_front : Text → Text → Bool
 is_front word t = not (is_nil t) && str_eq_ignore_ascii_case (take (length t) word) t
 
@@ -74,6 +77,7 @@ truth t = truth_of t (numeral t)
 abbrev pub truth_text : Bool → Text
 truth_text b = if b then codes "1" else codes "0"
 
+-- a number in decimal
 abbrev pub decimal_text : ℤ → Answer Text
 decimal_text z = Ok (signed_decimal z)
 
@@ -84,14 +88,14 @@ unary_value Plus t = whole_operand (unary_symbol Plus) t >>= decimal_text
 unary_value Complement t = whole_operand (unary_symbol Complement) t >>= (λ z. decimal_text (other_bits z))
 unary_value Not t = truth t >>= (λ b. Ok (truth_text (not b)))
 
--- two operands that have to be whole numbers, and what is computed of them
+-- two operands that have to be whole numbers, and the value that an operator computes of them
 abbrev pub whole_operands : Text → Text → Text → Answer (ℤ × ℤ)
 whole_operands symbol a b = whole_operand symbol a >>= (λ x. whole_operand symbol b >>= (λ y. Ok (x, y)))
 
 abbrev pub computed : BinaryOperator → (ℤ → ℤ → Answer ℤ) → Text → Text → Answer Text
 computed op compute a b = whole_operands (binary_symbol op) a b >>= (λ o. compute o.0 o.1) >>= decimal_text
 
--- texts in the order of their characters, and numbers where both are
+-- the order of operands: as numbers where both are, else as texts by the code points of their characters
 abbrev pub text_order : Text → Text → Ordering
 text_order a b = slice_cmp nat_cmp (chars a) (chars b)
 
@@ -103,6 +107,7 @@ order_among a b None y = text_order a b
 abbrev pub order_of : Text → Text → Answer Ordering
 order_of a b = number_operand a >>= (λ x. number_operand b >>= (λ y. Ok (order_among a b x y)))
 
+-- whether the order of two operands passes a test, as a text
 abbrev pub compared : (Ordering → Bool) → Text → Text → Answer Text
 compared holds a b = order_of a b >>= (λ o. Ok (truth_text (holds o)))
 

@@ -1,4 +1,4 @@
--- What an operator between its operands makes, as a text.
+-- The value of an operator between its operands, as the text that Tcl has for it.
 use Rattle.std.specs.Fmt.{signed_decimal}
 use Rattle.tclchars.specs.Runs.{Text}
 use Rattle.tcloperators.specs.Operators.{truth_text}

@@ -1,4 +1,4 @@
--- How the contracts of `src/` see its types.
+-- What the types of `src/` stand for in this crate's contracts.
 use Rattle.std.specs.Prelude.{ℤ}
 use Rattle.tcloperators.specs.declared.operands.Operands.{Operands}
 

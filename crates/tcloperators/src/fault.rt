@@ -1,4 +1,4 @@
-//! Why there is no value.
+//! The fault that stands where a command or an operator of values has no value.
 ghost use Rattle.std.specs.Prelude.{◌≡◌};
 ghost use Rattle.tcloperators.specs.declared.fault.ValueFault.TheVariants as faults;
 ghost use Rattle.tcloperators.specs.Faults.{number_of};
@@ -7,16 +7,17 @@ use std::alloc::{AllocError, AllocFailed};
 use tclchars::TextFault;
 use thiserror::Error;
 
-/// Why there is no value. Its `Display` is what follows `ERROR: `, but for the line that an error of Tcl has there.
+/// Why there is no value. Its `Display` is what an error line has after `ERROR: `, but for the line number that an
+/// error of Tcl has there.
 #[derive(Debug, Drop, Error)]
 pub enum ValueFault {
     /// Memory ran out (11).
     #[error("Out of memory")]
     OutOfMemory,
-    /// A text can't be read as a list, since it is too long (12).
+    /// A text is longer than the parser of lists takes (12).
     #[error(transparent)]
     Text(TextFault),
-    /// An error that catch(n) sees, with its message (13).
+    /// An error of Tcl, which catch(n) catches, with its message (13).
     #[error("{0}")]
     TclError(String),
     /// A value has more bytes than the limit (16).
@@ -28,13 +29,13 @@ pub enum ValueFault {
     /// A number is spelled with a fraction or an exponent (18).
     #[error("A number with a fraction is not computed")]
     FractionOperand,
-    /// This command or option isn't computed (19).
+    /// This command or option is unsupported (19).
     #[error("'{0}' is left out")]
     LeftOut(String),
 }
 
 impl ValueFault {
-    /// The number of the fault.
+    /// The number of the fault, as the table of refusals has it.
     pub fn number(&self) -> u16
         ensures { result ≡ number_of self.now }
     {

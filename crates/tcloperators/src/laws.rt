@@ -1,4 +1,4 @@
-//! What holds of the definitions that the contracts cite.
+//! Theorems of integer arithmetic: quotient and remainder, and the operators of bits (expr(n), OPERATORS).
 ghost use Rattle.std.specs.Prelude.{◌≡◌, ◌&&◌, ◌||◌, ℕ, ℤ, ◌+ℤ◌, ◌*ℤ◌, false, not};
 ghost use Rattle.tcloperators.specs.Numbers.{quotient, remainder, IsRemainder, is_zero};
 ghost use Rattle.tcloperators.specs.Numbers.{bits_of_both, bits_of_either, bits_of_one, other_bits};

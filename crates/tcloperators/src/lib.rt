@@ -1,4 +1,6 @@
-//! The operators of expressions on values (expr(n)), truth values, and why there is no value.
+//! The operators of expressions (expr(n)) on values, truth values, and the fault of a value.
+//! Takes memory and touches nothing else.
+//! Used by tclvalue, which hands it on, and by the crates that evaluate: tclforms, tclsubstitution, tclcommands.
 #![tactic(auto)]
 
 mod fault;

@@ -1,4 +1,4 @@
-//! The elements of lists (list(n)).
+//! The elements of a list, and whether a text is among them (list(n)).
 ghost use Rattle.std.specs.Prelude.{◌≡◌, map, bytes_eq, string_bytes};
 ghost use Rattle.std.specs.List.{list_any};
 ghost use Rattle.tclchars.specs.Answers.{Gives};
@@ -11,9 +11,9 @@ use std::alloc::Global;
 use tclchars::TextFault;
 use tcllist::parse_list;
 
-/// The elements of a list.
+/// The elements of the list that a text is.
 ///
-/// Errors: `Text` where it is too long to be read, `TclError` where it is no list, `OutOfMemory`.
+/// Errors: `Text` where the text is too long for the parser of lists, `TclError` where it is no list, `OutOfMemory`.
 pub fn elements(alloc: Global, list: &str) -> Result<Vec<String>, ValueFault>
     ensures { Gives reason_of texts_in result (elements_of list.now) }
 {
@@ -25,7 +25,7 @@ pub fn elements(alloc: Global, list: &str) -> Result<Vec<String>, ValueFault>
     }
 }
 
-/// Whether a text is one of others.
+/// Whether a text is equal to one of these, byte by byte.
 pub fn is_among(texts: &[String], sought: &str) -> bool
     ensures { result ≡ list_any (bytes_eq sought.now) (map string_bytes texts.now) }
 {

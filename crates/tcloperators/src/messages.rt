@@ -1,4 +1,4 @@
-//! Errors that catch(n) sees.
+//! The errors of values that catch(n) catches, each with its message.
 ghost use Rattle.std.specs.Prelude.{◌≡◌, ◌++◌, Some, MatchResult, codes, string_bytes};
 ghost use Rattle.tcloperators.specs.Faults.{HasReason, reason_of, error, left_out};
 ghost use Rattle.tcloperators.specs.Messages.{not_numeric, no_boolean, no_whole_number, bad_index, wrong_words};
@@ -8,7 +8,7 @@ ghost use Rattle.tcloperators.specs.declared.fault.ValueFault.TheVariants.{OutOf
 use crate::fault::ValueFault;
 use std::alloc::{AllocError, Global};
 
-/// The error with this message, or want of the memory for it.
+/// The error of Tcl with this message, or `OutOfMemory` where its text could not be made.
 pub fn tcl_error(message: Result<String, AllocError>) -> ValueFault
     ensures { MatchResult message (λ m. reason_of result ≡ Some (error (string_bytes m))) (λ _. result ≡ OutOfMemory) }
 {
@@ -18,7 +18,7 @@ pub fn tcl_error(message: Result<String, AllocError>) -> ValueFault
     }
 }
 
-/// A text stands where an operator wants a number.
+/// The operand of the operator with this symbol is no number.
 #[tactic(auto, unfolding(crate::specs::Messages::not_numeric))]
 pub fn not_numeric(alloc: Global, symbol: &str) -> ValueFault
     ensures { HasReason (error (not_numeric symbol.now)) result }
@@ -34,7 +34,7 @@ pub fn no_boolean(alloc: Global, word: &str) -> ValueFault
     tcl_error(format!(in alloc; "expected boolean value but got \"{word}\""))
 }
 
-/// A number is divided by 0.
+/// The right operand of `/` or `%` is 0.
 #[tactic(auto, unfolding(crate::specs::Messages::divide_by_zero))]
 pub fn divide_by_zero(alloc: Global) -> ValueFault
     ensures { HasReason (error divide_by_zero) result }
@@ -42,7 +42,7 @@ pub fn divide_by_zero(alloc: Global) -> ValueFault
     tcl_error(String::from_str(alloc, "divide by zero"))
 }
 
-/// A number is shifted by a negative count.
+/// The right operand of `<<` or `>>` is negative.
 #[tactic(auto, unfolding(crate::specs::Messages::negative_shift))]
 pub fn negative_shift(alloc: Global) -> ValueFault
     ensures { HasReason (error negative_shift) result }
@@ -50,7 +50,7 @@ pub fn negative_shift(alloc: Global) -> ValueFault
     tcl_error(String::from_str(alloc, "negative shift argument"))
 }
 
-/// A word is no index.
+/// A word is no index of a list or text.
 #[tactic(auto, unfolding(crate::specs::Messages::bad_index))]
 pub fn bad_index(alloc: Global, word: &str) -> ValueFault
     ensures { HasReason (error (bad_index word.now)) result }
@@ -66,7 +66,7 @@ pub fn no_whole_number(alloc: Global, word: &str) -> ValueFault
     tcl_error(format!(in alloc; "expected whole number but got \"{word}\""))
 }
 
-/// A command has too few or too many words.
+/// The command of this name has too few or too many words.
 #[tactic(auto, unfolding(crate::specs::Messages::wrong_words))]
 pub fn wrong_words(alloc: Global, name: &str) -> ValueFault
     ensures { HasReason (error (wrong_words name.now)) result }
@@ -74,7 +74,7 @@ pub fn wrong_words(alloc: Global, name: &str) -> ValueFault
     tcl_error(format!(in alloc; "wrong # args for \"{name}\""))
 }
 
-/// A text is no list, or a list of the wrong length.
+/// A text is no list, or a list with an odd number of elements where pairs are expected.
 #[tactic(auto, unfolding(crate::specs::Messages::not_a_list))]
 pub fn not_a_list(alloc: Global) -> ValueFault
     ensures { HasReason (error not_a_list) result }
@@ -82,7 +82,7 @@ pub fn not_a_list(alloc: Global) -> ValueFault
     tcl_error(String::from_str(alloc, "not a list"))
 }
 
-/// A subcommand or an option of `string` isn't computed.
+/// The fault of a subcommand or an option of string(n) that is unsupported.
 pub fn left_out(alloc: Global, word: &str) -> ValueFault
     ensures { HasReason (left_out (codes "string " ++ word.now)) result }
 {

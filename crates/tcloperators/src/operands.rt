@@ -1,4 +1,4 @@
-//! Arithmetic of two whole numbers (expr(n), OPERATORS).
+//! Arithmetic of two whole numbers of 64 bits (expr(n), OPERATORS).
 ghost use Rattle.std.specs.Prelude.{◌≡◌, ◌^◌, ◌*ℤ◌, pos, IfErr};
 ghost use Rattle.tclchars.specs.Answers.{Gives};
 ghost use Rattle.tcloperators.specs.Faults.{reason_of};
@@ -9,7 +9,7 @@ use crate::fault::ValueFault;
 use crate::messages::{divide_by_zero, negative_shift};
 use std::alloc::Global;
 
-/// Two whole numbers that an operator computes with.
+/// The two whole numbers that an operator computes with.
 #[derive(Clone, Copy)]
 pub(crate) struct Operands {
     pub(crate) left: i64,
@@ -17,6 +17,7 @@ pub(crate) struct Operands {
 }
 
 impl Operands {
+    /// `left + right`, or `NumberTooLarge` outside 64 bits.
     pub(crate) fn sum(self) -> Result<i64, ValueFault>
         ensures number { Gives reason_of (λ z. z) result (numbers.sum self.left self.right) }
         ensures fault { IfErr result (λ e. e ≡ NumberTooLarge) }
@@ -26,6 +27,7 @@ impl Operands {
             .ok_or(ValueFault::NumberTooLarge)
     }
 
+    /// `left - right`, or `NumberTooLarge` outside 64 bits.
     pub(crate) fn difference(self) -> Result<i64, ValueFault>
         ensures { Gives reason_of (λ z. z) result (numbers.difference self.left self.right) }
     {
@@ -34,6 +36,7 @@ impl Operands {
             .ok_or(ValueFault::NumberTooLarge)
     }
 
+    /// `left * right`, or `NumberTooLarge` outside 64 bits.
     pub(crate) fn product(self) -> Result<i64, ValueFault>
         ensures { Gives reason_of (λ z. z) result (numbers.product self.left self.right) }
     {
@@ -42,7 +45,7 @@ impl Operands {
             .ok_or(ValueFault::NumberTooLarge)
     }
 
-    /// The quotient, rounded down.
+    /// `left / right`, rounded down; the error for a divisor 0 is one of Tcl.
     pub(crate) fn quotient(self, alloc: Global) -> Result<i64, ValueFault>
         ensures { Gives reason_of (λ z. z) result (numbers.divided self.left self.right) }
     {
@@ -58,7 +61,7 @@ impl Operands {
         }
     }
 
-    /// What the quotient leaves, with the divisor's sign.
+    /// `left % right`, with the sign of the divisor; the error for a divisor 0 is one of Tcl.
     pub(crate) fn remainder(self, alloc: Global) -> Result<i64, ValueFault>
         ensures { Gives reason_of (λ z. z) result (numbers.remaining self.left self.right) }
     {
@@ -76,7 +79,7 @@ impl Operands {
         }
     }
 
-    /// The left number times a power of two.
+    /// `left << right`: the left number times that power of two.
     pub(crate) fn shifted_left(self, alloc: Global) -> Result<i64, ValueFault>
         ensures { Gives reason_of (λ z. z) result (numbers.shifted_left self.left self.right) }
     {
@@ -86,7 +89,7 @@ impl Operands {
         }
     }
 
-    /// The left number divided by a power of two, rounded down.
+    /// `left >> right`: the left number divided by that power of two, rounded down.
     pub(crate) fn shifted_right(self, alloc: Global) -> Result<i64, ValueFault>
         ensures { Gives reason_of (λ z. z) result (numbers.shifted_right self.left self.right) }
     {
@@ -96,21 +99,21 @@ impl Operands {
         }
     }
 
-    /// The bits that both have.
+    /// `left & right`.
     pub(crate) fn bits_of_both(self) -> i64
         ensures { result ≡ numbers.bits_of_both self.left self.right }
     {
         self.left & self.right
     }
 
-    /// The bits that one of them has.
+    /// `left ^ right`.
     pub(crate) fn bits_of_one(self) -> i64
         ensures { result ≡ numbers.bits_of_one self.left self.right }
     {
         self.left ^ self.right
     }
 
-    /// The bits that one of them has, or both.
+    /// `left | right`.
     pub(crate) fn bits_of_either(self) -> i64
         ensures { result ≡ numbers.bits_of_either self.left self.right }
     {
@@ -128,7 +131,7 @@ pub fn sum(left: i64, right: i64) -> Result<i64, ValueFault>
     Operands { left, right }.sum()
 }
 
-/// A number doubled so often.
+/// A number doubled so many times, or `NumberTooLarge` outside 64 bits.
 fn doubled(number: i64, times: u64) -> Result<i64, ValueFault>
     ensures { Gives reason_of (λ z. z) result (numbers.within_64_bits (number *ℤ pos (2 ^ times))) }
 {
@@ -146,14 +149,14 @@ fn doubled(number: i64, times: u64) -> Result<i64, ValueFault>
     Err(ValueFault::NumberTooLarge)
 }
 
-/// A number halved so often, rounded down.
+/// A number halved so many times, rounded down each time.
 fn halved(number: i64, times: u64) -> i64
     ensures { result ≡ numbers.quotient number (pos (2 ^ times)) }
 {
     number >> times.min(63)
 }
 
-/// A whole number with this sign and size.
+/// The whole number with this sign and absolute value, or `NumberTooLarge` outside 64 bits.
 fn signed(is_negative: bool, size: u64) -> Result<i64, ValueFault>
     ensures { Gives reason_of (λ z. z) result (numbers.within_64_bits (numbers.signed is_negative size)) }
 {

@@ -1,4 +1,4 @@
-//! The operators of expressions on values (expr(n), OPERATORS).
+//! The operators of expressions on the texts of their operands (expr(n), OPERATORS).
 ghost use Rattle.std.specs.Prelude.{◌≡◌, neg_ℤ, Ok};
 ghost use Rattle.tclexpr.specs.Symbols.{binary_symbol};
 ghost use Rattle.tclchars.specs.Answers.{Gives};
@@ -18,7 +18,7 @@ use std::alloc::Global;
 use std::cmp::Ordering;
 use tcltext::{BinaryOperator, Numeral, UnaryOperator, read_number};
 
-/// What an operator between its operands makes.
+/// The value of an operator between two operands, before its text is made.
 #[derive(Clone, Copy, Debug, PartialEq, Eq)]
 pub enum Computed {
     /// Whether a comparison holds.
@@ -41,7 +41,7 @@ impl Computed {
     }
 }
 
-/// The value of an operator before its operand: `-`, `+` and `~` want a whole number, `!` a truth value.
+/// The value of an operator before its operand: `-`, `+` and `~` take a whole number, `!` a truth value.
 ///
 /// Errors: `NumberTooLarge` for an operand or a result outside 64 bits, `FractionOperand`, `TclError` for another text,
 /// `OutOfMemory`.
@@ -64,11 +64,11 @@ pub fn unary(alloc: Global, op: UnaryOperator, operand: &str) -> Result<String, 
 
 /// The value of an operator between its operands. `eq` and `ne` compare texts, `in` and `ni` look for a text in a list.
 /// `==`, `!=` and the four orders compare as numbers where both sides are whole numbers, else as texts by their
-/// characters. All others want two whole numbers: a quotient is rounded down, a remainder has the divisor's sign, and
+/// characters. All others take two whole numbers: a quotient is rounded down, a remainder has the divisor's sign, and
 /// the operators of bits take two's complement of 64 bits.
 ///
 /// The operands are judged from the left: `NumberTooLarge` and `FractionOperand` for a number outside 64 bits and one
-/// with a fraction, `TclError` for a text where a number is wanted, and for a right side of `in` and `ni` that is no
+/// with a fraction, `TclError` for a text where a number is needed, and for a right side of `in` and `ni` that is no
 /// list (`Text` where it is too long). Then `TclError` is the error for a divisor 0 and a negative shift, and
 /// `NumberTooLarge` for a result outside 64 bits. `OutOfMemory` comes where memory runs out.
 pub fn binary(
@@ -82,7 +82,7 @@ pub fn binary(
     compute(alloc, op, left, right)?.into_text(alloc)
 }
 
-/// What an operator between two operands makes of them, of which no text is made yet; its faults are those of `binary`.
+/// The value of an operator between its operands, before its text is made. Its faults are those of `binary`.
 pub fn compute(
     alloc: Global,
     op: BinaryOperator,
@@ -123,7 +123,7 @@ fn is_in(alloc: Global, sought: &str, list: &str) -> Result<bool, ValueFault>
     Ok(is_among(&elements(alloc, list)?, sought))
 }
 
-/// The whole number that an operand spells, for an operator with this symbol.
+/// The whole number that an operand spells; any other text is the error of the operator with this symbol.
 fn whole_operand(alloc: Global, symbol: &str, text: &str) -> Result<i64, ValueFault>
     ensures { Gives reason_of (λ z. z) result (whole_operand symbol.now text.now) }
 {
@@ -135,6 +135,7 @@ fn whole_operand(alloc: Global, symbol: &str, text: &str) -> Result<i64, ValueFa
     }
 }
 
+/// The whole numbers that both operands of an operator spell, judged from the left.
 fn whole_operands(
     alloc: Global,
     op: BinaryOperator,
@@ -148,19 +149,21 @@ fn whole_operands(
     Ok(Operands { left, right })
 }
 
+/// The number with the other sign, or `NumberTooLarge` for the least number.
 fn negated(number: i64) -> Result<i64, ValueFault>
     ensures { Gives reason_of (λ z. z) result (within_64_bits (neg_ℤ number)) }
 {
     number.checked_neg().ok_or(ValueFault::NumberTooLarge)
 }
 
+/// `~number`.
 fn other_bits(number: i64) -> i64
     ensures { result ≡ other_bits number }
 {
     !number
 }
 
-/// The whole number that an operand spells, if it spells one.
+/// The whole number that an operand spells; None for a text that spells no number.
 fn number_operand(text: &str) -> Result<Option<i64>, ValueFault>
     ensures { Gives reason_of (λ n. n) result (number_operand text.now) }
 {
@@ -184,20 +187,21 @@ fn order(left: &str, right: &str) -> Result<Ordering, ValueFault>
     }
 }
 
-/// The order of two texts by their characters.
+/// The order of two texts, character by character in the order of code points.
 pub fn text_order(left: &str, right: &str) -> Ordering
     ensures { result ≡ text_order left.now right.now }
 {
     left.chars().cmp(right.chars())
 }
 
+/// A number in decimal.
 fn decimal_text(alloc: Global, number: i64) -> Result<String, ValueFault>
     ensures { GivesText result (decimal_text number) }
 {
     Ok(number.to_string(alloc)?)
 }
 
-/// A truth value as a text: 1 or 0.
+/// The text of a truth value: 1 or 0.
 pub fn truth_text(alloc: Global, truth: bool) -> Result<String, ValueFault>
     ensures { GivesText result (Ok (truth_text truth)) }
 {

@@ -1,4 +1,4 @@
-//! Truth values (expr(n), OPERANDS).
+//! Truth values: what a condition takes for true and false (expr(n), OPERANDS).
 ghost use Rattle.std.specs.Prelude.{◌≡◌};
 ghost use Rattle.tclchars.specs.Answers.{Gives};
 ghost use Rattle.tcloperators.specs.Faults.{reason_of};
@@ -9,8 +9,8 @@ use crate::messages::no_boolean;
 use std::alloc::Global;
 use tcltext::{Numeral, read_number};
 
-/// Whether a value is true: a whole number is unless it is 0. In any case of their letters the fronts of `true` and
-/// `yes`, and `on`, are true, and the fronts of `false` and `no`, and `of` and `off`, are false.
+/// Whether a value is true. A whole number is unless it is 0. Of words, in any case of their letters, `true` and `yes`,
+/// or their first letters, and `on` are true; `false` and `no`, or their first letters, and `of` and `off` are false.
 ///
 /// Errors: `NumberTooLarge` and `FractionOperand` for other numbers, `TclError` for any other text, `OutOfMemory` where
 /// memory for its message runs out.
@@ -25,6 +25,7 @@ pub fn truth(alloc: Global, text: &str) -> Result<bool, ValueFault>
     }
 }
 
+/// The truth value that a word names.
 fn word_truth(alloc: Global, word: &str) -> Result<bool, ValueFault>
     ensures { Gives reason_of (λ b. b) result (word_truth word.now) }
 {
@@ -37,12 +38,14 @@ fn word_truth(alloc: Global, word: &str) -> Result<bool, ValueFault>
     }
 }
 
+/// Whether a word names the truth value true.
 fn is_true_word(text: &str) -> bool
     ensures { result ≡ is_true_word text.now }
 {
     is_front("true", text) || is_front("yes", text) || text.eq_ignore_ascii_case("on")
 }
 
+/// Whether a word names the truth value false.
 fn is_false_word(text: &str) -> bool
     ensures { result ≡ is_false_word text.now }
 {
@@ -52,7 +55,7 @@ fn is_false_word(text: &str) -> bool
         || text.eq_ignore_ascii_case("off")
 }
 
-/// Whether a word begins with the text, which isn't empty, in any case of its letters.
+/// Whether the text is some first letters of a word, one at least, in any case.
 fn is_front(word: &str, text: &str) -> bool
     ensures { result ≡ is_front word.now text.now }
 {

@@ -1,4 +1,4 @@
--- The worked rows, by computation.
+-- The worked examples, by computation.
 use Rattle.std.proofs.Common.{◌≡◌, ℕ, true, ◌∷◌, Option, Some, None, refl}
 use Rattle.std.specs.Prelude.{[], codes}
 use Rattle.std.specs.Str.{chars}

@@ -1,4 +1,4 @@
--- What is asked and told on the way, for every table of rules.
+-- The consultations of a derivation and what they add to the trace, for every table of rules.
 use Rattle.std.proofs.Common.{◌≡◌, ℕ, Bool, true, false, ◌||◌, List, ◌⊎◌, ⊎_elim, inl, inr, refl, ap}
 use Rattle.tclchars.specs.Runs.{Text}
 use Rattle.tclrules.specs.Oracle.{CommandWords, OracleAnswer, Done, Unknown, LeftOut, Refused, Oracle, records_with, addition, is_question, is_refusal}
@@ -103,7 +103,7 @@ grown (runs d c) = then (grown d) (grown c)
 grown (halts d) = grown d
 grown (starves a g) = none
 
--- and what each answer keeps is kept
+-- what each answer preserves holds of the last records
 pub kept : {oracle : Oracle} {rs qs : List CommandWords} (holds : List CommandWords → Bool) → Grows oracle rs qs → holds rs ≡ true → ((rs : List CommandWords) (words : List Text) → holds rs ≡ true → holds (records_with rs (addition (oracle.command rs words))) ≡ true) → holds qs ≡ true
 kept holds none h keeps = h
 kept holds (more {rs = rs} words g) h keeps = kept holds g (keeps rs words h) keeps

@@ -1,4 +1,5 @@
--- How a derivation is built by a program, from the front: each lemma leads from one plan to what comes after it, for every table of rules.
+-- How a program builds a derivation from its first step on: each lemma is one step between plans, for every table of
+-- rules.
 use Rattle.std.proofs.Common.{◌≡◌, ℕ, ◌+◌, ◌<◌, ◌≤◌, Bool, true, false, List, Option, refl, ◌∙◌}
 use Rattle.tclchars.specs.Runs.{Text}
 use Rattle.tclrules.specs.Oracle.{Oracle, Told, OracleAnswer, tell}

@@ -56,7 +56,7 @@ same_below (runs d c) n other h = runs (same_below d (λ e. cc) other (omega (ar
 same_below (halts d) n other h = halts (same_below d n other h)
 same_below (starves a g) n other h = starves a g
 
--- a smaller limit is met on the way
+-- a smaller limit is met before
 pub met_above : {J R : Type 0} {starving : Bool} {oracle : Oracle} {most : ℕ} {rule : J → Plan J R} {p : Plan J R} {w : World} {o : Outcome R} {w' : World} → Eval starving oracle most rule p w o w' → (other : ℕ) → w.used ≤ other → other < w'.used → (w2 : World) × Eval starving oracle other rule p w (Halted TooManyCommands) w2
 met_above ends other h g = absurd (omega arith)
 met_above {w = w} (counts m d) other h g =

@@ -49,7 +49,7 @@ rise : {J R : Type 0} (oracle : Oracle) (most : ℕ) (rule : J → Plan J R) (d 
 rise oracle most rule zero n p w o w' e = e
 rise oracle most rule (suc d) n p w o w' e = more oracle most rule (raised d n) p w o w' (rise oracle most rule d n p w o w' e)
 
--- both of two ways fit in as many steps as they have together
+-- two evaluations each need no more steps than both together
 left : {J R : Type 0} (oracle : Oracle) (most : ℕ) (rule : J → Plan J R) (n m : ℕ) (p : Plan J R) (w : World) (o : Outcome R) (w' : World) → PlaysTo oracle most rule n p w o w' → PlaysTo oracle most rule (n + m) p w o w'
 left oracle most rule n m p w o w' e =
     let s : raised m n ≡ n + m = omega (arith, is_sum m n) in

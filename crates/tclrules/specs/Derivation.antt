@@ -1,12 +1,12 @@
--- Derivations: what a plan comes to, for every table of rules. A plan says what is counted, asked and run, and in which
--- order; a table gives a plan for each job. The oracle and the limit on commands stand here alone.
+-- Derivations, for any table of rules: which outcome a plan evaluates to. A plan says what is counted, asked and run,
+-- and in which order; a table has a plan for each job. The oracle and the limit on commands are used here alone. Own.
 use Rattle.std.specs.Prelude.{◌≡◌, ℕ, ◌+◌, ◌<◌, ◌≤◌, ◌⊎◌, ◌||◌, Bool, true, false, List, Option}
 use Rattle.tclchars.specs.Runs.{Text}
 use Rattle.tclchars.specs.declared.fault.TextFault.{TextFault}
 use Rattle.tclrules.specs.Oracle as host
 use Rattle.tclrules.specs.Oracle.{CommandWords, Told, OracleAnswer, Done, Unknown, Refused, Oracle, tell, is_question, is_refusal, records_with, addition}
 
--- what nothing catches
+-- why an evaluation is halted, which catch(n) doesn't catch
 pub data Halt : Type 0 where
   OutOfMemory : Halt
   BadText : TextFault → Halt
@@ -19,15 +19,17 @@ pub data Halt : Type 0 where
   Stopped : Halt
   ByHost : ℕ → Halt
 
+-- an evaluation ended with a result, or was halted
 pub data Outcome (R : Type 0) : Type 0 where
   Ended : R → Outcome R
   Halted : Halt → Outcome R
 
--- what a host says to a command that it neither leaves out nor refuses
+-- how a host replies to a command that is neither unsupported nor refused
 pub data Reply : Type 0 where
   Says : Text → Reply
   NotKnown : Reply
 
+-- what is still to be evaluated, with jobs J and results R
 pub data Plan (J R : Type 0) : Type 0 where
   -- the outcome is known
   Ends : Outcome R → Plan J R
@@ -40,41 +42,44 @@ pub data Plan (J R : Type 0) : Type 0 where
   -- a job runs, whose result decides
   Runs : J → (R → Plan J R) → Plan J R
 
--- how many commands and turns were counted, and what the host was told
+-- how many commands and turns were counted so far, and the trace of the host
 pub record World : Type 0 where
   pub used : ℕ
   pub told : Told
 
+-- one command or turn more
 abbrev pub count : World → World
 count w = record { used = w.used + 1; told = w.told }
 
+-- the world after an answer of the host
 abbrev pub hear : World → OracleAnswer → World
 hear w a = record { used = w.used; told = tell w.told a }
 
--- reading the environment is a question
+-- the trace after a question, as reading the environment is
 abbrev pub ask_told : Told → Told
 ask_told t = record { records = t.records; messages = t.messages; asked = true; refused = t.refused }
 
--- what is told where something was perhaps asked, and no more
+-- the trace where something was perhaps asked, and nothing else happened
 abbrev pub perhaps_asked : Bool → Told → Told
 perhaps_asked asked t =
     record { records = t.records; messages = t.messages; asked = asked || t.asked; refused = t.refused }
 
+-- the world after a question
 abbrev pub ask : World → World
 ask w = record { used = w.used; told = ask_told w.told }
 
 abbrev pub perhaps_ask : Bool → World → World
 perhaps_ask asked w = record { used = w.used; told = perhaps_asked asked w.told }
 
--- what is left to do after an answer
+-- the plan after an answer of the host
 abbrev pub replied : {J R : Type 0} → (Reply → Plan J R) → OracleAnswer → Plan J R
 replied k (Done text adds asks) = k (Says text)
 replied k (Unknown asks) = k NotKnown
 replied k (host.LeftOut name asks) = Ends (Halted (LeftOut name))
 replied k (Refused n name asks) = Ends (Halted (ByHost n))
 
--- derivations: a plan comes from one world to an outcome and another world. Where it may starve, want of memory can end
--- it anywhere; a host that wants memory may have set the mark before
+-- derivations: a plan evaluates from one world to an outcome and another world. Where memory may run out (the flag),
+-- that can end it anywhere; a host that had no memory may have marked the trace as asked before
 pub data Eval {J R : Type 0} (starving : Bool) (oracle : Oracle) (most : ℕ) (rule : J → Plan J R) : Plan J R → World
     → Outcome R → World → Type 0 where
   ends : {o : Outcome R} {w : World} → Eval starving oracle most rule (Ends o) w o w
@@ -96,12 +101,12 @@ pub data Eval {J R : Type 0} (starving : Bool) (oracle : Oracle) (most : ℕ) (r
   starves : {p : Plan J R} {w : World} (asked : Bool) → starving ≡ true
       → Eval starving oracle most rule p w (Halted OutOfMemory) (perhaps_ask asked w)
 
--- what a host is consulted for
+-- a consultation of the host: a command, or an environment variable
 pub data Query : Type 0 where
   Command : List Text → Query
   Variable : Text → Query
 
--- this holds of each consultation of a derivation, with the records so far
+-- this holds of each consultation of a derivation and the records before it
 abbrev pub Throughout : {J R : Type 0} {starving : Bool} {oracle : Oracle} {most : ℕ} {rule : J → Plan J R}
     {p : Plan J R} {w : World} {o : Outcome R} {w' : World} → (List CommandWords → Query → Type 0)
     → Eval starving oracle most rule p w o w' → Type 0
@@ -120,7 +125,7 @@ AnswersOrRefuses first second records (Command words) = (second.command records 
     ⊎ ((n : ℕ) × (name : Option Text) × (asks : Bool) × (second.command records words ≡ Refused n name asks))
 AnswersOrRefuses first second records (Variable name) = second.variable records name ≡ first.variable records name
 
--- a consultation that isn't refused
+-- a consultation that the oracle doesn't refuse
 abbrev pub IsUnrefused : Oracle → List CommandWords → Query → Type 0
 IsUnrefused oracle records (Command words) = is_refusal (oracle.command records words) ≡ false
 IsUnrefused oracle records (Variable name) = Unit {0}
@@ -130,14 +135,14 @@ abbrev pub asks : Oracle → List CommandWords → Query → Bool
 asks oracle records (Command words) = is_question (oracle.command records words)
 asks oracle records (Variable name) = true
 
--- where the first oracle is asked no question and doesn't refuse, the second answers as it does, or refuses
+-- commands that are no questions for the first oracle and that it doesn't refuse, the second answers alike or refuses
 abbrev pub AgreesUnasked : Oracle → Oracle → Type 0
 AgreesUnasked first second =
     (records : List CommandWords) (words : List Text) → is_question (first.command records words) ≡ false
     → is_refusal (first.command records words) ≡ false
     → AnswersOrRefuses first second records (Command words)
 
--- records that the oracle's answers to commands make of others
+-- the second records are the first with the additions of the oracle's answers to some commands
 pub data Grows (oracle : Oracle) : List CommandWords → List CommandWords → Type 0 where
   none : {rs : List CommandWords} → Grows oracle rs rs
   more : {rs qs : List CommandWords} (words : List Text)

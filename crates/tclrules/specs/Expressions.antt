@@ -1,4 +1,4 @@
--- Expressions (expr(n)): what is evaluated of them, and in which order.
+-- The evaluation of expressions (expr(n)): what is evaluated of them, and in which order.
 use Rattle.std.specs.Prelude.{[], Bool, true, false, Option, Some, None, Result, Ok, Err, codes, drop}
 use Rattle.std.specs.Fmt.{signed_decimal}
 use Rattle.tclchars.specs.Runs.{Text}
@@ -23,21 +23,24 @@ use Rattle.tclrules.specs.Words.{parts, read, read_element}
 
 -- Texts
 
--- what is left out has a reason of its own, by its name
+-- the reason of a fault at a name that is unsupported, else that of the fault
 abbrev pub or_omitted : TextFault → Option Text → value.Reason
 or_omitted f (Some name) = left_out name
 or_omitted f None = value.text f
 
+-- the reason why a text is no expression
 abbrev pub fault_of : Text → TextFault → value.Reason
 fault_of t (BadExpression at) = or_omitted (BadExpression at) (omitted_at (drop at t))
 fault_of t f = value.text f
 
+-- the tree of a text, or the reason why it has none
 abbrev pub parsed : Text → Result (Expr Operand) TextFault → Answer (Expr Operand)
 parsed t (Ok e) = Ok e
 parsed t (Err f) = Err (fault_of t f)
 
 -- Values
 
+-- the value of an operand; that of a bracket is the result of its script
 abbrev pub operand_value : Bounds → Operand → State → Next → Step
 operand_value b (operands.number t) s k = k t s
 operand_value b (operands.word t) s k = k t s

@@ -1,10 +1,11 @@
--- The numbers of faults, and what they say.
+-- The faults of an evaluation: their numbers, and their texts.
 use Rattle.std.specs.Prelude.{ℕ, [], codes, decimal, string_bytes}
 use Rattle.message.specs.Messages.{Text, around, at_line}
 use Rattle.tclchars.specs.Faults.{fault_message}
 use Rattle.tclrules.specs.declared.outcome.EvalFault.{EvalFault}
 use Rattle.tclrules.specs.declared.outcome.EvalFault.TheVariants as fault
 
+-- the number of a fault in the table of refusals
 abbrev pub number_of : EvalFault → ℕ
 number_of fault.OutOfMemory = 11
 number_of (fault.Text f) = 12
@@ -18,6 +19,7 @@ number_of (fault.LeftOut name) = 19
 number_of fault.Stopped = 20
 number_of (fault.Host n) = 21
 
+-- the text of a fault
 abbrev pub message_of : EvalFault → Text
 message_of fault.OutOfMemory = codes "Out of memory"
 message_of (fault.Text f) = fault_message f

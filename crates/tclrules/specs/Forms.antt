@@ -1,6 +1,6 @@
--- The forms of the core commands, as the head of each one's page shows them: what the words behind a command's name
--- are, or what is wrong with them. A wrong number of words comes first; of incr it is judged later, since a name that
--- can't be written goes before it.
+-- The forms of the core commands, as the head of each one's page has them: what the words after a command's name are,
+-- or what is wrong with them. A wrong number of words comes first; that of incr is judged later, since a variable that
+-- can't be written is refused before it.
 use Rattle.std.specs.Prelude.{List, [], ◌∷◌, ◌++◌, Bool, true, false, ◌&&◌, nat_lt, length, if◌then◌else◌, Option, Some, None, Ok, Err, codes, bytes_eq}
 use Rattle.tclchars.specs.Runs.{Text, begins}
 use Rattle.tclvalue.specs.Faults.{Answer, ◌>>=◌, error, left_out}
@@ -8,6 +8,7 @@ use Rattle.tclvalue.specs.Messages.{wrong_words, not_a_list}
 use Rattle.tclvalue.specs.Elements.{elements_of}
 use Rattle.tclrules.specs.Messages.{bad_option, no_body}
 
+-- what a core command asks for, with its operands; scripts and expressions in it are texts
 pub data Form : Type 0 where
   Get : Text → Form
   Set : Text → Text → Form
@@ -32,6 +33,7 @@ pub data Form : Type 0 where
   Global : List Text → Form
   Put : List Text → Form
 
+-- a wrong number of words
 abbrev pub wrong : {A : Type 0} → Text → Answer A
 wrong name = Err (error (wrong_words name))
 
@@ -65,7 +67,7 @@ abbrev pub incr_form : List Text → Answer Form
 incr_form [] = wrong (codes "incr")
 incr_form (v ∷ ns) = Ok (Increase v ns)
 
--- what is added
+-- the increment of incr: 1 where none is given
 abbrev pub increase_of : List Text → Answer Text
 increase_of [] = Ok (codes "1")
 increase_of (n ∷ []) = Ok n
@@ -80,21 +82,22 @@ expr_form xs = Ok (Express xs)
 abbrev pub Branches : Type 0
 Branches = List (Text × Text) × Option Text
 
+-- a branch before those of an answer
 abbrev pub branch : Text → Text → Answer Branches → Answer Branches
 branch c b more = more >>= (λ m. Ok ((c, b) ∷ m.0, m.1))
 
--- behind else, and where a last body could stand without it
+-- a last body: after else, or without it
 abbrev pub last_body : List Text → Answer Branches
 last_body (b ∷ []) = Ok ([], Some b)
 last_body ws = wrong (codes "if")
 
--- behind the last body with a condition
+-- after the last body with a condition: else and a last body, or nothing
 abbrev pub last_words : List Text → Answer Branches
 last_words [] = Ok ([], None)
 last_words (w ∷ ws) = if bytes_eq w (codes "else") then last_body ws else last_body (w ∷ ws)
 
 abbrev mutual
-  -- from a condition on
+  -- the branches that words are, from a condition on, after it, after then, and after a body
   pub branches : List Text → Answer Branches
   branches [] = wrong (codes "if")
   branches (c ∷ ws) = behind_condition c ws
@@ -133,18 +136,18 @@ loop_pairs ws = wrong (codes "foreach")
 abbrev pub foreach_form : List Text → Answer Form
 foreach_form ws = loop_pairs ws >>= (λ m. Ok (Foreach m.0 m.1))
 
--- switch ?-exact? ?-glob? ?--? t p b..., or one list of p b: options are read while more than two words remain
+-- switch ?-exact? ?-glob? ?--? t p b..., or one list of p b: a word is an option where more than one word follows it
 abbrev pub is_option : Text → List Text → Bool
 is_option w ws = begins 45 w && nat_lt 1 (length ws)
 
--- the options, and the words behind them
+-- the options, and the words after them; -- ends the options
 abbrev pub options : List Text → List Text × List Text
 options [] = ([], [])
 options (w ∷ ws) =
     if is_option w ws then if bytes_eq w (codes "--") then ([], ws) else (w ∷ (options ws).0, (options ws).1)
     else ([], w ∷ ws)
 
--- whether patterns are compared by glob: the last option counts
+-- whether patterns are compared by glob: the last option decides
 abbrev pub glob_option : Text → Answer Bool
 glob_option w =
     if bytes_eq w (codes "-exact") then Ok false

@@ -1,4 +1,4 @@
--- How a host of the program stands to its oracle.
+-- How a host of the program meets its oracle: the laws of the trait Host. Own.
 use Rattle.std.specs.Prelude.{◌≡◌, Bool, Option, option_map, Result, Ok, Err, string_bytes, String}
 use Rattle.std.specs.declared.alloc.Global.{Global}
 use Rattle.std.specs.declared.alloc.AllocError.{AllocError}
@@ -9,11 +9,12 @@ use Rattle.tclrules.specs.Derivation.{ask_told, perhaps_asked}
 use Rattle.tclrules.specs.declared.host.HostAnswer.{HostAnswer}
 use Rattle.tclrules.specs.declared.host.HostAnswer.TheVariants.{Done, Unknown, LeftOut, Refused, OutOfMemory}
 
--- the oracle's answer is this one, and it is told
+-- the oracle's answer is this one, and the trace has it
 abbrev pub IsTold : OracleAnswer → OracleAnswer → Told → Told → Type 0
 IsTold answer given old new = (answer ≡ given) × (new ≡ tell old answer)
 
--- an answer to the words of a command. Want of memory leaves the records and messages, and the mark may be set
+-- an answer to the words of a command. Without memory the records and messages stay, and the trace may be marked as
+-- asked
 abbrev pub Answers : Oracle → host.CommandWords → HostAnswer → Told → Told → Type 0
 Answers oracle words (Done t) old new = (adds : Addition) × (asks : Bool)
     × IsTold (oracle.command old.records words) (host.Done (string_bytes t) adds asks) old new

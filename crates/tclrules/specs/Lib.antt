@@ -1,3 +1,5 @@
+-- What a script evaluates to. To be read against Tcl(n), expr(n) and the pages of the commands: Rules, Words,
+-- Expressions, Forms, Variables, Messages, Names. What an evaluator promises: Meaning, Promise, Hosts.
 pub mod Oracle
 pub mod Derivation
 pub mod Playing

@@ -1,4 +1,4 @@
--- What an evaluation of a script comes to.
+-- What a script evaluates to. Own, over the rules.
 use Rattle.std.specs.Prelude.{◌≡◌, ℕ, ◌+◌, ◌==◌, ◌<◌, ◌⊎◌, Bool, true, false, List, min, count_by, take}
 use Rattle.tclchars.specs.Runs.{Text}
 use Rattle.tclrules.specs.Oracle.{CommandWords, Oracle, Told, records_with, addition}
@@ -9,27 +9,27 @@ use Rattle.tclrules.specs.Plans.{Ending, Step}
 use Rattle.tclrules.specs.Rules.{rule, file}
 use Rattle.tclrules.specs.declared.limits.Limits.{Limits}
 
--- a depth above 200 counts as 200
+-- the plan of a script with these global variables; a depth above 200 counts as 200
 abbrev pub plan_of : Limits → Text → Variables → Step
 plan_of l script globals = file (min l.depth 200) script (start globals)
 
--- nothing counted yet
+-- the world before a script: nothing is counted yet
 abbrev pub first : Told → World
 first told = record { used = 0; told = told }
 
--- the outcome of a script with these global variables, and the world then, from what was told before. Want of memory
--- may end it early only where it may starve
+-- a script with these global variables evaluates to this outcome and world, from this trace of the host. Want of memory
+-- may end it early where the flag says so, and not else
 abbrev pub Comes : Bool → Limits → Text → Variables → Oracle → Told → Outcome Ending → World → Type 0
 Comes starving l script globals oracle told o w = Eval starving oracle l.commands (rule l.value_bytes)
     (plan_of l script globals) (first told) o w
 
--- the line, from 1, of a place in a script, which is a count of bytes before it
+-- the line, from 1, of an offset in a script, which counts the bytes before it
 abbrev pub line_at : Text → ℕ → ℕ
 line_at script place = 1 + count_by (λ b. b == 10) (take place script)
 
 -- For laws
 
--- a script, and all that its outcome hangs on
+-- a script, and all that its outcome depends on
 pub record Setting : Type 0 where
   pub limits : Limits
   pub script : Text
@@ -37,16 +37,18 @@ pub record Setting : Type 0 where
   pub oracle : Oracle
   pub told : Told
 
+-- the outcome of a setting with memory enough
 abbrev pub ComesTo : Setting → Outcome Ending → World → Type 0
 ComesTo s o w = Comes false s.limits s.script s.globals s.oracle s.told o w
 
+-- the setting with another limit on commands, and with another oracle
 abbrev pub limited_to : ℕ → Setting → Setting
 limited_to n s = record s { limits = record s.limits { commands = n } }
 
 abbrev pub with_oracle : Oracle → Setting → Setting
 with_oracle oracle s = record s { oracle = oracle }
 
--- however many commands and turns are counted, under some limit more are
+-- the script never ends: under some limit more than any number of commands and turns are counted
 abbrev pub HasNoEnd : Setting → Type 0
 HasNoEnd s = (n : ℕ) → (m : ℕ) × (o : Outcome Ending) × (w : World) × ComesTo (limited_to m s) o w × (n < w.used)
 
@@ -54,12 +56,12 @@ HasNoEnd s = (n : ℕ) → (m : ℕ) × (o : Outcome Ending) × (w : World) × C
 abbrev pub IsSameOrRefused : Outcome Ending → World → Outcome Ending → World → Type 0
 IsSameOrRefused o w o2 w2 = ((o2 ≡ o) × (w2 ≡ w)) ⊎ ((n : ℕ) × (o2 ≡ Halted (ByHost n)))
 
--- what holds of records holds with what an answer adds
+-- what holds of records still holds with what an answer adds
 abbrev pub KeepsRecords : Oracle → (List CommandWords → Bool) → Type 0
 KeepsRecords oracle holds = (rs : List CommandWords) (words : List Text) → holds rs ≡ true
     → holds (records_with rs (addition (oracle.command rs words))) ≡ true
 
--- a script played, in so many steps of the longest way
+-- a script evaluated by the function play, with at most so many steps one inside the other
 abbrev pub play_file : Setting → ℕ → Played Ending
 play_file s steps = play s.oracle s.limits.commands (rule s.limits.value_bytes) steps
     (plan_of s.limits s.script s.globals) (first s.told)

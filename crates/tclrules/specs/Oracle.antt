@@ -1,4 +1,4 @@
--- What a host means: how it answers, and what it was told.
+-- What a host stands for: the oracle, which is how it answers, and the trace, which is what it has recorded. Own.
 use Rattle.std.specs.Prelude.{ℕ, Bool, true, false, ◌||◌, List, [], ◌∷◌, ◌++◌, Option, Some, None}
 use Rattle.tclchars.specs.Runs.{Text}
 
@@ -6,32 +6,32 @@ use Rattle.tclchars.specs.Runs.{Text}
 abbrev pub CommandWords : Type 0
 CommandWords = List Text
 
--- what a command leaves behind: at most one record or message
+-- what a command adds to the trace: at most one record or message
 pub data Addition : Type 0 where
   Nothing : Addition
   Kept : CommandWords → Addition
   Message : Text → Addition
 
--- an answer to the words of a command. Only what was done leaves something behind. A refusal has a number, and the name
--- that it is for, where it is for one. The flag says that the command asks for the environment, the mode, the shell, the
--- name as it was typed or the modules that are loaded
+-- an answer to the words of a command. Only a command that is done adds something. A refusal has a number, and the name
+-- that it is about, where it is about one. The flag marks a question: the command asks for the environment, the mode,
+-- the shell, the name as it was typed or the modules that are loaded
 pub data OracleAnswer : Type 0 where
   Done : Text → Addition → Bool → OracleAnswer
   Unknown : Bool → OracleAnswer
   LeftOut : Text → Bool → OracleAnswer
   Refused : ℕ → Option Text → Bool → OracleAnswer
 
--- what is answered, from the records so far, to the words of a command and to the name of an environment variable
+-- the answers to the words of a command and to the name of an environment variable, from the records so far
 pub record Oracle : Type 0 where
   pub command : List CommandWords → List Text → OracleAnswer
   pub variable : List CommandWords → Text → Option Text
 
--- by which number a command was refused, and for which name
+-- by which number a command was refused, and about which name
 pub record Refusal : Type 0 where
   pub number : ℕ
   pub name : Option Text
 
--- a refusal that is for no name
+-- a refusal that is about no name
 abbrev pub unnamed : ℕ → Refusal
 unnamed n = record { number = n; name = None }
 
@@ -42,6 +42,7 @@ pub record Told : Type 0 where
   pub asked : Bool
   pub refused : Option Refusal
 
+-- what an answer adds
 abbrev pub addition : OracleAnswer → Addition
 addition (Done text adds asks) = adds
 addition (Unknown asks) = Nothing
@@ -77,7 +78,7 @@ refused_with before (Unknown asks) = before
 refused_with before (LeftOut name asks) = before
 refused_with before (Refused n name asks) = Some (record { number = n; name = name })
 
--- what is told after an answer
+-- the trace after an answer
 abbrev pub tell : Told → OracleAnswer → Told
 tell t a = record {
   records = records_with t.records (addition a);

@@ -1,4 +1,4 @@
--- What the rules are made of: how a script ends, what is run, and the steps that every rule takes.
+-- What the rules are made of: how a script completes, the jobs, and the steps that every rule takes. Own.
 use Rattle.std.specs.Prelude.{ℕ, ◌-◌, List, if◌then◌else◌, nat_eq, nat_lt, length, Ok, Err}
 use Rattle.tclchars.specs.Runs.{Text}
 use Rattle.tclscript.specs.Tree.{Commands}
@@ -7,7 +7,7 @@ use Rattle.tclvalue.specs.Faults.{Answer, text, error, value_too_long, number_to
 use Rattle.tclrules.specs.Derivation.{Halt, BadText, TooDeep, ValueTooLong, NumberTooLarge, FractionOperand, LeftOut, Ended, Halted, Plan, Ends}
 use Rattle.tclrules.specs.Variables.{State}
 
--- how a script ends that is not halted: with its result, an error's message, or by return, break or continue
+-- how a script completes that is not halted, by Tcl's codes: ok, error, return, break, continue (return(n))
 pub data Ending : Type 0 where
   Normal : Text → State → Ending
   Raised : Text → State → Ending
@@ -15,30 +15,31 @@ pub data Ending : Type 0 where
   Broken : State → Ending
   Continued : State → Ending
 
--- variables with the items that are left of their list
+-- the variables of a list of foreach, with the items that remain
 abbrev pub Items : Type 0
 Items = List Text × List Text
 
--- what is run. The number says how many scripts may still begin inside one another
+-- what is run. The number counts the scripts that may still be nested
 pub data Job : Type 0 where
   -- the text of a whole file, and of any other script
   File : (left : ℕ) → Text → State → Job
   Script : (left : ℕ) → Text → State → Job
-  -- the script of a bracket, which was parsed with what it stands in
+  -- the script of a command substitution, which was parsed with the text around it
   Bracket : (left : ℕ) → Commands → State → Job
-  -- the turns of a loop that are left
+  -- the remaining turns of a loop
   While : (left : ℕ) → (condition body : Text) → State → Job
   For : (left : ℕ) → (condition next body : Text) → State → Job
   Foreach : (left : ℕ) → List Items → (body : Text) → State → Job
 
+-- a plan of the rules
 abbrev pub Step : Type 0
 Step = Plan Job Ending
 
--- what goes on with a text and the state
+-- the continuation: what goes on with a text and the state
 abbrev pub Next : Type 0
 Next = Text → State → Step
 
--- how many bytes a value may have, and how many scripts may still begin
+-- how many bytes a value may have, and how many scripts may still be nested
 pub record Bounds : Type 0 where
   pub bytes : ℕ
   pub left : ℕ
@@ -52,7 +53,7 @@ halt h = Ends (Halted h)
 abbrev pub raise : Text → State → Step
 raise message s = ended (Raised message s)
 
--- goes on after a script with its result; whatever else ends it ends what it stands in
+-- goes on after a script with its result; any other completion is that of the script around it
 abbrev pub on_normal : Next → Ending → Step
 on_normal k (Normal t s) = k t s
 on_normal k (Raised m s) = ended (Raised m s)
@@ -60,7 +61,7 @@ on_normal k (Returned t s) = ended (Returned t s)
 on_normal k (Broken s) = ended (Broken s)
 on_normal k (Continued s) = ended (Continued s)
 
--- what a fault of values does: an error can be caught, all else halts
+-- the plan of a fault of values: an error can be caught, all else halts
 abbrev pub fault : value.Reason → State → Step
 fault (text f) s = halt (BadText f)
 fault (error m) s = raise m s
@@ -69,18 +70,19 @@ fault number_too_large s = halt NumberTooLarge
 fault fraction s = halt FractionOperand
 fault (left_out name) s = halt (LeftOut name)
 
--- goes on with what was judged
+-- goes on with the value of an answer, or with the plan of its fault
 abbrev pub given : {A : Type 0} → Answer A → State → (A → Step) → Step
 given (Ok x) s k = k x
 given (Err f) s k = fault f s
 
--- a text within the limit on values
+-- goes on where a text is within the limit on values
 abbrev pub sized : ℕ → Text → Step → Step
 sized most t p = if nat_lt most (length t) then halt ValueTooLong else p
 
--- a script begins, where one more may
+-- goes on where one more script may be nested
 abbrev pub begin : ℕ → Step → Step
 begin left p = if nat_eq left 0 then halt TooDeep else p
 
+-- the bounds inside of a script
 abbrev pub inside : ℕ → ℕ → Bounds
 inside bytes left = record { bytes = bytes; left = left - 1 }

@@ -1,4 +1,4 @@
--- What an evaluation by the program is to promise.
+-- What an evaluator of the program promises: the clauses of tcleval. Own.
 use Rattle.std.specs.Prelude.{◌≡◌, ℕ, Bool, true, false, List, map, Result, Ok, Err, string_bytes, String}
 use Rattle.std.specs.declared.alloc.Global.{Global}
 use Rattle.tclchars.specs.Runs.{Text}
@@ -13,8 +13,8 @@ use Rattle.tclrules.specs.declared.outcome.Ending.{Ending}
 use Rattle.tclrules.specs.declared.outcome.EvalFault.{EvalFault}
 use Rattle.tclrules.specs.declared.outcome.EvalFault.TheVariants as fault
 
--- the outcome of a script that a fault reports. The line of an error is that on which the script's own command at hand
--- begins
+-- the outcome of a script that a fault reports. The line of an error is that on which the current command of the script
+-- itself begins
 abbrev pub ReportsFault : Text → EvalFault → Outcome plans.Ending → Type 0
 ReportsFault script fault.OutOfMemory o = o ≡ Halted OutOfMemory
 ReportsFault script (fault.Text f) o = o ≡ Halted (BadText f)
@@ -29,7 +29,7 @@ ReportsFault script (fault.LeftOut name) o = o ≡ Halted (LeftOut (string_bytes
 ReportsFault script fault.Stopped o = o ≡ Halted Stopped
 ReportsFault script (fault.Host n) o = o ≡ Halted (ByHost n)
 
--- want of memory alone may end an evaluation anywhere
+-- memory ran out, which may end an evaluation anywhere
 abbrev pub is_want_of_memory : EvalFault → Bool
 is_want_of_memory fault.OutOfMemory = true
 is_want_of_memory (fault.Text f) = false
@@ -43,10 +43,11 @@ is_want_of_memory (fault.LeftOut name) = false
 is_want_of_memory fault.Stopped = false
 is_want_of_memory (fault.Host n) = false
 
+-- variables of the program with their values
 abbrev pub texts_of : List (String Global × String Global) → Variables
 texts_of vs = map (λ v. (string_bytes v.0, string_bytes v.1)) vs
 
--- what a call returned is what the script comes to, with what the host was told before and after
+-- a call returned what the script evaluates to, with the traces of the host before and after
 abbrev pub Evaluates : Limits → Text → Variables → Oracle → Told → Result Ending EvalFault → Told → Type 0
 Evaluates l script globals oracle old (Ok e) new =
     (s : State) × Comes false l script globals oracle old (Ended (Normal (string_bytes e.result) s))

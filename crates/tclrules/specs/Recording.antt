@@ -1,4 +1,4 @@
--- The oracle of the example host.
+-- The oracle of the example host `Recorder`. Own.
 use Rattle.std.specs.Prelude.{false, true, List, [], ◌∷◌, ◌++◌, if◌then◌else◌, Option, Some, None, map, string_bytes, codes, bytes_eq, String}
 use Rattle.std.specs.declared.vec.Vec.{Vec}
 use Rattle.std.specs.declared.alloc.Global.{Global}
@@ -12,17 +12,18 @@ record_texts r = map string_bytes r.items
 abbrev pub pair_texts : List (String Global × String Global) → Variables
 pair_texts vs = map (λ v. (string_bytes v.0, string_bytes v.1)) vs
 
--- puts ?-nonewline? stderr t: the message is t, with a newline behind it unless there is an option
+-- puts ?-nonewline? stderr t: the message is t, with a newline after it unless there is an option
 abbrev pub message_in : CommandWords → Option Text
 message_in (name ∷ channel ∷ t ∷ []) = Some (t ++ codes "\n")
 message_in (name ∷ option ∷ channel ∷ t ∷ []) = Some t
 message_in words = None
 
+-- the answer to puts with this message
 abbrev pub said : Option Text → OracleAnswer
 said (Some t) = Done [] (Message t) false
 said None = Unknown false
 
--- setenv is kept, puts is said, the mode is a question, conflict is refused, and nothing else is known
+-- setenv is recorded, puts is a message, the mode is a question, conflict is refused, and no other command is there
 abbrev pub named_answer : Text → Text → CommandWords → OracleAnswer
 named_answer mode name words =
     if bytes_eq name (codes "setenv") then Done [] (Kept words) false
@@ -35,6 +36,6 @@ abbrev pub answer_of : Text → List CommandWords → List Text → OracleAnswer
 answer_of mode records [] = Unknown false
 answer_of mode records (name ∷ words) = named_answer mode name (name ∷ words)
 
--- the environment stays as it is
+-- the environment never changes
 abbrev pub value_in : Variables → List CommandWords → Text → Option Text
 value_in environment records name = lookup environment name

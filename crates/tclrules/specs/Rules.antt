@@ -1,5 +1,4 @@
--- The table of rules: what each form of command does (the page of each command), one clause a form, and what each job
--- is.
+-- The rules: what each form of command does (the page of each command), one clause a form, and the plan of each job.
 use Rattle.std.specs.Prelude.{ℕ, List, [], ◌∷◌, ◌++◌, Bool, true, false, ◌&&◌, if◌then◌else◌, length, Option, Some, None, Result, Ok, Err, codes, bytes_eq, drop}
 use Rattle.std.specs.Fmt.{signed_decimal}
 use Rattle.std.specs.Option.{unwrap_or}
@@ -33,18 +32,18 @@ is_empty (x ∷ xs) = false
 
 -- Variables
 
--- writes a variable at its place, and goes on with its value
+-- writes the variable at a location, and goes on with its value
 abbrev pub write_at : Bounds → Bool × Text → Text → State → Next → Step
 write_at b p value s k = sized b.bytes value (k value (with_value s p value))
 
 abbrev pub write : Bounds → Text → Text → State → Next → Step
 write b name value s k = given (writable s name) s (λ p. write_at b p value s k)
 
--- the value, or this one where there is none
+-- the value of a variable, or this one where it is unset
 abbrev pub value_or : Text → State → Bool × Text → Text
 value_or default s p = unwrap_or (value_at s p) default
 
--- unset: an absent variable is an error without -nocomplain; those before it stay unset
+-- unset: a variable that is unset already is an error without -nocomplain; those before it stay unset
 abbrev pub unset_at : Bool → Text → State → Bool × Text → (State → Step) → Option Text → Step
 unset_at quiet name s p k (Some value) = k (without_value s p)
 unset_at true name s p k None = k s
@@ -54,7 +53,7 @@ abbrev pub unset : Bool → List Text → State → (State → Step) → Step
 unset quiet [] s k = k s
 unset quiet (v ∷ vs) s k = given (writable s v) s (λ p. unset_at quiet v s p (λ s'. unset quiet vs s' k) (value_at s p))
 
--- global: outside a procedure without effect, and nothing is judged
+-- global: outside of a procedure it has no effect, and no name is judged
 abbrev pub share : List Text → State → (State → Step) → Step
 share [] s k = k s
 share (v ∷ vs) s k = given (place_named s v >>= sharable) s (λ name. share vs (in_frame s (shared_in s.frame name)) k)
@@ -63,15 +62,15 @@ abbrev pub share_from : Option Frame → List Text → State → (State → Step
 share_from None vs s k = k s
 share_from (Some f) vs s k = share vs s k
 
--- lappend: the list writing of the old elements and the new
+-- lappend: the text of the list with the old elements and the new
 abbrev pub lengthened : Text → List Text → Answer Text
 lengthened old xs = elements_of old >>= (λ es. Ok (list_text (es ++ xs)))
 
--- incr: the old value is judged before what is added
+-- incr: the old value is judged before the increment
 abbrev pub increased : Text → Text → Answer Text
 increased old n = count_of old >>= (λ a. count_of n >>= (λ b. sum a b >>= (λ z. Ok (signed_decimal z))))
 
--- info exists: the environment is asked for an element of env, where env is seen
+-- info exists: an element of env is read from the environment, where env denotes the global array
 abbrev pub is_there : State → Next → Option Text → Step
 is_there s k None = k (codes "0") s
 is_there s k (Some value) = k (codes "1") s
@@ -84,7 +83,7 @@ exists_at s k (Element false x) = k (codes "0") s
 
 -- Bodies
 
--- a text evaluated as a script, with what goes on after each ending
+-- a text evaluated as a script, with what goes on after each completion
 abbrev pub body : Bounds → Text → State → (Ending → Step) → Step
 body b t s k = Runs (Script b.left t s) k
 
@@ -118,7 +117,7 @@ after_next again (Returned t s) = ended (Returned t s)
 abbrev pub turn : Bounds → Text → State → (State → Step) → Step
 turn b t s again = Counts (body b t s (after_turn again))
 
--- the turns of a loop that are left
+-- the remaining turns of a loop
 abbrev pub while_turns : Bounds → Text → Text → State → Step
 while_turns b c t s = decide b c s
     (elim [
@@ -139,12 +138,13 @@ abbrev pub named : List Text → Answer (List Text)
 named [] = Err (error no_loop_variable)
 named (v ∷ vs) = Ok (v ∷ vs)
 
+-- the lists of a foreach: their variables and items
 abbrev pub loops : List (Text × Text) → Answer (List Items)
 loops [] = Ok []
 loops (p ∷ ps) = elements_of p.0 >>= named
     >>= (λ vs. elements_of p.1 >>= (λ es. loops ps >>= (λ ls. Ok ((vs, es) ∷ ls))))
 
--- the variables of a turn with their items; missing ones are empty
+-- the variables of a turn with their items; a variable without an item has the empty text
 abbrev pub pairs : List Text → List Text → List (Text × Text)
 pairs [] es = []
 pairs (v ∷ vs) [] = (v, []) ∷ pairs vs []
@@ -154,14 +154,16 @@ abbrev pub turn_pairs : List Items → List (Text × Text)
 turn_pairs [] = []
 turn_pairs (l ∷ ls) = pairs l.0 l.1 ++ turn_pairs ls
 
--- what is left after a turn
+-- the lists after a turn
 abbrev pub shortened : List Items → List Items
 shortened [] = []
 shortened (l ∷ ls) = (l.0, drop (length l.0) l.1) ∷ shortened ls
 
+-- no list has items any more
 abbrev pub are_done : List Items → Bool
 are_done ls = list_all (λ l. is_empty l.1) ls
 
+-- gives variables these values, one after another
 abbrev pub assign : Bounds → List (Text × Text) → State → (State → Step) → Step
 assign b [] s k = k s
 assign b (p ∷ ps) s k = write b p.0 p.1 s (λ t s'. assign b ps s' k)
@@ -171,7 +173,7 @@ foreach_turns b ls t s =
     if are_done ls then ended (Normal [] s)
     else assign b (turn_pairs ls) s (λ s1. turn b t s1 (λ s2. Runs (job.Foreach b.left (shortened ls) t s2) ended))
 
--- switch: the first pattern that fits, default where it is the last; - stands for the next body
+-- switch: the first pattern that matches, default where it is the last; - stands for the next body
 abbrev pub is_default : Text → List (Text × Text) → Bool
 is_default p ps = bytes_eq p (codes "default") && is_empty ps
 
@@ -218,7 +220,7 @@ unless_reserved name ps = if is_reserved name then Err (error (is_taken name)) e
 abbrev pub with_procedure : State → Text → Procedure → State
 with_procedure s name p = record s { procedures = store s.procedures name p }
 
--- the value of a parameter, and the words that are left: args, where it is the last, takes all of them
+-- the value of a parameter, and the words that remain: args, where it is the last, takes all of them
 abbrev pub argument : Text → Parameter → List Text → Answer (Text × List Text)
 argument name p (w ∷ ws) = Ok (w, ws)
 argument name (p, Some default) [] = Ok (default, [])
@@ -228,7 +230,7 @@ abbrev pub taken : Text → Parameter → List Parameter → List Text → Answe
 taken name p ps ws = if bytes_eq p.0 (codes "args") && is_empty ps then Ok (list_text ws, []) else argument name p ws
 
 -- the parameters with their values. A wrong number of words is judged before any of them is bound; of a name that comes
--- again the first value stands
+-- again the first value counts
 abbrev pub allotted : Text → List Parameter → List Text → Answer (List (Text × Text))
 allotted name [] [] = Ok []
 allotted name [] (w ∷ ws) = Err (error (wrong_words name))
@@ -287,7 +289,7 @@ form b (Exists v) s k = given (place_named s v) s (exists_at s k)
 form b (Global vs) s k = share_from s.frame vs s (k [])
 form b (Put ws) s k = Consults (codes "puts" ∷ ws) (replied (codes "puts") s k)
 
--- a command of another name: left out, a procedure, or one for the host
+-- a command of another name: a procedure, else an unsupported command of Tcl, else one for the host
 abbrev pub other_command : Bounds → Text → List Text → State → Next → Option Procedure → Step
 other_command b name ws s k (Some p) = call b name p ws s k
 other_command b name ws s k None =
@@ -301,26 +303,27 @@ abbrev pub value_command : Bounds → Text → List Text → State → Next → 
 value_command b name ws s k (Some t) = k t s
 value_command b name ws s k None = core_command b name ws s k (core_form name ws)
 
--- a command by its words; no word makes an empty result
+-- a command by its words; without words the result is empty
 abbrev pub called : Bounds → List Text → State → Next → Step
 called b [] s k = k [] s
 called b (name ∷ ws) s k = given (command_value (name ∷ ws) b.bytes) s (value_command b name ws s k)
 
 -- Scripts
 
--- the rest of a script, after a command with this result. A command is counted before its words are looked at
+-- the rest of a script, after a command with this result. A command is counted before its words are substituted
 abbrev pub commands : Bounds → Commands → Text → State → Step
 commands b no_commands t s = ended (Normal t s)
 commands b (command place source ws cs) t s = Counts
     (words b ws [] s (λ texts s1. called b texts s1 (λ u s2. sized b.bytes u (commands b cs u s2))))
 
--- the same of a file, of which the state keeps where the command at hand stands
+-- the same of a file; the state has the offset of its current command
 abbrev pub file_commands : Bounds → Commands → Text → State → Step
 file_commands b no_commands t s = ended (Normal t s)
 file_commands b (command place source ws cs) t s =
     Counts (words b ws [] (record s { place = place })
     (λ texts s1. called b texts s1 (λ u s2. sized b.bytes u (file_commands b cs u s2))))
 
+-- goes on with the tree of a text; one that is no script halts
 abbrev pub parsed : Result Commands TextFault → (Commands → Step) → Step
 parsed (Ok cs) k = k cs
 parsed (Err f) k = halt (BadText f)

@@ -1,4 +1,4 @@
--- What shows of small scripts, for rows.
+-- How the outcome of a small script is shown, for worked examples. Own.
 use Rattle.std.specs.Prelude.{◌≡◌, ℕ, Bool, false, List, [], ◌∷◌, None, codes}
 use Rattle.tclchars.specs.Runs.{Text}
 use Rattle.tclrules.specs.Oracle.{CommandWords, Oracle, Told, Unknown}
@@ -8,6 +8,7 @@ use Rattle.tclrules.specs.Plans.{Ending, Normal, Raised, Returned, Broken, Conti
 use Rattle.tclrules.specs.Meaning.{Setting, ComesTo, line_at}
 use Rattle.tclrules.specs.declared.limits.Limits.{Limits}
 
+-- limits as those that modulefiles have, or with one of them changed
 abbrev pub standard : Limits
 standard = record { commands = 100000; depth = 200; value_bytes = 1048576 }
 
@@ -20,10 +21,11 @@ with_depth n = record standard { depth = n }
 abbrev pub with_bytes : ℕ → Limits
 with_bytes n = record standard { value_bytes = n }
 
+-- the trace before a script
 abbrev pub untold : Told
 untold = record { records = []; messages = []; asked = false; refused = None }
 
--- a host that knows no command and has no environment
+-- a host that has no command and no environment
 abbrev pub nobody : Oracle
 nobody = record { command = λ records words. Unknown false; variable = λ records name. None }
 
@@ -35,6 +37,7 @@ recording = record { command = answer_of (codes "unload"); variable = value_in (
 abbrev pub within : Limits → Text → Setting
 within l script = record { limits = l; script = script; globals = []; oracle = nobody; told = untold }
 
+-- the same with the example host
 abbrev pub recorded : Limits → Text → Setting
 recorded l script = record (within l script) { oracle = recording }
 
@@ -56,7 +59,7 @@ seen script (Halted h) w = Halts h
 abbrev pub told_to : Outcome Ending → World → Told
 told_to o w = w.told
 
--- what this view shows of the outcome of a script
+-- this view of the outcome of a script is that
 abbrev pub Shows : {A : Type 0} → Setting → (Outcome Ending → World → A) → A → Type 0
 Shows s view a = (o : Outcome Ending) × (w : World) × ComesTo s o w × (view o w ≡ a)
 
@@ -71,7 +74,7 @@ Results script result used = Sees (within standard script) (Result result used)
 abbrev pub RaisesOn : ℕ → Text → Text → Type 0
 RaisesOn line script message = Sees (within standard script) (Fails message line)
 
--- it is halted so within these limits
+-- it is halted for this within these limits
 abbrev pub Stops : Limits → Text → Halt → Type 0
 Stops l script h = Sees (within l script) (Halts h)
 
@@ -80,7 +83,7 @@ Stops l script h = Sees (within l script) (Halts h)
 abbrev pub HostStops : Limits → Text → Halt → Type 0
 HostStops l script h = Sees (recorded l script) (Halts h)
 
--- it is told these records and messages, and is asked or not
+-- its trace has these records and messages, and is marked as asked or not
 abbrev pub HostIsTold : Text → List CommandWords → List Text → Bool → Type 0
 HostIsTold script records messages asked = Shows (recorded standard script) told_to
     (record { records = records; messages = messages; asked = asked; refused = None })

@@ -1,5 +1,5 @@
--- Variables, and where their names lead (Tcl(n), rule 7; global(n), variable(n); the element of an array is of env
--- alone).
+-- Variables, and the location that a name of one denotes (Tcl(n), rule 8; global(n)). Own: the only array is env, which
+-- stands for the environment, and no namespaces are supported.
 use Rattle.std.specs.Prelude.{ℕ, List, [], ◌∷◌, ◌++◌, Bool, true, false, not, ◌||◌, ◌&&◌, ◌==◌, ◌-◌, length, take, reverse, if◌then◌else◌, Option, Some, None, Ok, Err, codes, bytes_eq}
 use Rattle.std.specs.List.{list_any}
 use Rattle.tclchars.specs.Runs.{Text, front, back, begins}
@@ -41,14 +41,15 @@ pub record Procedure : Type 0 where
   pub parameters : List Parameter
   pub body : Text
 
--- what an evaluation keeps: the global variables, the frame of the procedure that runs, if one does, the procedures by
--- name, and where in the file its command at hand begins, in bytes from the file's front
+-- the state of an evaluation: the global variables, the frame of the procedure that runs, if one does, the procedures
+-- by name, and the offset of the current command of the file, in bytes
 pub record State : Type 0 where
   pub globals : Variables
   pub frame : Option Frame
   pub procedures : List (Text × Procedure)
   pub place : ℕ
 
+-- the state before a script with these global variables
 abbrev pub start : Variables → State
 start globals = record { globals = store_all [] globals; frame = None; procedures = []; place = 0 }
 
@@ -57,8 +58,8 @@ in_frame s f = record s { frame = f }
 
 -- Names
 
--- a name taken apart: n(i) is n and the index i, where the parenthesis is the first and the name ends with one that
--- closes
+-- the parts of a name: n(i) is n with the index i, where the parenthesis is the first one and the name ends with the
+-- closing one
 abbrev pub parted : Text → Text → Text × Option Text
 parted n [] = (n, None)
 parted n (b ∷ bs) = (n, Some (take (length bs - 1) bs))
@@ -67,21 +68,22 @@ abbrev pub apart : Text → Text × Option Text
 apart name = if begins 41 (reverse name) then parted (front (λ b. not (b == 40)) name) (back (λ b. not (b == 40)) name)
     else (name, None)
 
--- two colons stand somewhere
+-- two colons follow one another somewhere, which part namespaces
 abbrev pub has_colons : Text → Bool
 has_colons [] = false
 has_colons (b ∷ bs) = (b == 58 && begins 58 bs) || has_colons bs
 
--- where a name leads: a variable, or an element of env. The flag says that it is global
+-- the location that a name denotes: a scalar variable, or an element of env. The flag is true of a global one
 pub data Place : Type 0 where
   Plain : Bool → Text → Place
   Element : Bool → Text → Place
 
--- at the file's level all variables are global, in a procedure those that it shares
+-- a name denotes a global variable: outside of procedures each does, in a procedure those that global named
 abbrev pub sees : Option Frame → Text → Bool
 sees None name = true
 sees (Some f) name = list_any (bytes_eq name) f.shared
 
+-- the array of the environment
 abbrev pub env : Text
 env = codes "env"
 
@@ -90,27 +92,30 @@ abbrev pub indexed : Bool → Text → Option Text → Answer Place
 indexed global name None = Ok (Plain global name)
 indexed global name (Some i) = if bytes_eq name env then Ok (Element global i) else Err (left_out (codes "array"))
 
--- no other colons stand in a name than those in front
+-- a name has no other colons than those that it begins with
 abbrev pub unqualified : Text → Answer Place → Answer Place
 unqualified name p = if has_colons name then Err (left_out (codes "namespace")) else p
 
+-- the location of a name, by its rest after leading colons, where it has such
 abbrev pub led : Option Frame → Text → Option Text → Option Text → Answer Place
 led f name index (Some rest) = unqualified rest (indexed true rest index)
 led f name index None = unqualified name (indexed (sees f name) name index)
 
+-- the location of a name with an index, or without one
 abbrev pub place_of : State → Text → Option Text → Answer Place
 place_of s name index = led s.frame name index (after_front (codes "::") name)
 
+-- the location of a name as it is spelled
 abbrev pub place_named : State → Text → Answer Place
 place_named s name = place_of s (apart name).0 (apart name).1
 
--- neither env nor an element of it is written or unset
-abbrev pub plain : Place → Answer (Bool × Text)
-plain (Plain global name) = if bytes_eq name env then Err (left_out env) else Ok (global, name)
-plain (Element global i) = Err (left_out env)
+-- the scalar variable at a location; neither env nor an element of it may be written or unset
+abbrev pub writable_scalar : Place → Answer (Bool × Text)
+writable_scalar (Plain global name) = if bytes_eq name env then Err (left_out env) else Ok (global, name)
+writable_scalar (Element global i) = Err (left_out env)
 
 abbrev pub writable : State → Text → Answer (Bool × Text)
-writable s name = place_named s name >>= plain
+writable s name = place_named s name >>= writable_scalar
 
 -- Reading and changing
 
@@ -140,15 +145,16 @@ with_value s p value = with_variables s p.0 (store (variables s p.0) p.1 value)
 abbrev pub without_value : State → Bool × Text → State
 without_value s p = with_variables s p.0 (without (variables s p.0) p.1)
 
--- a name behind others, where it isn't among them
+-- names with one more at the end, unless it is among them
 abbrev pub with_name : List Text → Text → List Text
 with_name names name = if list_any (bytes_eq name) names then names else names ++ name ∷ []
 
--- global: the name leads to the global variable from now on
+-- global: the name denotes the global variable from now on
 abbrev pub shared_in : Option Frame → Text → Option Frame
 shared_in None name = None
 shared_in (Some f) name = Some (record { own = without f.own name; shared = with_name f.shared name })
 
+-- the name of the variable that global makes a procedure see: no element of env
 abbrev pub sharable : Place → Answer Text
 sharable (Plain global name) = Ok name
 sharable (Element global i) = Err (left_out env)

@@ -1,5 +1,4 @@
-//! What holds of evaluations, whatever the oracle.
-
+//! Theorems of evaluations, whatever the oracle.
 ghost use Rattle.std.specs.Prelude.{◌≡◌, ℕ, ◌≤◌, ◌<◌, ◌⊎◌, Bool, true, false, List, Some};
 ghost use Rattle.tclchars.specs.Runs.{Text};
 ghost use Rattle.tclrules.specs.Oracle.{CommandWords, Oracle, records_with, addition};
@@ -18,8 +17,8 @@ pub fn some_outcome()
     ensures { (s : Setting) → (o : Outcome Ending) × (w : World) × ComesTo s o w }
 {}
 
-/// Under another limit on commands an outcome that isn't this limit's is the same from its count on, and below it the
-/// limit is met.
+/// An outcome that isn't due to the limit on commands is the same under each limit that is at least its count, and
+/// under each lower limit that limit is met.
 pub fn other_limit()
     ensures same { (s : Setting) (o : Outcome Ending) (w : World) (n : ℕ)
         → ComesTo s o w → ¬ (o ≡ Halted TooManyCommands) → w.used ≤ n → ComesTo (limited_to n s) o w }
@@ -27,16 +26,15 @@ pub fn other_limit()
         → ComesTo s o w → n < w.used → (w2 : World) × ComesTo (limited_to n s) (Halted TooManyCommands) w2 }
 {}
 
-/// A script that has no end meets each limit on commands. One that is ended by the limits on depth or on values has an
-/// end.
+/// A script that never ends meets each limit on commands. One that meets the limits on depth or on values does end.
 pub fn endless()
     ensures { (s : Setting) (n : ℕ)
         → HasNoEnd s → (w : World) × ComesTo (limited_to n s) (Halted TooManyCommands) w }
 {}
 
 /// Where a second oracle answers each consultation of an evaluation as the first does, or refuses it, the outcome is
-/// the same, or a refusal. Where nothing was asked and the host refused nothing, it is enough that it does so where the
-/// first is asked no question and doesn't refuse.
+/// the same, or a refusal. Where nothing was asked and nothing refused, it is enough that it does so for commands that
+/// are no questions and that the first doesn't refuse.
 pub fn two_oracles()
     ensures each { (s : Setting) (second : Oracle) (o o2 : Outcome Ending) (w w2 : World) (d : ComesTo s o w)
         → Throughout (AnswersOrRefuses s.oracle second) d → ComesTo (with_oracle second s) o2 w2
@@ -46,7 +44,7 @@ pub fn two_oracles()
         → AgreesUnasked s.oracle second → ComesTo (with_oracle second s) o2 w2 → IsSameOrRefused o w o2 w2 }
 {}
 
-/// Without the mark nothing was asked.
+/// Where the trace isn't marked as asked, no consultation was a question.
 pub fn unasked()
     ensures { (s : Setting) (o : Outcome Ending) (w : World) (d : ComesTo s o w)
         → w.told.asked ≡ false → Throughout (λ records query. asks s.oracle records query ≡ false) d }
@@ -58,16 +56,16 @@ pub fn unrefused()
         → ((n : ℕ) → ¬ (o ≡ Halted (ByHost n))) → Throughout (IsUnrefused s.oracle) d }
 {}
 
-/// The records grow by the oracle's answers alone. So what holds of those at first, and is kept by each answer's
-/// addition, holds of the last.
+/// The records grow by the oracle's answers alone. So what holds of those before, and still holds with each answer's
+/// addition, holds of those after.
 pub fn grown()
     ensures grows { (s : Setting) (o : Outcome Ending) (w : World)
         → ComesTo s o w → Grows s.oracle s.told.records w.told.records }
-    ensures kept { (s : Setting) (o : Outcome Ending) (w : World) (holds : List CommandWords → Bool)
+    ensures preserved { (s : Setting) (o : Outcome Ending) (w : World) (holds : List CommandWords → Bool)
         → ComesTo s o w → holds s.told.records ≡ true → KeepsRecords s.oracle holds → holds w.told.records ≡ true }
 {}
 
-/// What playing a script gives is its outcome, and in enough steps it gives it.
+/// The function `play_file`, which computes, gives the outcome of a script in enough steps, and never another one.
 pub fn played()
     ensures derived { (s : Setting) (steps : ℕ) (o : Outcome Ending) (w : World)
         → play_file s steps ≡ Some (o, w) → ComesTo s o w }

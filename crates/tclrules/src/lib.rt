@@ -1,4 +1,6 @@
-//! The rules of evaluation of Tcl's scripts, and what holds of them.
+//! What a Tcl script evaluates to, as rules (Tcl(n) and the page of each command) with their laws; the trait of hosts.
+//! Touches nothing: it has definitions and theorems, and a host in memory as an example.
+//! Used by all that evaluate (tclvariables up to tcleval), and by the crates whose hosts they evaluate for.
 #![tactic(auto)]
 
 mod host;

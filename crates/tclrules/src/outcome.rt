@@ -1,5 +1,4 @@
-//! How an evaluation ends.
-
+//! How an evaluation by the program ends: with a result, or with a fault.
 ghost use Rattle.std.specs.Prelude.{◌≡◌, Some};
 ghost use Rattle.message.specs.Messages.{text_of};
 ghost use Rattle.tclrules.specs.declared.outcome.EvalFault.TheVariants as faults;
@@ -12,27 +11,30 @@ use std::fmt;
 use std::fmt::Display;
 use tclchars::TextFault;
 
-/// How a script ended: its result, the global variables in the order of their making, and how many commands and turns
-/// of loops were counted.
+/// How a script ended that was evaluated to its end.
 #[derive(Drop)]
 pub struct Ending {
+    /// The result of its last command, or of `return`.
     pub result: String,
+    /// The global variables with their values, in the order of their making.
     pub globals: Vec<(String, String)>,
+    /// How many commands and turns of loops were counted.
     pub used_commands: u64,
 }
 
-/// Why an evaluation ended early. Its `Display` is what follows `ERROR: `, but for the name of a host's refusal.
+/// Why an evaluation ended early. Its `Display` is what an error line has after `ERROR: `, but for a host's refusal,
+/// whose own text the host has.
 #[derive(Debug, Drop)]
 pub enum EvalFault {
-    /// 11: a growth of memory was refused.
+    /// 11: memory ran out.
     OutOfMemory,
     /// 12: the script, a body or an expression can't be parsed.
     Text(TextFault),
-    /// 13: an error that catch(n) sees, with its message and the line of the file's command.
+    /// 13: an error that no catch(n) caught, with its message and the line, from 1, of the file's command.
     TclError(String, usize),
-    /// 14: the limit on commands was met.
+    /// 14: more commands and turns than the limit.
     TooManyCommands,
-    /// 15: the limit on depth was met.
+    /// 15: more scripts are nested than the limit.
     TooDeep,
     /// 16: a value has more bytes than the limit.
     ValueTooLong,
@@ -40,16 +42,16 @@ pub enum EvalFault {
     NumberTooLarge,
     /// 18: a number is spelled with a fraction or an exponent.
     FractionOperand,
-    /// 19: this command, option or kind of variable is left out.
+    /// 19: this command, option or kind of variable is unsupported.
     LeftOut(String),
-    /// 20: the script stopped itself.
+    /// 20: the script stopped itself, by exit(n) or by `break` outside of a loop.
     Stopped,
     /// 21: the host refused a command by this number.
     Host(u16),
 }
 
 impl EvalFault {
-    /// The number of the fault; of a host's refusal 21, whatever its own.
+    /// The number of the fault; of a host's refusal 21, whatever number the host refused by.
     pub fn number(&self) -> u16
         ensures { result ≡ number_of self.now }
     {
@@ -68,7 +70,7 @@ impl EvalFault {
         }
     }
 
-    /// What the fault says; of a host's refusal its number alone.
+    /// The text of the fault; of a host's refusal the host's number alone.
     pub fn message(&self) -> Message<'_>
         ensures { text_of result ≡ message_of self.now }
     {

@@ -1,5 +1,4 @@
-//! A host in memory, as an example.
-
+//! A host in memory, as an example and for tests.
 ghost use Rattle.std.specs.Prelude.{◌≡◌, ◌++◌, ◌∷◌, [], IfOk, OnOk, OnErr, string_bytes, map};
 ghost use Rattle.std.specs.Option.{option_map};
 ghost use Rattle.tclrules.specs.Recording.{record_texts, pair_texts, message_in};
@@ -8,20 +7,27 @@ ghost use Rattle.tclrules.specs.Variables.{lookup};
 use crate::host::{Host, HostAnswer};
 use std::alloc::{AllocError, Global};
 
-/// Keeps the words of each `setenv` and what each `puts` says, tells its mode where `mode` asks for it, refuses
-/// `conflict` by 51, and knows no other command. Its environment stays as it is.
+/// Records the words of each `setenv` and the message of each `puts`, answers its mode to `mode`, refuses `conflict` by
+/// 51, and has no other command. Its environment never changes.
 #[derive(Drop)]
 pub struct Recorder {
+    /// Where its memory comes from.
     pub alloc: Global,
+    /// What `mode` answers.
     pub mode: String,
+    /// The environment variables with their values.
     pub environment: Vec<(String, String)>,
+    /// The words of each command that was recorded.
     pub records: Vec<Vec<String>>,
+    /// The messages.
     pub messages: Vec<String>,
+    /// Whether the mode or an environment variable was asked for.
     pub asked: bool,
-    /// The number that a command was refused by.
+    /// The number by which a command was refused last.
     pub refused: Option<u16>,
 }
 
+/// A copy of the words.
 fn copy_words(alloc: Global, words: &[String]) -> Result<Vec<String>, AllocError>
     ensures { IfOk result (λ v. map string_bytes v.items ≡ map string_bytes words.now) }
 {
@@ -32,6 +38,7 @@ fn copy_words(alloc: Global, words: &[String]) -> Result<Vec<String>, AllocError
     Ok(copies)
 }
 
+/// Adds a copy of the words to the records.
 fn keep(records: &mut Vec<Vec<String>>, alloc: Global, words: &[String]) -> Result<(), AllocError>
     ensures ok { OnOk result (map record_texts records.new.items
         ≡ map record_texts records.old.items ++ map string_bytes words.now ∷ []) }
@@ -42,6 +49,7 @@ fn keep(records: &mut Vec<Vec<String>>, alloc: Global, words: &[String]) -> Resu
     Ok(())
 }
 
+/// The text with an ending.
 fn joined(alloc: Global, text: &str, ending: &str) -> Result<String, AllocError>
     ensures { IfOk result (λ t. string_bytes t ≡ text.now ++ ending.now) }
 {
@@ -50,6 +58,7 @@ fn joined(alloc: Global, text: &str, ending: &str) -> Result<String, AllocError>
     Ok(message)
 }
 
+/// The message of `puts ?-nonewline? stderr text`: the text, with a newline unless there is an option.
 fn message_of(alloc: Global, words: &[String]) -> Result<Option<String>, AllocError>
     ensures { IfOk result (λ m. option_map string_bytes m ≡ message_in (map string_bytes words.now)) }
 {
@@ -60,6 +69,7 @@ fn message_of(alloc: Global, words: &[String]) -> Result<Option<String>, AllocEr
     }
 }
 
+/// The value of a variable of this environment, if it is set.
 fn value_of(
     alloc: Global,
     environment: &[(String, String)],
@@ -102,10 +112,10 @@ impl Host for Recorder {
             }
             HostAnswer::Done(String::new(self.alloc))
         } else if name.as_str() == "puts" {
-            let Ok(said) = message_of(self.alloc, words) else {
+            let Ok(text) = message_of(self.alloc, words) else {
                 return HostAnswer::OutOfMemory;
             };
-            let Some(message) = said else {
+            let Some(message) = text else {
                 return HostAnswer::Unknown;
             };
             if self.messages.push(message).is_err() {

@@ -1,11 +1,10 @@
-//! Small scripts and what they come to, by computation: one for each of the main rules.
-
+//! Worked examples: small scripts and their outcomes, by computation, one for each of the main rules.
 ghost use Rattle.std.specs.Prelude.{[], ◌∷◌, true, codes};
 ghost use Rattle.tclchars.specs.declared.fault.TextFault.TheVariants as text;
 ghost use Rattle.tclrules.specs.Derivation.{BadText, TooManyCommands, TooDeep, ValueTooLong, ByHost};
 ghost use Rattle.tclrules.specs.Shown.{standard, with_commands, with_depth, with_bytes, setenv_words, Results, RaisesOn, Stops, HostStops, HostIsTold};
 
-/// Worked examples of the rules.
+/// Worked examples of the rules, each named for what it shows.
 pub fn worked_rows()
     ensures three_turns { Results (codes "set i 0; while {$i < 3} {incr i}") [] 8 }
     ensures three_turns_limit { Stops (with_commands 7) (codes "set i 0; while {$i < 3} {incr i}") TooManyCommands }

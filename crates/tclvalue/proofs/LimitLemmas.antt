@@ -1,4 +1,4 @@
--- What the limit on a value says of a text many times.
+-- A text repeated, within and beyond the limit on a value.
 use Rattle.std.proofs.Common.{◌≡◌, ℕ, ◌*◌, ◌<◌, ◌≤◌, [], length, Ok, Err, refl, sym, ap, ◌∙◌, arith}
 use Rattle.std.specs.List.{repeat}
 use Rattle.std.proofs.lemmas.Bool.{le-leb, lt-leb}

@@ -1,5 +1,5 @@
 -- The commands of values: list, llength, lindex, lrange, split, join, concat and string (Tcl's pages of these names). A
--- command is a function from the words behind its name to its answer.
+-- command is a function from the words after its name to its answer.
 use Rattle.std.specs.Prelude.{ℕ, List, [], ◌∷◌, ◌++◌, length, Bool, ◌||◌, if◌then◌else◌, Option, Some, None, Ok, Err, codes, bytes_eq, decimal}
 use Rattle.std.specs.declared.cmp.Ordering.{Ordering}
 use Rattle.std.specs.declared.cmp.Ordering.TheVariants.{Less, Equal, Greater}
@@ -19,6 +19,7 @@ use Rattle.tclvalue.specs.Globs.{glob}
 use Rattle.tclvalue.specs.Characters.{trimmed, trimmed_left, trimmed_right, characters_between, parts, joined, concatenated}
 use Rattle.tclvalue.specs.Characters.{white_space, split_space}
 
+-- a command, as a function of the words after its name
 abbrev pub ValueFunction : Type 0
 ValueFunction = List Text → Answer Text
 
@@ -26,7 +27,7 @@ ValueFunction = List Text → Answer Text
 abbrev pub wrong_number : Text → Answer Text
 wrong_number name = Err (error (wrong_words name))
 
--- an order as a number, and a place as a number, which is -1 where there is none
+-- an order as -1, 0 or 1, and a position as a number, which is -1 where there is none
 abbrev pub order_text : Ordering → Text
 order_text Less = codes "-1"
 order_text Equal = codes "0"
@@ -36,11 +37,11 @@ abbrev pub place_text : Option ℕ → Text
 place_text None = codes "-1"
 place_text (Some k) = decimal k
 
--- the place of a text in another, found so; a text without characters has none
+-- the position of a text in another by this search; the empty text is never found
 abbrev pub sought_place : (Text → Text → Option ℕ) → Text → Text → Option ℕ
 sought_place find sought t = if is_nil sought then None else find (chars sought) (chars t)
 
--- the subcommands of string
+-- the subcommands of string, by the head of string(n)
 abbrev pub string_length : ValueFunction
 string_length (t ∷ []) = Ok (decimal (length (chars t)))
 string_length words = wrong_number (codes "string")
@@ -96,7 +97,7 @@ string_trimright (t ∷ []) = Ok (trimmed_right white_space t)
 string_trimright (t ∷ set ∷ []) = Ok (trimmed_right set t)
 string_trimright words = wrong_number (codes "string")
 
--- an option that is left out; a word is one only where more words stand than the two operands
+-- the options of string, which are unsupported; a word is one only where the two operands follow
 abbrev pub is_option : Text → Bool
 is_option word = bytes_eq word (codes "-nocase") || bytes_eq word (codes "-length")
 
@@ -112,7 +113,7 @@ unless_option (Some word) answer = Err (left_out (codes "string " ++ word))
 abbrev pub with_options : ValueFunction → ValueFunction
 with_options command words = unless_option (option_in words) (command words)
 
--- the subcommand of string of this name
+-- the subcommand of string of this name; any other is unsupported
 abbrev pub subcommand_named : Text → Option ValueFunction
 subcommand_named name =
     if bytes_eq name (codes "length") then Some string_length
@@ -134,14 +135,14 @@ abbrev pub subcommand_value : Text → List Text → Option ValueFunction → An
 subcommand_value name words None = Err (left_out (codes "string " ++ name))
 subcommand_value name words (Some command) = command words
 
--- the item of a list at an index, or nothing where it is outside
+-- the element of a list at an index, or the empty text outside of the list
 abbrev pub element_at : Index → List Text → Text
 element_at i es = unwrap_or (item_at (place (length es) i) es) []
 
 abbrev pub elements_between : Index → Index → List Text → List Text
 elements_between i j es = items_between (place (length es) i) (place (length es) j) es
 
--- the commands
+-- the commands on lists, and string
 abbrev pub list_command : ValueFunction
 list_command elements = Ok (list_text elements)
 

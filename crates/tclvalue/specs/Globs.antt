@@ -1,17 +1,18 @@
--- Which texts match a pattern (string(n), match), as a test beside the relation IsMatch. Patterns and texts are lists
--- of characters.
+-- Which texts match a pattern (string(n), match), as a test that computes beside the relation IsMatch of tclpattern.
+-- Patterns and texts are lists of characters here.
 use Rattle.std.specs.Prelude.{◌≡◌, ◌↔◌, ℕ, [], ◌∷◌, Bool, true, false, ◌||◌, ◌&&◌, ◌==◌, if◌then◌else◌, Option, Some, None}
 use Rattle.std.specs.Str.{chars}
 use Rattle.tclchars.specs.Runs.{Text}
 use Rattle.tclpattern.specs.Patterns.{star, question, open_bracket, close_bracket, backslash, dash, is_between, behind_close, IsMatch}
 
+-- the pattern after the closing bracket, where the item has the character; else what more answers
 abbrev pub where_holds : Bool → Text → Option Text → Option Text
 where_holds true ps more = Some (behind_close ps)
 where_holds false ps more = more
 
--- What a pattern goes on with behind a set that holds the character, from behind the opening bracket. The items of the
--- set are read from the left: a range of two characters, or a character. The set doesn't hold it where a closing
--- bracket stands in an item's place, where the pattern ends there, or where it ends directly behind a dash
+-- The rest of a pattern after a set that has the character. The set is given from after its opening bracket, and its
+-- items are read from the left: a range of two characters, or a character. None where it doesn't have the character:
+-- a closing bracket comes before an item with it, or the pattern ends, or ends directly after the dash of a range
 abbrev pub behind_set : ℕ → Text → Option Text
 behind_set c [] = None
 behind_set c (low ∷ []) = if low == close_bracket then None else where_holds (low == c) [] None
@@ -22,8 +23,7 @@ behind_set c (low ∷ d ∷ high ∷ ps) =
     else if d == dash then where_holds (is_between low high c) ps (behind_set c ps)
     else where_holds (low == c) (d ∷ high ∷ ps) (behind_set c (d ∷ high ∷ ps))
 
--- what follows one character is tested by rest: behind a set, and behind a backslash with the character that it stands
--- for
+-- the rest of the pattern is judged by rest: after a set, and after a backslash with the character that it stands for
 abbrev pub after_set : (Text → Bool) → Option Text → Bool
 after_set rest None = false
 after_set rest (Some ps) = rest ps
@@ -32,8 +32,8 @@ abbrev pub after_escape : (Text → Bool) → ℕ → Text → Bool
 after_escape rest c [] = false
 after_escape rest c (p ∷ ps) = p == c && rest ps
 
--- the pattern matches the character and then what rest says of the pattern behind it. A star takes no character, or
--- this one and stays
+-- the pattern matches the character, and rest accepts the pattern after it. A star matches no character, or this one
+-- and stays
 abbrev pub matches_first : (Text → Bool) → Bool → ℕ → ℕ → Text → Bool
 matches_first rest without c p ps =
     if p == star then without || rest (p ∷ ps)
@@ -46,7 +46,7 @@ abbrev pub matches_from : (Text → Bool) → ℕ → Text → Bool
 matches_from rest c [] = false
 matches_from rest c (p ∷ ps) = matches_first rest (matches_from rest c ps) c p ps
 
--- the pattern matches no text
+-- the pattern matches the empty text
 abbrev pub matches_nothing : Text → Bool
 matches_nothing [] = true
 matches_nothing (p ∷ ps) = p == star && matches_nothing ps
@@ -59,6 +59,6 @@ matches ps (c ∷ cs) = matches_from (λ qs. matches qs cs) c ps
 abbrev pub glob : Text → Text → Bool
 glob pattern t = matches (chars pattern) (chars t)
 
--- the test is that of the relation
+-- the test decides the relation
 abbrev pub DecidesMatch : Type 0
 DecidesMatch = (pattern t : Text) → (matches pattern t ≡ true) ↔ IsMatch pattern t

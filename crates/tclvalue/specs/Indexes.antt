@@ -8,51 +8,53 @@ use Rattle.tcltext.specs.declared.number.Numeral.TheVariants as numerals
 use Rattle.tclvalue.specs.Faults.{Answer, ◌>>=◌, error, number_too_large, fraction}
 use Rattle.tclvalue.specs.Messages.{bad_index, no_whole_number}
 
--- an index: a place counted from the first item, or back from the last
+-- an index as it is spelled: counted from 0, the first item, or back from the last
 pub data Index : Type 0 where
   from_start : (place : ℤ) → Index
   from_end : (back : ℤ) → Index
 
--- what follows a text in front of another
+-- the rest of a text that begins with another; None where it doesn't
 abbrev pub after_front : Text → Text → Option Text
 after_front [] t = Some t
 after_front (c ∷ cs) [] = None
 after_front (c ∷ cs) (d ∷ ds) = if c == d then after_front cs ds else None
 
+-- the text begins with white space
 abbrev pub begins_space : Text → Bool
 begins_space [] = false
 begins_space (c ∷ cs) = is_space c
 
--- the number in an index
+-- the number that is spelled in an index; the word is the whole index, for the message
 abbrev pub index_number : Text → Numeral → Answer ℤ
 index_number word (numerals.Whole z) = Ok z
 index_number word numerals.TooLarge = Err number_too_large
 index_number word numerals.Fraction = Err fraction
 index_number word numerals.Text = Err (error (bad_index word))
 
--- no white space stands behind end-
+-- the index of a word, by its rest after end-, which begins with no white space; None where the word has no end-
 abbrev pub index_behind : Text → Option Text → Answer Index
 index_behind word (Some rest) =
     if begins_space rest then Err (error (bad_index word))
     else index_number word (numeral rest) >>= (λ z. Ok (from_end z))
 index_behind word None = index_number word (numeral word) >>= (λ z. Ok (from_start z))
 
+-- the index that a word spells
 abbrev pub index_of : Text → Answer Index
 index_of word =
     if bytes_eq word (codes "end") then Ok (from_end (pos 0))
     else index_behind word (after_front (codes "end-") word)
 
--- the place that an index names among so many items; they stand at 0 and on, and other places are outside
+-- the position of an index among so many items, counted from 0; it may lie outside of them
 abbrev pub place : ℕ → Index → ℤ
 place n (from_start z) = z
 place n (from_end z) = pos n -ℤ pos 1 -ℤ z
 
--- a place where one of so many items stands
+-- the position, where it is that of one of so many items
 abbrev pub place_among : ℕ → ℤ → Option ℕ
 place_among n (pos k) = if nat_lt k n then Some k else None
 place_among n (negsuc k) = None
 
--- the item at a place, if there is one
+-- the item at a position, if there is one
 abbrev pub item_at : {X : Type 0} → ℤ → List X → Option X
 item_at (pos k) xs = slice_get xs k
 item_at (negsuc k) xs = None
@@ -62,7 +64,7 @@ abbrev pub at_least_0 : ℤ → ℕ
 at_least_0 (pos n) = n
 at_least_0 (negsuc n) = 0
 
--- the items from one place up to and with another, as far as they are there
+-- the items from one position to another, both included, as far as there are such items
 abbrev pub items_between : {X : Type 0} → ℤ → ℤ → List X → List X
 items_between i j xs = drop (at_least_0 i) (take (at_least_0 (j +ℤ pos 1)) xs)
 

@@ -1,3 +1,4 @@
+-- The definitions that the contracts of this crate are written in: the commands of values, by their pages.
 pub use Rattle.tcloperators.specs.Faults
 pub use Rattle.tcloperators.specs.Messages
 pub use Rattle.tcloperators.specs.Elements
@@ -9,6 +10,6 @@ pub mod Characters
 pub mod Limits
 pub mod Globs
 pub mod Commands
--- for this crate's own contracts alone
+-- for private contracts of this crate alone
 pub mod Growing
 pub mod Views

@@ -1,4 +1,4 @@
--- How the contracts of `src/` see its types.
+-- What the types of `src/` stand for in this crate's contracts.
 use Rattle.std.specs.Prelude.{List, Bool, true, false, if◌then◌else◌, Option, None}
 use Rattle.tclchars.specs.Runs.{Text}
 use Rattle.tclvalue.specs.Searches.{Pair}
@@ -15,6 +15,7 @@ use Rattle.tclvalue.specs.declared.texts.Ends.{Ends}
 use Rattle.tclvalue.specs.declared.texts.Ends.TheVariants.{Both, Start, End}
 use Rattle.tclvalue.specs.declared.searches.Replacement.{Replacement}
 
+-- a command of values as its function
 abbrev pub command_view : ValueCommand → value.ValueFunction
 command_view commands.List = value.list_command
 command_view commands.Llength = value.llength_command
@@ -25,7 +26,7 @@ command_view commands.Join = value.join_command
 command_view commands.Concat = value.concat_command
 command_view commands.String = value.string_command
 
--- a subcommand of string without its options, whether it takes some, and with them
+-- a subcommand of string without its options, then whether it takes some, then with them
 abbrev pub operation : Subcommand → value.ValueFunction
 operation subcommands.Length = value.string_length
 operation subcommands.Index = value.string_index
@@ -69,6 +70,6 @@ trimmed_at Both set t = trimmed set t
 trimmed_at Start set t = trimmed_left set t
 trimmed_at End set t = trimmed_right set t
 
--- a key and the text that stands for it
+-- a key and the text that replaces it
 abbrev pub pair_view : Replacement → Pair
 pair_view r = (r.key.items, r.value.now)

@@ -1,4 +1,4 @@
-//! Texts within a limit on their bytes.
+//! Texts within the limit on the bytes of a value.
 ghost use Rattle.std.specs.Prelude.{◌≡◌, [], string_bytes, encode_utf8};
 ghost use Rattle.tcloperators.specs.Faults.{GivesText};
 ghost use Rattle.tclvalue.specs.Limits.{limited};
@@ -7,7 +7,7 @@ ghost use Rattle.tclvalue.specs.Growing.{Appends};
 use std::alloc::Global;
 use tcloperators::ValueFault;
 
-/// The text, unless it has more bytes than the limit.
+/// The text, or `ValueTooLong` where it has more bytes than the limit.
 pub(crate) fn limited(text: String, limit: usize) -> Result<String, ValueFault>
     ensures { GivesText result (limited limit (string_bytes text)) }
 {
@@ -18,7 +18,7 @@ pub(crate) fn limited(text: String, limit: usize) -> Result<String, ValueFault>
     }
 }
 
-/// A text that is being made, and how many bytes it may have.
+/// A text that grows, and how many bytes it may have.
 #[derive(Drop)]
 pub(crate) struct Bounded {
     pub(crate) text: String,
@@ -26,6 +26,7 @@ pub(crate) struct Bounded {
 }
 
 impl Bounded {
+    /// The empty text under this limit.
     pub(crate) fn new(alloc: Global, limit: usize) -> Bounded
         ensures empty { string_bytes result.text ≡ [] }
         ensures limit { result.limit ≡ limit }
@@ -36,7 +37,7 @@ impl Bounded {
         }
     }
 
-    /// Puts a text behind the others.
+    /// Appends a text. Errors: `ValueTooLong` beyond the limit, `OutOfMemory`.
     pub(crate) fn push(&mut self, piece: &str) -> Result<(), ValueFault>
         ensures { Appends result self.old self.new piece.now }
     {
@@ -47,7 +48,7 @@ impl Bounded {
         Ok(())
     }
 
-    /// Puts a character behind the others.
+    /// Appends a character. Errors: `ValueTooLong` beyond the limit, `OutOfMemory`.
     pub(crate) fn push_character(&mut self, character: char) -> Result<(), ValueFault>
         ensures { Appends result self.old self.new (encode_utf8 character) }
     {

@@ -1,4 +1,4 @@
-//! Texts as characters (string(n), split(n)).
+//! Texts as lists of characters, which are Unicode code points (string(n), split(n)).
 ghost use Rattle.std.specs.Prelude.{◌≡◌, length, IfOk, string_bytes};
 ghost use Rattle.std.specs.Str.{chars, encode_utf8_all};
 ghost use Rattle.tclvalue.specs.Characters.{is_among, without_start, without_end};
@@ -19,20 +19,21 @@ pub(crate) fn character_count(text: &str) -> usize
     text.chars().count()
 }
 
-/// The text of characters.
+/// The text that characters make.
 pub(crate) fn text_of(alloc: Global, characters: &[char]) -> Result<String, AllocError>
     ensures { IfOk result (λ s. string_bytes s ≡ encode_utf8_all characters.now) }
 {
     characters.iter().copied().collect(alloc)
 }
 
+/// Whether a character is one of a set.
 pub(crate) fn is_among(set: &[char], character: char) -> bool
     ensures { result ≡ is_among set.now character }
 {
     set.contains(&character)
 }
 
-/// What is left without the characters of a set in front.
+/// The characters without those of a set at the start.
 pub(crate) fn without_start<'a>(set: &[char], text: &'a [char]) -> &'a [char]
     ensures { result.now ≡ without_start set.now text.entry.now }
 {
@@ -46,7 +47,7 @@ pub(crate) fn without_start<'a>(set: &[char], text: &'a [char]) -> &'a [char]
     rest
 }
 
-/// What is left without the characters of a set at the end.
+/// The characters without those of a set at the end.
 pub(crate) fn without_end<'a>(set: &[char], text: &'a [char]) -> &'a [char]
     ensures { result.now ≡ without_end set.now text.entry.now }
 {

@@ -1,4 +1,4 @@
-//! The commands of values.
+//! A command of values by its words.
 ghost use Rattle.std.specs.Prelude.{map, string_bytes};
 ghost use Rattle.std.specs.Option.{option_map};
 ghost use Rattle.tclchars.specs.Answers.{Gives};
@@ -14,7 +14,7 @@ use tcloperators::ValueFault;
 /// the first names it; None for another first word, and for no word. Characters are Unicode code points. An index is a
 /// whole number counted from 0, `end` or `end-N`.
 ///
-/// Errors: `LeftOut` for a subcommand of `string`, and for an option, that is left out. Then `TclError` for a wrong
+/// Errors: `LeftOut` for a subcommand of `string`, and for an option, that is unsupported. Then `TclError` for a wrong
 /// number of words. Then the fault of the leftmost faulty word: `TclError` for what is no list, no index or no count,
 /// `Text` for a list that is too long, `NumberTooLarge`, `FractionOperand`. Then `ValueTooLong` for an answer of more
 /// bytes than the limit. `OutOfMemory` comes where memory runs out.

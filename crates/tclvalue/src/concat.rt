@@ -1,4 +1,4 @@
-//! Texts made one (concat(n)).
+//! The texts of concat(n) made one.
 ghost use Rattle.std.specs.Prelude.{◌≡◌, ◌++◌, ◌∷◌, [], map, filter, not, string_bytes, IfOk, OnOk};
 ghost use Rattle.tcloperators.specs.Operators.{is_nil};
 ghost use Rattle.tcloperators.specs.Faults.{GivesText};
@@ -10,7 +10,7 @@ use crate::texts::{Ends, trimmed_of_space};
 use std::alloc::{AllocError, Global};
 use tcloperators::ValueFault;
 
-/// The texts without the white space around them, those of nothing else left out, joined by a space.
+/// The texts, each without the white space around it and those of white space alone dropped, joined by a space.
 ///
 /// Errors: `ValueTooLong` where this has more bytes than the limit, `OutOfMemory`.
 pub fn concatenated(alloc: Global, texts: &[String], limit: usize) -> Result<String, ValueFault>
@@ -19,7 +19,7 @@ pub fn concatenated(alloc: Global, texts: &[String], limit: usize) -> Result<Str
     joined(alloc, " ", &trimmed_texts(alloc, texts)?, limit)
 }
 
-/// The texts without the white space around them, but those of nothing else.
+/// The texts without the white space around them; those of white space alone are dropped.
 fn trimmed_texts(alloc: Global, texts: &[String]) -> Result<Vec<String>, AllocError>
     ensures { IfOk result (λ v. map string_bytes v.items
         ≡ filter (λ t. not (is_nil t)) (map (trimmed white_space) (map string_bytes texts.now))) }
@@ -31,6 +31,7 @@ fn trimmed_texts(alloc: Global, texts: &[String]) -> Result<Vec<String>, AllocEr
     Ok(all)
 }
 
+/// Adds a text at the end, unless it is empty.
 fn push_unless_empty(texts: &mut Vec<String>, text: String) -> Result<(), AllocError>
     ensures { OnOk result (map string_bytes texts.new.items
         ≡ map string_bytes texts.old.items ++ filter (λ t. not (is_nil t)) (string_bytes text ∷ [])) }

@@ -1,4 +1,4 @@
-//! Indexes of lists and texts (lindex(n), string(n)).
+//! Indexes of lists and texts (lindex(n), string(n)): a whole number, `end`, or `end-N`.
 ghost use Rattle.std.specs.Prelude.{◌≡◌, ◌+ℤ◌, ℤ, pos, min, length, Some, Ok};
 ghost use Rattle.tcltext.specs.Numerals.{numeral};
 ghost use Rattle.tclchars.specs.Answers.{Gives};
@@ -11,19 +11,23 @@ use std::alloc::Global;
 use tcloperators::{ValueFault, bad_index, no_whole_number};
 use tcltext::{Numeral, read_number};
 
+/// The byte of a vertical tab.
 const VERTICAL_TAB: u8 = 11;
 
+/// The byte of a form feed.
 const FORM_FEED: u8 = 12;
 
-/// An index: a place counted from the first item, or back from the last.
+/// An index as it is spelled, before the number of items is known.
 #[derive(Clone, Copy)]
 pub(crate) enum Index {
+    /// `N`: counted from 0, the first item.
     FromStart(i64),
+    /// `end-N`: counted back from the last item.
     FromEnd(i64),
 }
 
 impl Index {
-    /// The place among so many items, where an item is there.
+    /// The position, from 0, among so many items; None outside of them.
     pub(crate) fn place(self, length: usize) -> Option<usize>
         ensures { result ≡ place_among length (place length (index_view self)) }
     {
@@ -38,7 +42,7 @@ impl Index {
         }
     }
 
-    /// How many of so many items stand before the index.
+    /// How many of so many items are before the index.
     pub(crate) fn items_before(self, length: usize) -> usize
         ensures { result ≡ min (at_least_0 (place length (index_view self))) length }
     {
@@ -51,7 +55,7 @@ impl Index {
         }
     }
 
-    /// How many of so many items stand up to and with the index.
+    /// How many of so many items are before the index or at it.
     pub(crate) fn items_through(self, length: usize) -> usize
         ensures { result ≡ min (at_least_0 (place length (index_view self) +ℤ pos 1)) length }
     {
@@ -69,7 +73,7 @@ impl Index {
     }
 }
 
-/// The index that a word names: a whole number, `end`, or `end-` and a whole number.
+/// The index that a word spells.
 pub(crate) fn index_of(alloc: Global, word: &str) -> Result<Index, ValueFault>
     ensures { Gives reason_of index_view result (index_of word.now) }
 {
@@ -82,7 +86,7 @@ pub(crate) fn index_of(alloc: Global, word: &str) -> Result<Index, ValueFault>
     }
 }
 
-/// The index that a word names with what follows its `end-`.
+/// The index of a word that is `end-` and the rest.
 fn index_behind(alloc: Global, word: &str, rest: &str) -> Result<Index, ValueFault>
     ensures { Gives reason_of index_view result (index_behind word.now (Some rest.now)) }
 {
@@ -92,6 +96,7 @@ fn index_behind(alloc: Global, word: &str, rest: &str) -> Result<Index, ValueFau
     number_in(alloc, word, rest).map(Index::FromEnd)
 }
 
+/// Whether a text begins with white space, which is no part of an index.
 fn begins_space(text: &str) -> bool
     ensures { result ≡ begins_space text.now }
 {
@@ -101,7 +106,7 @@ fn begins_space(text: &str) -> bool
     )
 }
 
-/// The number that is a part of an index.
+/// The number that is spelled in an index; the word is the whole index, for the message.
 fn number_in(alloc: Global, word: &str, number: &str) -> Result<i64, ValueFault>
     ensures { Gives reason_of (λ n. n) result (index_number word.now (numeral number.now)) }
 {
@@ -120,7 +125,7 @@ fn number_in(alloc: Global, word: &str, number: &str) -> Result<i64, ValueFault>
 pub fn count_of(alloc: Global, word: &str) -> Result<i64, ValueFault>
     ensures value { Gives reason_of (λ n. n) result (count_of word.now) }
 
-    // Memory is wanted for a message alone.
+    // Memory is needed for a message alone.
     ensures sure { (n : ℤ) → count_of word.now ≡ Ok n → result ≡ Ok n }
 {
     match read_number(word) {
@@ -131,7 +136,7 @@ pub fn count_of(alloc: Global, word: &str) -> Result<i64, ValueFault>
     }
 }
 
-/// The items from one index up to and with another, as far as they are there.
+/// The items from one index to another, both included, as far as there are such items.
 pub(crate) fn between<T>(items: &[T], first: Index, last: Index) -> &[T]
     ensures { result.now ≡ items_between (place (length items.entry.now) (index_view first))
         (place (length items.entry.now) (index_view last)) items.entry.now }

@@ -1,4 +1,4 @@
-//! What holds of the definitions that the contracts cite.
+//! Theorems of the commands of values.
 ghost use Rattle.tclvalue.specs.Globs.{DecidesMatch};
 
 /// `string match` answers 1 exactly where the text matches the pattern.

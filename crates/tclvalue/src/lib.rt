@@ -1,4 +1,6 @@
-//! Values of Tcl: the operators of expr(n), and the commands on lists and texts.
+//! Tcl's commands on lists and texts alone: list, llength, lindex, lrange, split, join, concat, string (their pages).
+//! Takes memory and touches nothing else. Hands on the operators and faults of tcloperators.
+//! Used by tclrules, whose rules they are part of, and by the crates that evaluate: tclforms, tclcommands.
 #![tactic(auto)]
 
 mod bounded;

@@ -17,7 +17,7 @@ use crate::texts::{parts, parts_at_space};
 use std::alloc::Global;
 use tcloperators::{ValueFault, elements, wrong_words};
 
-/// The answer of a command of values to its words, within a limit on its bytes.
+/// The answer of a command of values to the words after its name, within a limit on its bytes.
 pub(crate) fn value_of(
     alloc: Global,
     command: ValueCommand,
@@ -41,6 +41,7 @@ pub(crate) fn value_of(
     }
 }
 
+/// `llength list`
 fn llength_value(alloc: Global, words: &[String], limit: usize) -> Result<String, ValueFault>
     ensures { GivesWithin limit result (llength_command (map string_bytes words.now)) }
 {
@@ -50,6 +51,7 @@ fn llength_value(alloc: Global, words: &[String], limit: usize) -> Result<String
     }
 }
 
+/// `lindex list ?index?`
 fn lindex_value(alloc: Global, words: &[String], limit: usize) -> Result<String, ValueFault>
     ensures { GivesWithin limit result (lindex_command (map string_bytes words.now)) }
 {
@@ -60,7 +62,7 @@ fn lindex_value(alloc: Global, words: &[String], limit: usize) -> Result<String,
     }
 }
 
-/// The answer of `lindex` to a list of these elements and an index, within a limit on its bytes.
+/// `lindex` of a list with these elements.
 fn indexed_element(
     alloc: Global,
     elements: &[String],
@@ -74,7 +76,7 @@ fn indexed_element(
     limited(String::from_str(alloc, element_at(elements, index))?, limit)
 }
 
-/// The element at an index, or the empty text where the index is outside.
+/// The element at an index, or the empty text outside of the list.
 fn element_at(elements: &[String], index: Index) -> &str
     ensures { result.now ≡ element_at (index_view index) (map string_bytes elements.entry.now) }
 {
@@ -84,6 +86,7 @@ fn element_at(elements: &[String], index: Index) -> &str
     }
 }
 
+/// `lrange list first last`
 #[tactic(auto, using(crate::proofs::CommandLemmas::too_few_to_range, crate::proofs::CommandLemmas::too_many_to_range))]
 fn lrange_value(alloc: Global, words: &[String], limit: usize) -> Result<String, ValueFault>
     ensures { GivesWithin limit result (lrange_command (map string_bytes words.now)) }
@@ -94,7 +97,7 @@ fn lrange_value(alloc: Global, words: &[String], limit: usize) -> Result<String,
     }
 }
 
-/// The answer of `lrange` to a list of these elements and two indexes, within a limit on its bytes.
+/// `lrange` of a list with these elements.
 fn range_text(
     alloc: Global,
     elements: &[String],
@@ -113,7 +116,7 @@ fn range_text(
     )
 }
 
-/// The elements from one index up to and with another, as far as they are there.
+/// The elements from one index to another, both included, as far as there are such elements.
 fn elements_between(elements: &[String], first: Index, last: Index) -> &[String]
     ensures { map string_bytes result.now ≡ elements_between (index_view first) (index_view last)
         (map string_bytes elements.entry.now) }
@@ -121,6 +124,7 @@ fn elements_between(elements: &[String], first: Index, last: Index) -> &[String]
     between(elements, first, last)
 }
 
+/// `split text ?characters?`
 #[tactic(auto, using(crate::proofs::CommandLemmas::too_few_to_split, crate::proofs::CommandLemmas::too_many_to_split))]
 fn split_value(alloc: Global, words: &[String], limit: usize) -> Result<String, ValueFault>
     ensures { GivesWithin limit result (split_command (map string_bytes words.now)) }
@@ -132,6 +136,7 @@ fn split_value(alloc: Global, words: &[String], limit: usize) -> Result<String, 
     }
 }
 
+/// `join list ?separator?`
 fn join_value(alloc: Global, words: &[String], limit: usize) -> Result<String, ValueFault>
     ensures { GivesWithin limit result (join_command (map string_bytes words.now)) }
 {

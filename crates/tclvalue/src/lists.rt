@@ -1,4 +1,4 @@
-//! Texts made of others: lists, and texts joined.
+//! The text of a list, and texts joined (list(n), join(n)).
 ghost use Rattle.std.specs.Prelude.{◌≡◌, map, IfOk, string_bytes};
 ghost use Rattle.tcllist.specs.Lists.{list_text};
 ghost use Rattle.tcloperators.specs.Faults.{GivesText};
@@ -12,7 +12,7 @@ use std::alloc::{AllocError, Global};
 use tcllist::write_list;
 use tcloperators::ValueFault;
 
-/// The texts as slices.
+/// The texts as slices, as the writer of lists takes them.
 fn slices(alloc: Global, texts: &[String]) -> Result<Vec<&str>, AllocError>
     ensures { IfOk result (λ v. map (λ s. s.now) v.items ≡ map string_bytes texts.entry.now) }
 {
@@ -23,14 +23,14 @@ fn slices(alloc: Global, texts: &[String]) -> Result<Vec<&str>, AllocError>
     Ok(slices)
 }
 
-/// The text of the list with these elements.
+/// The text of the list with these elements, as list(n) writes it.
 pub fn list_text(alloc: Global, elements: &[String]) -> Result<String, AllocError>
     ensures { IfOk result (λ t. string_bytes t ≡ list_text (map string_bytes elements.now)) }
 {
     write_list(alloc, &slices(alloc, elements)?)
 }
 
-/// Puts texts behind another, with a separator between them.
+/// Appends texts with a separator between them.
 fn push_joined(out: &mut Bounded, separator: &str, texts: &[String]) -> Result<(), ValueFault>
     ensures { Appends result out.old out.new (joined separator.now (map string_bytes texts.now)) }
 {
@@ -43,7 +43,7 @@ fn push_joined(out: &mut Bounded, separator: &str, texts: &[String]) -> Result<(
     }
 }
 
-/// Puts texts behind another, each behind a separator.
+/// Appends texts with a separator before each.
 fn push_joined_rest(out: &mut Bounded, separator: &str, texts: &[String]) -> Result<(), ValueFault>
     ensures { Appends result out.old out.new (joined_rest separator.now (map string_bytes texts.now)) }
 {
@@ -56,7 +56,7 @@ fn push_joined_rest(out: &mut Bounded, separator: &str, texts: &[String]) -> Res
     Ok(())
 }
 
-/// The texts of rows of characters.
+/// The texts of runs of characters.
 pub(crate) fn texts_of(alloc: Global, rows: &[&[char]]) -> Result<Vec<String>, AllocError>
     ensures { IfOk result (λ v. map string_bytes v.items ≡ encoded_all (map (λ r. r.now) rows.now)) }
 {

@@ -1,9 +1,9 @@
-//! The names of the commands of values.
+//! The commands of values and the subcommands of `string`, by their names.
 ghost use Rattle.std.specs.Prelude.{◌≡◌, option_map};
 ghost use Rattle.tclvalue.specs.Commands.{command_named, subcommand_named, is_option};
 ghost use Rattle.tclvalue.specs.Views.{command_view, subcommand_view, takes_options};
 
-/// A command of values.
+/// A command of values, named as in Tcl.
 #[derive(Clone, Copy)]
 pub(crate) enum ValueCommand {
     List,
@@ -16,7 +16,7 @@ pub(crate) enum ValueCommand {
     String,
 }
 
-/// A subcommand of `string`.
+/// A subcommand of `string`, named as in Tcl.
 #[derive(Clone, Copy)]
 pub(crate) enum Subcommand {
     Length,
@@ -73,7 +73,7 @@ pub(crate) fn subcommand_named(name: &str) -> Option<Subcommand>
     }
 }
 
-/// Whether the subcommand takes options before its two operands.
+/// Whether the subcommand takes options before its two operands in Tcl.
 pub(crate) fn takes_options(command: Subcommand) -> bool
     ensures { result ≡ takes_options command }
 {
@@ -83,7 +83,7 @@ pub(crate) fn takes_options(command: Subcommand) -> bool
     )
 }
 
-/// Whether a word is an option that is left out.
+/// Whether a word is one of the options of `string`, which are unsupported.
 pub(crate) fn is_option(word: &str) -> bool
     ensures { result ≡ is_option word.now }
 {

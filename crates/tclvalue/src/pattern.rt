@@ -4,7 +4,7 @@ ghost use Rattle.tclvalue.specs.Globs.{glob};
 
 use tcltext::glob_match;
 
-/// Whether the text matches the pattern. It takes no memory.
+/// Whether the text matches the pattern: `*`, `?`, sets in brackets and backslashes. It takes no memory.
 pub fn glob(pattern: &str, text: &str) -> bool
     ensures { result ≡ glob pattern.now text.now }
 {

@@ -1,4 +1,4 @@
-//! Searches in texts, and replacements (string(n)).
+//! Searches in texts, and replacements (string(n), first, last, map).
 ghost use Rattle.std.specs.Prelude.{◌≡◌, ◌<◌, ◌-◌, ◌++◌, length, drop, map, string_bytes, IfOk, IfErr, OnOk};
 ghost use Rattle.std.specs.Option.{option_map, option_copied};
 ghost use Rattle.std.specs.Str.{chars};
@@ -14,7 +14,7 @@ use crate::characters::characters;
 use std::alloc::Global;
 use tcloperators::{ValueFault, not_a_list};
 
-/// The first place at which a text stands in another.
+/// The first position at which a text stands in another.
 pub(crate) fn first_place(sought: &[char], text: &[char]) -> Option<usize>
     ensures { result ≡ first_place sought.now text.now }
 {
@@ -28,7 +28,7 @@ pub(crate) fn first_place(sought: &[char], text: &[char]) -> Option<usize>
     None
 }
 
-/// The last place at which a text stands in another.
+/// The last position at which a text stands in another.
 pub(crate) fn last_place(sought: &[char], text: &[char]) -> Option<usize>
     ensures { result ≡ last_place sought.now text.now }
 {
@@ -42,21 +42,21 @@ pub(crate) fn last_place(sought: &[char], text: &[char]) -> Option<usize>
     last
 }
 
-/// A key, and the text that stands for it.
+/// A key, and the text that replaces it.
 #[derive(Drop)]
 pub(crate) struct Replacement<'a> {
     pub(crate) key: Vec<char>,
     pub(crate) value: &'a str,
 }
 
-/// Whether the key stands at the front of a text; an empty key never does.
+/// Whether a text begins with the key; an empty key never fits.
 fn fits(text: &[char], replacement: &Replacement) -> bool
     ensures { result ≡ fits text.now (pair_view replacement.now) }
 {
     !replacement.key.is_empty() && text.starts_with(&replacement.key)
 }
 
-/// The first of the replacements whose key stands at the front of a text.
+/// The first of the replacements whose key a text begins with.
 fn first_fit<'a, 'b>(
     replacements: &'a [Replacement<'b>],
     text: &[char],
@@ -74,7 +74,7 @@ fn first_fit<'a, 'b>(
     None
 }
 
-/// Puts a text behind another, with the first key that fits replaced at each place.
+/// Appends a text in which, from left to right, the first key that fits is replaced.
 fn push_mapped(
     out: &mut Bounded,
     replacements: &[Replacement],
@@ -89,7 +89,9 @@ fn push_mapped(
     Ok(())
 }
 
-/// The text with the first key that fits replaced at each place, unless this would pass the limit.
+/// The text in which, from left to right, the first key that fits is replaced (string(n), map).
+///
+/// Errors: `ValueTooLong` beyond the limit, `OutOfMemory`.
 pub(crate) fn mapped(
     alloc: Global,
     replacements: &[Replacement],
@@ -104,7 +106,7 @@ pub(crate) fn mapped(
     limited(out.text, limit)
 }
 
-/// Puts what stands for the front of a text behind another, and leaves the rest of the text.
+/// Appends the first character of a text, or what replaces the key that it begins with. Gives the rest of the text.
 fn push_front<'a>(
     out: &mut Bounded,
     replacements: &[Replacement],
@@ -133,14 +135,16 @@ fn push_front<'a>(
     }
 }
 
-/// What follows a key, but for its first character, in a text.
+/// What follows a key in a text that goes on after the first character of the key.
 fn after_key<'a>(found: &Replacement, text: &'a [char]) -> &'a [char]
     ensures { result.now ≡ drop (length (pair_view found.now).0 - 1) text.entry.now }
 {
     text.get(found.key.len().saturating_sub(1)..).unwrap_or(&[])
 }
 
-/// The keys and values of a list.
+/// The keys and values in the elements of a list, by turns.
+///
+/// Errors: `TclError` where the last key has no value, `OutOfMemory`.
 pub(crate) fn replacements(
     alloc: Global,
     elements: &[String],

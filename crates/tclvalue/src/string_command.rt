@@ -1,4 +1,4 @@
-//! The command `string` (string(n)).
+//! The command `string` with its subcommands (string(n)).
 ghost use Rattle.std.specs.Prelude.{◌≡◌, map, option_map, string_bytes, IfOk};
 ghost use Rattle.tclvalue.specs.Searches.{first_place, last_place};
 ghost use Rattle.tclvalue.specs.Commands.{subcommand_value, subcommand_named, option_in, order_text, place_text, sought_place};
@@ -38,7 +38,7 @@ pub(crate) fn string_value(
     operation_value(alloc, command, operands, limit)
 }
 
-/// The option among the operands of a subcommand.
+/// The option among the operands of a subcommand that takes options.
 fn option_of(command: Subcommand, operands: &[String]) -> Option<&str>
     ensures { option_map (λ w. w.now) result ≡ option_of command (map string_bytes operands.entry.now) }
 {
@@ -49,7 +49,7 @@ fn option_of(command: Subcommand, operands: &[String]) -> Option<&str>
     }
 }
 
-/// The option in front of two operands at least.
+/// The first operand, where it is an option and two operands at least follow.
 fn option_in(operands: &[String]) -> Option<&str>
     ensures { option_map (λ w. w.now) result ≡ option_in (map string_bytes operands.entry.now) }
 {
@@ -85,6 +85,7 @@ fn operation_value(
     }
 }
 
+/// `string length text`
 fn length_value(alloc: Global, operands: &[String], limit: usize) -> Result<String, ValueFault>
     ensures { GivesWithin limit result (string_length (map string_bytes operands.now)) }
 {
@@ -94,6 +95,7 @@ fn length_value(alloc: Global, operands: &[String], limit: usize) -> Result<Stri
     }
 }
 
+/// `string index text index`
 fn index_value(alloc: Global, operands: &[String], limit: usize) -> Result<String, ValueFault>
     ensures { GivesWithin limit result (string_index (map string_bytes operands.now)) }
 {
@@ -106,6 +108,7 @@ fn index_value(alloc: Global, operands: &[String], limit: usize) -> Result<Strin
     }
 }
 
+/// `string range text first last`
 fn range_value(alloc: Global, operands: &[String], limit: usize) -> Result<String, ValueFault>
     ensures { GivesWithin limit result (string_range (map string_bytes operands.now)) }
 {
@@ -119,6 +122,7 @@ fn range_value(alloc: Global, operands: &[String], limit: usize) -> Result<Strin
     }
 }
 
+/// `string equal text text`
 fn equal_value(alloc: Global, operands: &[String], limit: usize) -> Result<String, ValueFault>
     ensures { GivesWithin limit result (string_equal (map string_bytes operands.now)) }
 {
@@ -128,6 +132,7 @@ fn equal_value(alloc: Global, operands: &[String], limit: usize) -> Result<Strin
     }
 }
 
+/// `string compare text text`
 fn compare_value(alloc: Global, operands: &[String], limit: usize) -> Result<String, ValueFault>
     ensures { GivesWithin limit result (string_compare (map string_bytes operands.now)) }
 {
@@ -137,6 +142,7 @@ fn compare_value(alloc: Global, operands: &[String], limit: usize) -> Result<Str
     }
 }
 
+/// An order as -1, 0 or 1.
 fn order_text(alloc: Global, order: Ordering) -> Result<String, AllocError>
     ensures { IfOk result (λ t. string_bytes t ≡ order_text order) }
 {
@@ -148,6 +154,7 @@ fn order_text(alloc: Global, order: Ordering) -> Result<String, AllocError>
     String::from_str(alloc, text)
 }
 
+/// `string match pattern text`
 fn match_value(alloc: Global, operands: &[String], limit: usize) -> Result<String, ValueFault>
     ensures { GivesWithin limit result (string_match (map string_bytes operands.now)) }
 {
@@ -157,6 +164,7 @@ fn match_value(alloc: Global, operands: &[String], limit: usize) -> Result<Strin
     }
 }
 
+/// `string first sought text`
 fn first_value(alloc: Global, operands: &[String], limit: usize) -> Result<String, ValueFault>
     ensures { GivesWithin limit result (string_first (map string_bytes operands.now)) }
 {
@@ -166,6 +174,7 @@ fn first_value(alloc: Global, operands: &[String], limit: usize) -> Result<Strin
     }
 }
 
+/// `string last sought text`
 fn last_value(alloc: Global, operands: &[String], limit: usize) -> Result<String, ValueFault>
     ensures { GivesWithin limit result (string_last (map string_bytes operands.now)) }
 {
@@ -175,6 +184,7 @@ fn last_value(alloc: Global, operands: &[String], limit: usize) -> Result<String
     }
 }
 
+/// The position of the first character of the first copy of a text in another; an empty one is never found.
 fn first_of(alloc: Global, sought: &str, text: &str) -> Result<Option<usize>, AllocError>
     ensures { IfOk result (λ p. p ≡ sought_place first_place sought.now text.now) }
 {
@@ -186,6 +196,7 @@ fn first_of(alloc: Global, sought: &str, text: &str) -> Result<Option<usize>, Al
     Ok(first_place(&sought, &text))
 }
 
+/// The position of the first character of the last copy of a text in another; an empty one is never found.
 fn last_of(alloc: Global, sought: &str, text: &str) -> Result<Option<usize>, AllocError>
     ensures { IfOk result (λ p. p ≡ sought_place last_place sought.now text.now) }
 {
@@ -197,7 +208,7 @@ fn last_of(alloc: Global, sought: &str, text: &str) -> Result<Option<usize>, All
     Ok(last_place(&sought, &text))
 }
 
-/// A place as a number; -1 where there is none.
+/// A position as a number; -1 where there is none.
 fn place_text(alloc: Global, place: Option<usize>) -> Result<String, AllocError>
     ensures { IfOk result (λ t. string_bytes t ≡ place_text place) }
 {
@@ -207,6 +218,7 @@ fn place_text(alloc: Global, place: Option<usize>) -> Result<String, AllocError>
     }
 }
 
+/// `string map list text`
 fn map_value(alloc: Global, operands: &[String], limit: usize) -> Result<String, ValueFault>
     ensures { GivesWithin limit result (string_map (map string_bytes operands.now)) }
 {
@@ -219,6 +231,7 @@ fn map_value(alloc: Global, operands: &[String], limit: usize) -> Result<String,
     }
 }
 
+/// `string repeat text count`
 fn repeat_value(alloc: Global, operands: &[String], limit: usize) -> Result<String, ValueFault>
     ensures { GivesWithin limit result (string_repeat (map string_bytes operands.now)) }
 {
@@ -231,6 +244,7 @@ fn repeat_value(alloc: Global, operands: &[String], limit: usize) -> Result<Stri
     }
 }
 
+/// `string trim text ?characters?`
 fn trim_value(alloc: Global, operands: &[String], limit: usize) -> Result<String, ValueFault>
     ensures { GivesWithin limit result (string_trim (map string_bytes operands.now)) }
 {
@@ -241,6 +255,7 @@ fn trim_value(alloc: Global, operands: &[String], limit: usize) -> Result<String
     }
 }
 
+/// `string trimleft text ?characters?`
 fn trim_left_value(alloc: Global, operands: &[String], limit: usize) -> Result<String, ValueFault>
     ensures { GivesWithin limit result (string_trimleft (map string_bytes operands.now)) }
 {
@@ -251,6 +266,7 @@ fn trim_left_value(alloc: Global, operands: &[String], limit: usize) -> Result<S
     }
 }
 
+/// `string trimright text ?characters?`
 fn trim_right_value(alloc: Global, operands: &[String], limit: usize) -> Result<String, ValueFault>
     ensures { GivesWithin limit result (string_trimright (map string_bytes operands.now)) }
 {

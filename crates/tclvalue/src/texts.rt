@@ -1,4 +1,4 @@
-//! Commands on texts (string(n), split(n), concat(n)).
+//! Texts trimmed, cut, split and repeated (string(n), split(n)).
 ghost use Rattle.std.specs.Prelude.{◌≡◌, ◌∷◌, [], map, string_bytes, IfOk};
 ghost use Rattle.std.specs.List.{repeat, slice_split};
 ghost use Rattle.tcloperators.specs.Faults.{GivesText};
@@ -14,13 +14,13 @@ use crate::lists::texts_of;
 use std::alloc::{AllocError, Global};
 use tcloperators::ValueFault;
 
-/// Space, tab, newline, vertical tab, form feed and carriage return.
+/// What string(n) trims by itself: space, tab, newline, vertical tab, form feed and carriage return.
 const WHITE_SPACE: &str = " \t\n\u{b}\u{c}\r";
 
-/// What splits a text where nothing else is said: space, newline, tab and carriage return.
+/// What split(n) splits at by itself: space, newline, tab and carriage return.
 const SPLIT_SPACE: &str = " \n\t\r";
 
-/// At which ends a text is trimmed.
+/// The ends at which a text is trimmed.
 #[derive(Clone, Copy)]
 pub(crate) enum Ends {
     Both,
@@ -28,7 +28,7 @@ pub(crate) enum Ends {
     End,
 }
 
-/// The text without the characters of another at its ends.
+/// The text without the characters of a set at these ends.
 pub(crate) fn trimmed(
     alloc: Global,
     ends: Ends,
@@ -42,7 +42,7 @@ pub(crate) fn trimmed(
     text_of(alloc, without(ends, &set, &characters))
 }
 
-/// The text without the characters of another at its ends, unless it has more bytes than the limit.
+/// The text without the characters of a set at these ends, or `ValueTooLong` beyond the limit.
 pub(crate) fn trimmed_within(
     alloc: Global,
     ends: Ends,
@@ -55,7 +55,7 @@ pub(crate) fn trimmed_within(
     limited(trimmed(alloc, ends, set, text)?, limit)
 }
 
-/// The same without white space.
+/// The text without white space at these ends, or `ValueTooLong` beyond the limit.
 #[tactic(auto, unfolding(crate::specs::Characters::white_space))]
 pub(crate) fn trimmed_of_space_within(
     alloc: Global,
@@ -68,7 +68,7 @@ pub(crate) fn trimmed_of_space_within(
     trimmed_within(alloc, ends, WHITE_SPACE, text, limit)
 }
 
-/// The text without the white space at its ends.
+/// The text without white space at these ends.
 #[tactic(auto, unfolding(crate::specs::Characters::white_space))]
 pub(crate) fn trimmed_of_space(alloc: Global, ends: Ends, text: &str) -> Result<String, AllocError>
     ensures { IfOk result (λ t. string_bytes t ≡ trimmed_at ends white_space text.now) }
@@ -76,6 +76,7 @@ pub(crate) fn trimmed_of_space(alloc: Global, ends: Ends, text: &str) -> Result<
     trimmed(alloc, ends, WHITE_SPACE, text)
 }
 
+/// The characters without those of a set at these ends.
 fn without<'a>(ends: Ends, set: &[char], text: &'a [char]) -> &'a [char]
     ensures { result.now ≡ without ends set.now text.entry.now }
 {
@@ -86,7 +87,7 @@ fn without<'a>(ends: Ends, set: &[char], text: &'a [char]) -> &'a [char]
     }
 }
 
-/// The characters from one index up to and with another.
+/// The characters from one index to another, both included, as far as there are such characters.
 pub(crate) fn characters_between(
     alloc: Global,
     text: &str,
@@ -99,7 +100,7 @@ pub(crate) fn characters_between(
     text_of(alloc, between(&characters, first, last))
 }
 
-/// The pieces of a text between the characters of another.
+/// The parts of a text between the characters of a set (split(n)): without a set each character is a part.
 pub(crate) fn parts(alloc: Global, set: &str, text: &str) -> Result<Vec<String>, AllocError>
     ensures { IfOk result (λ v. map string_bytes v.items ≡ parts set.now text.now) }
 {
@@ -114,14 +115,14 @@ pub(crate) fn parts(alloc: Global, set: &str, text: &str) -> Result<Vec<String>,
     texts_of(alloc, &rows(alloc, &set, &characters)?)
 }
 
-/// The rows of characters between those of a set.
+/// The runs of characters between those of a set.
 fn rows<'a>(alloc: Global, set: &[char], text: &'a [char]) -> Result<Vec<&'a [char]>, AllocError>
     ensures { IfOk result (λ v. map (λ r. r.now) v.items ≡ slice_split (is_among set.now) text.entry.now) }
 {
     text.split(|c| is_among(set, *c)).collect(alloc)
 }
 
-/// The pieces of a text between its white space.
+/// The parts of a text between its white space (split(n) without a set).
 #[tactic(auto, unfolding(crate::specs::Characters::split_space))]
 pub(crate) fn parts_at_space(alloc: Global, text: &str) -> Result<Vec<String>, AllocError>
     ensures { IfOk result (λ v. map string_bytes v.items ≡ parts split_space text.now) }
@@ -140,7 +141,7 @@ fn single_texts(alloc: Global, characters: &[char]) -> Result<Vec<String>, Alloc
     Ok(texts)
 }
 
-/// The text so many times, unless it would pass the limit.
+/// The text so many times (string(n), repeat), or `ValueTooLong` beyond the limit.
 #[tactic(auto, using(crate::proofs::LimitLemmas::no_copies, crate::proofs::LimitLemmas::few_copies, crate::proofs::LimitLemmas::many_copies))]
 pub(crate) fn repeated(
     alloc: Global,
@@ -162,6 +163,7 @@ pub(crate) fn repeated(
     Ok(copies(alloc, text, count)?)
 }
 
+/// The text so many times, whatever its length.
 fn copies(alloc: Global, text: &str, count: usize) -> Result<String, AllocError>
     ensures { IfOk result (λ t. string_bytes t ≡ repeat count text.now) }
 {

@@ -1,4 +1,4 @@
--- Maps with strings as keys read as rows of names.
+-- Maps with strings as keys, read as lists of names with values.
 use Rattle.std.proofs.Common.{◌≡◌, ℕ, Bool, true, false, cond, List, [], ◌∷◌, Option, Some, None, map, String, Global, is_some, refl, ap}
 use Rattle.std.specs.Borrow.{Bor}
 use Rattle.std.specs.Option.{option_map, option_copied}
@@ -34,7 +34,7 @@ module _ {A B : Type 0} (f : A → B) where
       go true h = refl
       go false h = ap (λ r. (string_bytes e.0, f e.1) ∷ r) h
 
-  -- a name that is there keeps its place
+  -- a name that is there stays where it is
   pub set_named : (es : List (String Global × A)) (q : List ℕ) (v : A) → is_some (pairs.lookup (λ k. bytes_eq q (string_bytes k)) es) ≡ true → named (pairs.set_value (λ k. bytes_eq q (string_bytes k)) es v) ≡ store (named es) q (f v)
   set_named [] q v h = cc
   set_named (e ∷ es) q v h = go (bytes_eq q (string_bytes e.0)) (set_named es q v) h

@@ -16,7 +16,7 @@ any_named n (k ∷ ks) = ap (λ b. bytes_eq n (string_bytes k) || b) (any_named 
 pub with_there : (n : Text) (ks : List (String Global)) → list_any (λ k. bytes_eq n (string_bytes k)) ks ≡ true → map string_bytes ks ≡ with_name (map string_bytes ks) n
 with_there n ks h = rw (sym (any_named n ks) ∙ h) refl
 
--- a key that is inserted is the name, in its place behind the others
+-- a key that is inserted is the name, at the end of the others
 pub with_inserted : (ks new : List (String Global)) (k : String Global) → new ≡ insert_key string_eq ks k → map string_bytes new ≡ with_name (map string_bytes ks) (string_bytes k)
 with_inserted ks new k e = ap (map string_bytes) e ∙ go (list_any (string_eq k) ks) refl
   where

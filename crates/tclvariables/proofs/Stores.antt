@@ -5,7 +5,7 @@ use Rattle.std.proofs.lemmas.Slice.Eq.{bytes_eq-Decides}
 use Rattle.tclchars.specs.Runs.{Text}
 use Rattle.tclvalue.specs.Faults.{Answer, ◌>>=◌, left_out}
 use Rattle.tclvalue.specs.Indexes.{after_front}
-use Rattle.tclrules.specs.Variables.{Variables, State, Frame, Place, Plain, Element, lookup, store, own_of, with_own, value_at, with_value, has_colons, unqualified, indexed, led, place_named, plain, writable, env, apart}
+use Rattle.tclrules.specs.Variables.{Variables, State, Frame, Place, Plain, Element, lookup, store, own_of, with_own, value_at, with_value, has_colons, unqualified, indexed, led, place_named, writable_scalar, writable, env, apart}
 
 same : (xs : Text) → bytes_eq xs xs ≡ true
 same xs = (bytes_eq-Decides xs xs).1 refl
@@ -51,7 +51,7 @@ led_at : (name : Text) (i r : Option Text) (q : Place) → led None name i r ≡
 led_at name i (Some rest) q h = indexed_at rest i q (unqualified_at rest _ q h)
 led_at name i None q h = indexed_at name i q (unqualified_at name _ q h)
 
-plain_at : (q : Place) (p : Bool × Text) → plain q ≡ Ok p → global_of q ≡ p.0
+plain_at : (q : Place) (p : Bool × Text) → writable_scalar q ≡ Ok p → global_of q ≡ p.0
 plain_at (Plain g n) p h = go (bytes_eq n env) h
   where
     go : (b : Bool) → cond b (Err (left_out env)) (Ok (g, n)) ≡ Ok p → g ≡ p.0
@@ -59,7 +59,7 @@ plain_at (Plain g n) p h = go (bytes_eq n env) h
     go false h = let e : (g, n) ≡ p = cc in ap (λ x. x.0) e
 plain_at (Element g i) p h = cc
 
-bound : (a : Answer Place) (p : Bool × Text) → (a >>= plain) ≡ Ok p → (q : Place) × (a ≡ Ok q) × (plain q ≡ Ok p)
+bound : (a : Answer Place) (p : Bool × Text) → (a >>= writable_scalar) ≡ Ok p → (q : Place) × (a ≡ Ok q) × (writable_scalar q ≡ Ok p)
 bound (Ok q) p h = (q, refl, h)
 bound (Err e) p h = cc
 

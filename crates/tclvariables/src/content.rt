@@ -1,11 +1,11 @@
-//! What a variable holds.
+//! What a variable holds: a text, of which may be known that it is a list.
 ghost use Rattle.std.specs.Prelude.{◌≡◌, string_bytes, true};
 ghost use Rattle.tclvariables.specs.Contents.{IsWritten};
 
 use std::marker::Model;
 
-/// The value of a variable. Of one that `lappend` wrote it is known that it is a list's text as `list` writes it, so
-/// that it need not be read again.
+/// The value of a variable. Of one that `lappend` wrote it is known that it is the text of a list as list(n) writes it,
+/// so that the next `lappend` need not parse it again.
 #[derive(Drop)]
 pub struct Content {
     text: String,
@@ -24,7 +24,7 @@ impl Model for Content {
 }
 
 impl Content {
-    /// Any text.
+    /// A text of which nothing is known.
     pub fn of_text(text: String) -> Content
         ensures { result ≡ string_bytes text }
     {
@@ -34,7 +34,7 @@ impl Content {
         }
     }
 
-    /// The text of a list, as `list` writes it.
+    /// The text of a list, as list(n) writes it.
     pub fn of_list(text: String) -> Content
         requires { IsWritten (string_bytes text) }
         ensures { result ≡ string_bytes text }
@@ -45,21 +45,21 @@ impl Content {
         }
     }
 
-    /// The text.
+    /// The text of the value.
     pub fn as_str(&self) -> &str
         ensures { result.now ≡ self.now }
     {
         self.text.as_str()
     }
 
-    /// Whether it is known to be a list's text as `list` writes it.
+    /// Whether it is known to be the text of a list, as list(n) writes it.
     pub fn is_list(&self) -> bool
         ensures { result ≡ true → IsWritten self.now }
     {
         self.is_list
     }
 
-    /// The text, to be changed.
+    /// The text of the value, owned.
     pub fn into_text(self) -> String
         ensures { string_bytes result ≡ self }
     {

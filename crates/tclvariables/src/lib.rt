@@ -1,13 +1,15 @@
-//! Variables of Tcl's scripts, where their names lead, the frame of the procedure that runs, and the procedures.
+//! The variables and procedures of a script (Tcl(n), global(n), proc(n)), and which variable a name denotes.
+//! Takes memory and touches nothing else.
+//! Used by tclforms, which binds parameters, and by the crates that evaluate: tclsubstitution, tclcommands and above.
 #![tactic(auto)]
 
 mod content;
 mod local;
-mod place;
+mod location;
 mod table;
 mod variables;
 
 pub use content::Content;
 pub use local::Local;
-pub use place::{Place, place_named, place_of, sharable, writable};
+pub use location::{Place, place_named, place_of, sharable, writable};
 pub use variables::{Parameter, Procedure, Variables};

@@ -1,4 +1,4 @@
-//! The frame of a procedure that runs.
+//! The frame of a procedure that runs: its own variables, and the global ones that it sees.
 ghost use Rattle.std.specs.Prelude.{◌≡◌, [], true, map, OnOk, OnErr, option_map, bytes_eq, string_bytes};
 ghost use Rattle.tclchars.specs.Runs.{Text};
 ghost use Rattle.tclvariables.specs.Contents.{HoldsList};
@@ -11,7 +11,7 @@ use indexmap::{IndexMap, IndexSet};
 use std::alloc::{AllocError, Global};
 use std::marker::Model;
 
-/// The variables of a procedure that runs, and the names of the global ones that it sees.
+/// The variables of a procedure that runs, and the names that denote global variables in it (global(n)).
 #[derive(Drop)]
 pub struct Local {
     own: Table,
@@ -39,19 +39,21 @@ impl Local {
         }
     }
 
-    /// Whether a name leads to a global variable.
+    /// Whether a name denotes a global variable.
     pub(crate) fn sees(&self, name: &str) -> bool
         ensures { result ≡ list_any (bytes_eq name.now) self.now.shared }
     {
         self.shared.contains(name)
     }
 
+    /// The value of a variable of the procedure.
     pub(crate) fn get(&self, name: &str) -> Option<&str>
         ensures { option_map (λ v. v.now) result ≡ lookup self.now.own name.now }
     {
         text_in(&self.own, name)
     }
 
+    /// Gives a variable of the procedure what it is to hold.
     pub(crate) fn put(
         &mut self,
         alloc: Global,
@@ -64,12 +66,14 @@ impl Local {
         put(&mut self.own, alloc, name, content)
     }
 
+    /// Whether a variable of the procedure is known to hold the text of a list, as list(n) writes it.
     pub(crate) fn holds_list(&self, name: &str) -> bool
         ensures { result ≡ true → HoldsList (lookup self.now.own name.now) }
     {
         holds_list(&self.own, name)
     }
 
+    /// Takes the text of a variable of the procedure, which is empty until it is put again.
     pub(crate) fn take(&mut self, alloc: Global, name: &str) -> Option<String>
         ensures value { option_map string_bytes result ≡ lookup self.old.own name.now }
         ensures given_back { (t : Text) → store self.new.own name.now t ≡ store self.old.own name.now t }
@@ -78,13 +82,14 @@ impl Local {
         take(&mut self.own, alloc, name)
     }
 
+    /// Unsets a variable of the procedure, if it is set.
     pub(crate) fn remove(&mut self, name: &str)
         ensures { self.new ≡ record self.old { own = without self.old.own name.now } }
     {
         remove(&mut self.own, name)
     }
 
-    /// Lets a name lead to the global variable from now on.
+    /// Lets a name denote the global variable from now on; the variable of the procedure by this name is unset.
     pub(crate) fn share(&mut self, alloc: Global, name: &str) -> Result<(), AllocError>
         ensures ok { OnOk result (self.new
             ≡ record { own = without self.old.own name.now; shared = with_name self.old.shared name.now }) }
@@ -96,7 +101,7 @@ impl Local {
     }
 }
 
-/// Adds a name behind others, unless it is among them.
+/// Adds a name at the end, unless it is among the names.
 fn add_name(names: &mut IndexSet<String>, alloc: Global, name: &str) -> Result<(), AllocError>
     ensures ok { OnOk result
         (map string_bytes names.new.keys ≡ with_name (map string_bytes names.old.keys) name.now) }

@@ -1,4 +1,4 @@
-//! Variables by name, in the order of their making.
+//! Variables by name, in the order of their making: the global ones, or those of one procedure.
 ghost use Rattle.std.specs.Prelude.{◌≡◌, true, OnOk, OnErr, option_map, string_bytes};
 ghost use Rattle.tclchars.specs.Runs.{Text};
 ghost use Rattle.tclrules.specs.Variables.{lookup, store, without};
@@ -10,8 +10,10 @@ use indexmap::IndexMap;
 use std::alloc::{AllocError, Global};
 use std::mem;
 
+/// Variables by name.
 pub(crate) type Table = IndexMap<String, Content>;
 
+/// The text of a variable.
 pub(crate) fn text_in<'a>(table: &'a Table, name: &str) -> Option<&'a str>
     ensures { option_map (λ v. v.now) result ≡ lookup (texts_of table.now.entries) name.now }
 {
@@ -21,7 +23,7 @@ pub(crate) fn text_in<'a>(table: &'a Table, name: &str) -> Option<&'a str>
     }
 }
 
-// Whether a variable is known to hold a list's text as `list` writes it.
+/// Whether a variable is known to hold the text of a list, as list(n) writes it.
 pub(crate) fn holds_list(table: &Table, name: &str) -> bool
     ensures { result ≡ true → HoldsList (lookup (texts_of table.now.entries) name.now) }
 {
@@ -31,7 +33,8 @@ pub(crate) fn holds_list(table: &Table, name: &str) -> bool
     }
 }
 
-// Takes the text of a variable, and leaves an empty one in its place.
+/// Takes the text of a variable, which holds the empty text until it is put again, so that the text can grow without a
+/// copy.
 pub(crate) fn take(table: &mut Table, alloc: Global, name: &str) -> Option<String>
     ensures value { option_map string_bytes result ≡ lookup (texts_of table.old.entries) name.now }
     ensures given_back { (t : Text) → store (texts_of table.new.entries) name.now t
@@ -46,7 +49,7 @@ pub(crate) fn take(table: &mut Table, alloc: Global, name: &str) -> Option<Strin
     }
 }
 
-// A variable gets a value, in its place where it is there.
+/// Gives a variable what it is to hold; one that is set stays where it is in the order.
 pub(crate) fn put(
     table: &mut Table,
     alloc: Global,
@@ -64,6 +67,7 @@ pub(crate) fn put(
     Ok(())
 }
 
+/// Unsets a variable, if it is set.
 pub(crate) fn remove(table: &mut Table, name: &str)
     ensures { texts_of table.new.entries ≡ without (texts_of table.old.entries) name.now }
 {

@@ -1,4 +1,4 @@
-//! Variables, the frame of the procedure that runs, and the procedures.
+//! All that an evaluation has of variables and procedures.
 ghost use Rattle.std.specs.Prelude.{◌≡◌, [], true, string_bytes, OnOk, OnErr, IfOk, option_map, is_some};
 ghost use Rattle.tclchars.specs.Runs.{Text};
 ghost use Rattle.tclvariables.specs.Contents.{HoldsList};
@@ -16,7 +16,7 @@ use std::marker::Model;
 use std::mem;
 use std::rc::Rc;
 
-/// A parameter of a procedure, with its default if it has one.
+/// A parameter of a procedure (proc(n)).
 #[derive(Drop)]
 pub struct Parameter {
     /// The name of the variable that it becomes.
@@ -25,7 +25,7 @@ pub struct Parameter {
     pub default: Option<String>,
 }
 
-/// A procedure.
+/// A procedure that proc(n) made.
 #[derive(Drop)]
 pub struct Procedure {
     /// The parameters, from left to right.
@@ -34,10 +34,10 @@ pub struct Procedure {
     pub body: String,
 }
 
-/// The global variables, the frame of the procedure that runs, the procedures, and the place of the file's command at
-/// hand.
+/// The global variables, the frame of the procedure that runs, the procedures, and how many bytes of the file precede
+/// its current command.
 ///
-/// Where a call is refused for want of memory, nothing has changed.
+/// A call that fails for `AllocError` has changed nothing.
 #[derive(Drop)]
 pub struct Variables {
     globals: Table,
@@ -76,7 +76,7 @@ impl Variables {
         self.local.is_some()
     }
 
-    /// Whether a name without colons leads to a global variable.
+    /// Whether a name without colons denotes a global variable: any does where no procedure runs.
     pub fn sees(&self, name: &str) -> bool
         ensures { result ≡ sees self.now.frame name.now }
     {
@@ -86,7 +86,7 @@ impl Variables {
         }
     }
 
-    /// The value of a variable: of a global one, or of one of the procedure that runs.
+    /// The value of a variable: of a global one, or of one of the procedure that runs; None where it is unset.
     pub fn get(&self, global: bool, name: &str) -> Option<&str>
         ensures { option_map (λ v. v.now) result ≡ value_at self.now (global, name.now) }
     {
@@ -113,7 +113,7 @@ impl Variables {
         self.put(alloc, global, name, Content::of_text(value))
     }
 
-    /// Gives a variable what it is to hold.
+    /// Gives a variable what it is to hold, as `set`.
     pub fn put(
         &mut self,
         alloc: Global,
@@ -133,7 +133,7 @@ impl Variables {
         }
     }
 
-    /// Whether a variable is known to hold a list's text as `list` writes it.
+    /// Whether a variable is known to hold the text of a list, as list(n) writes it.
     pub fn holds_list(&self, global: bool, name: &str) -> bool
         ensures { result ≡ true → HoldsList (value_at self.now (global, name.now)) }
     {
@@ -146,8 +146,8 @@ impl Variables {
         }
     }
 
-    /// Takes the text of a variable, if it is there, for what `put` gives it next: until then an empty text stands in
-    /// its place.
+    /// Takes the text of a variable, if it is set, so that it can grow without a copy: the variable holds the empty
+    /// text until `put` gives it the text again.
     pub fn take(&mut self, alloc: Global, global: bool, name: &str) -> Option<String>
         ensures value { option_map string_bytes result ≡ value_at self.old (global, name.now) }
         ensures given_back { (t : Text) → with_value self.new (global, name.now) t
@@ -162,7 +162,7 @@ impl Variables {
         }
     }
 
-    /// Unsets a variable, if it is there.
+    /// Unsets a variable, if it is set.
     pub fn unset(&mut self, global: bool, name: &str)
         ensures { self.new ≡ without_value self.old (global, name.now) }
     {
@@ -175,7 +175,7 @@ impl Variables {
         }
     }
 
-    /// Lets a name lead to the global variable from now on, in the procedure that runs, if one does.
+    /// Lets a name denote the global variable from now on, in the procedure that runs, if one does (global(n)).
     pub fn share(&mut self, alloc: Global, name: &str) -> Result<(), AllocError>
         ensures ok { OnOk result (self.new ≡ in_frame self.old (shared_in self.old.frame name.now)) }
         ensures err { OnErr result (self.new ≡ self.old) }
@@ -186,7 +186,7 @@ impl Variables {
         }
     }
 
-    /// Begins a procedure, which has no variables at first. Gives the variables of the procedure that called it, if one
+    /// Begins a procedure, which has no variables at first. Gives the frame of the procedure that called it, if one
     /// did.
     pub fn enter(&mut self, alloc: Global) -> Option<Local>
         ensures entered { self.new ≡ in_frame self.old new_frame }
@@ -195,7 +195,7 @@ impl Variables {
         mem::replace(&mut self.local, Some(Local::new(alloc)))
     }
 
-    /// Ends a procedure: what called it has its variables again.
+    /// Ends a procedure: its caller has its frame again.
     pub fn leave(&mut self, caller: Option<Local>)
         ensures { self.new ≡ in_frame self.old caller }
     {
@@ -209,7 +209,7 @@ impl Variables {
         self.procedures.get(name)
     }
 
-    /// Makes a procedure, in the place of one of this name.
+    /// Makes a procedure, in place of one of this name.
     pub fn define(
         &mut self,
         alloc: Global,
@@ -237,14 +237,14 @@ impl Variables {
         Ok(texts)
     }
 
-    /// Where in the file its command at hand begins, in bytes.
+    /// The offset in the file, in bytes, at which its current command begins.
     pub fn place(&self) -> usize
         ensures { result ≡ self.now.place }
     {
         self.place
     }
 
-    /// Notes where in the file its command at hand begins, in bytes.
+    /// Records the offset in the file, in bytes, at which its current command begins.
     pub fn at_place(&mut self, place: usize)
         ensures { self.new ≡ record self.old { place = place } }
     {

@@ -4,5 +4,5 @@ use Rattle.tclrules.proofs.laws.grown.Goals as goal
 pub returns-clause-grows : goal.returns-clause-grows
 returns-clause-grows c = λ s o w d. Laws.grown d
 
-pub returns-clause-kept : goal.returns-clause-kept
-returns-clause-kept c = λ s o w holds d h keeps. Laws.kept holds (Laws.grown d) h keeps
+pub returns-clause-preserved : goal.returns-clause-preserved
+returns-clause-preserved c = λ s o w holds d h keeps. Laws.kept holds (Laws.grown d) h keeps

@@ -1,5 +1,0 @@
-use Rattle.tclarguments.proofs.Turns.{shortened_more}
-use Rattle.tclarguments.proofs.foreach.Loops.shorten.Goals as goal
-
-pub returns : goal.returns
-returns c = rw (← c.self.view_is) (shortened_more c.self.inside.lists.items c.self.inside.turns c.saturating_add-self-inside.result c.saturating_add-self-inside.ensures)

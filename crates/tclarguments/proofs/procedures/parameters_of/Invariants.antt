@@ -1,8 +1,0 @@
-use Rattle.std.proofs.Common.{◌≡◌, map, drop, string_bytes}
-use Rattle.tclrules.specs.Rules.{parameters}
-use Rattle.tclvariables.specs.Views.{parameter_view}
-use Rattle.tclarguments.specs.Lists.{behind}
-use Rattle.tclarguments.proofs.procedures.parameters_of.Given as goal
-
-abbrev pub invariant-loop-list : goal.invariant-loop-list
-invariant-loop-list l = parameters (map string_bytes l.lists) ≡ behind (map parameter_view l.parameters.items) (parameters (map string_bytes (drop l.list-index l.lists)))

@@ -1,4 +1,0 @@
-pub mod Views
-pub mod Lists
-pub mod Loops
-pub mod Firsts

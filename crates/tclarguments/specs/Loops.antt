@@ -1,8 +1,0 @@
--- What a foreach of the program goes over.
-use Rattle.std.specs.Prelude.{List, map}
-use Rattle.tclrules.specs.Plans.{Items}
-use Rattle.tclarguments.specs.Views.{left_after}
-use Rattle.tclarguments.specs.declared.foreach.Loops.TheInside.{Inside}
-
-abbrev pub loops_view : Inside → List Items
-loops_view l = map (left_after l.turns) l.lists.items

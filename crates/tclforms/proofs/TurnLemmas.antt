@@ -1,0 +1,92 @@
+-- The items of lists that remain after turns.
+use Rattle.std.proofs.Common.{◌≡◌, ℕ, zero, suc, ◌+◌, ◌-◌, ◌*◌, ◌^◌, ◌<◌, ◌≤◌, min, Bool, true, false, nat_lt, List, [], ◌∷◌, ◌++◌, length, map, take, drop, get_or, String, Global, Bor, Ok, Err, refl, sym, ap, ◌∙◌, add-one, append_assoc, arith, length-drop}
+use Rattle.std.specs.Prelude.{string_bytes}
+use Rattle.std.proofs.lemmas.Bool.Decides.{nat_tests}
+use Rattle.std.proofs.Math.Nat.{mul-suc, suc-mul}
+use Rattle.std.proofs.lemmas.List.{map-append, drop-map, drop-drop, drop_all, take_all}
+use Rattle.tclchars.specs.Runs.{Text}
+use Rattle.tcloperators.specs.Faults.{Answer, ◌>>=◌}
+use Rattle.tclrules.specs.Plans.{Items}
+use Rattle.tcloperators.specs.Elements.{elements_of}
+use Rattle.tclrules.specs.Rules.{loops, named, shortened}
+use Rattle.tclforms.specs.Views.{texts_of, in_twos, pair_texts}
+use Rattle.tclforms.specs.ArgumentViews.{left_after}
+use Rattle.tclforms.specs.Lists.{prefixed, one_loop}
+use Rattle.tclforms.specs.declared.items.Items as program
+
+length_texts : (ts : List (String Global)) → length (texts_of ts) ≡ length ts
+length_texts [] = refl
+length_texts (t ∷ ts) = simp (length_texts ts)
+
+-- a product with what isn't 0
+at_least : (a n : ℕ) → 0 < n → a ≤ a * n
+at_least a zero h = absurd (omega arith)
+at_least a (suc n) h = rw (mul-suc a n) (omega arith)
+
+product_more : (turns n : ℕ) → (turns + 1) * n ≡ turns * n + n
+product_more turns n = rw (add-one turns) (suc-mul turns n)
+
+drop_both : (ts : List Text) (m n : ℕ) → length ts ≤ m → length ts ≤ n → drop m ts ≡ drop n ts
+drop_both ts m n g h = drop_all m ts g ∙ sym (drop_all n ts h)
+
+-- a turn more
+items_more : (ts : List Text) (n turns more : ℕ) → 0 < n → length ts < 2 ^ 64 → more ≡ min (turns + 1) (2 ^ 64 - 1) → drop (more * n) ts ≡ drop n (drop (turns * n) ts)
+items_more ts n turns more p s e = go (nat_lt (turns + 1) (2 ^ 64)) refl ∙ sym (drop-drop n (turns * n) ts)
+  where
+    go : (b : Bool) → nat_lt (turns + 1) (2 ^ 64) ≡ b → drop (more * n) ts ≡ drop (turns * n + n) ts
+    go true h =
+        let o : turns + 1 < 2 ^ 64 = grind (arith, nat_tests) in
+        let f : more ≡ turns + 1 = omega arith in
+        rw (f, product_more turns n) refl
+    go false h =
+        let o : 2 ^ 64 ≤ turns + 1 = grind (arith, nat_tests) in
+        let f : more ≡ 2 ^ 64 - 1 = omega arith in
+        let g : more ≤ more * n = at_least more n p in
+        let k : turns ≤ turns * n = at_least turns n p in
+        drop_both ts (more * n) (turns * n + n) (omega arith) (omega arith)
+
+one_more : (l : program.Items) (turns more : ℕ) → more ≡ min (turns + 1) (2 ^ 64 - 1) → left_after more l ≡ (texts_of l.names.items, drop (length (texts_of l.names.items)) (left_after turns l).1)
+one_more l turns more e =
+    rw (length_texts l.names.items) (ap (λ (ts : List Text). (texts_of l.names.items, ts)) (items_more (texts_of l.items.items) (length l.names.items) turns more l.named (rw (length_texts l.items.items) l.few) e))
+
+pub shortened_more : (ls : List program.Items) (turns more : ℕ) → more ≡ min (turns + 1) (2 ^ 64 - 1) → map (left_after more) ls ≡ shortened (map (left_after turns) ls)
+shortened_more [] turns more e = refl
+shortened_more (l ∷ ls) turns more e = rw (one_more l turns more e, shortened_more ls turns more e) refl
+
+pub left_before : (l : program.Items) (turns passed : ℕ) (ts : List (String Global)) → passed ≡ min (turns * length l.names.items) (2 ^ 64 - 1) → ts ≡ l.items.items → length l.items.items < 2 ^ 64 → passed < length l.items.items → (texts_of l.names.items, texts_of (take (length ts - passed) (drop passed ts))) ≡ left_after turns l
+left_before l turns passed ts e t s h =
+    let f : passed ≡ turns * length l.names.items = omega arith in
+    let g : take (length ts - passed) (drop passed ts) ≡ drop passed l.items.items = ap (λ us. take (length us - passed) (drop passed us)) t ∙ take_all (length l.items.items - passed) (drop passed l.items.items) (omega (arith, length-drop passed l.items.items)) in
+    ap (λ (us : List Text). (texts_of l.names.items, us)) (ap texts_of g ∙ sym (drop-map string_bytes passed l.items.items) ∙ ap (λ n. drop n (texts_of l.items.items)) f)
+
+-- the first list of a foreach
+loops_first : (p : Text × Text) (ps : List (Text × Text)) → loops (p ∷ ps) ≡ one_loop p >>= (λ l. loops ps >>= (λ ls. Ok (l ∷ ls)))
+loops_first p ps = go (elements_of p.0 >>= named)
+  where
+    goes : (vs : List Text) (a : Answer (List Text)) → a >>= (λ es. loops ps >>= (λ ls. Ok ((vs, es) ∷ ls))) ≡ (a >>= (λ es. Ok (vs, es))) >>= (λ l. loops ps >>= (λ ls. Ok (l ∷ ls)))
+    goes vs (Ok es) = refl
+    goes vs (Err f) = refl
+
+    go : (a : Answer (List Text)) → a >>= (λ vs. elements_of p.1 >>= (λ es. loops ps >>= (λ ls. Ok ((vs, es) ∷ ls)))) ≡ (a >>= (λ vs. elements_of p.1 >>= (λ es. Ok (vs, es)))) >>= (λ l. loops ps >>= (λ ls. Ok (l ∷ ls)))
+    go (Ok vs) = goes vs (elements_of p.1)
+    go (Err f) = refl
+
+loops_behind : (done : List Items) (p : Text × Text) (ps : List (Text × Text)) (l : Items) → one_loop p ≡ Ok l → prefixed done (loops (p ∷ ps)) ≡ prefixed (done ++ l ∷ []) (loops ps)
+loops_behind done p ps l e = ap (prefixed done) (loops_first p ps ∙ rw e refl) ∙ go (loops ps)
+  where
+    go : (a : Answer (List Items)) → prefixed done (a >>= (λ ls. Ok (l ∷ ls))) ≡ prefixed (done ++ l ∷ []) a
+    go (Ok ls) = ap Ok (sym (append_assoc done (l ∷ []) ls))
+    go (Err f) = refl
+
+-- a step over the lists
+pub loops_step : (all rest : List (Bor (List ℕ) × Bor (List ℕ))) (read new : List program.Items) (d : Bor (List ℕ) × Bor (List ℕ)) (l : program.Items) → loops (pair_texts all) ≡ prefixed (map (left_after 0) read) (loops (pair_texts rest)) → 1 ≤ length rest → one_loop ((get_or rest 0 d).0.now, (get_or rest 0 d).1.now) ≡ Ok (left_after 0 l) → new ≡ read ++ l ∷ []
+    → loops (pair_texts all) ≡ prefixed (map (left_after 0) new) (loops (pair_texts (take (length rest - 1) (drop 1 rest))))
+loops_step all [] read new d l i n e f = absurd (omega arith)
+loops_step all (p ∷ ps) read new d l i n e f =
+    let t : take (length (p ∷ ps) - 1) ps ≡ ps = take_all (length (p ∷ ps) - 1) ps (omega arith) in
+    rw (t, f, map-append (left_after 0) read (l ∷ [])) (i ∙ loops_behind (map (left_after 0) read) (p.0.now, p.1.now) (pair_texts ps) (left_after 0 l) e)
+
+pub short_twos : (ws : List (String Global)) → length ws < 2 → in_twos (map string_bytes ws) ≡ []
+short_twos [] h = refl
+short_twos (a ∷ []) h = refl
+short_twos (a ∷ b ∷ ws) h = absurd (omega arith)

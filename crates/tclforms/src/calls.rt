@@ -1,0 +1,120 @@
+//! The values that a call gives the parameters of a procedure (proc(n)).
+ghost use Rattle.std.specs.Prelude.{◌≡◌, OnOk, map, string_bytes};
+ghost use Rattle.tclchars.specs.Answers.{Gives};
+ghost use Rattle.tcloperators.specs.Faults.{reason_of};
+ghost use Rattle.tclrules.specs.Rules.{argument, taken, allotted};
+ghost use Rattle.tclvariables.specs.Views.{parameter_view};
+ghost use Rattle.tclforms.specs.ArgumentViews.{named_values, allotment_view};
+ghost use Rattle.tclforms.specs.Firsts.{AreNamesOf, with_first};
+
+use indexmap::IndexSet;
+use std::alloc::{AllocError, Global};
+use tcloperators::{ValueFault, wrong_words};
+use tclvalue::list_text;
+use tclvariables::Parameter;
+
+/// The value of a parameter, and the words that remain for the others.
+#[derive(Drop)]
+struct Allotment<'w> {
+    value: String,
+    rest: &'w [String],
+}
+
+/// The value of a parameter that takes one word, or its default where no word remains.
+fn argument<'w>(
+    alloc: Global,
+    name: &str,
+    parameter: &Parameter,
+    words: &'w [String],
+) -> Result<Allotment<'w>, ValueFault>
+    ensures { Gives reason_of allotment_view result
+        (argument name.now (parameter_view parameter.now) (map string_bytes words.entry.now)) }
+{
+    match words {
+        [word, rest @ ..] => Ok(Allotment {
+            value: word.clone()?,
+            rest,
+        }),
+        [] => match &parameter.default {
+            Some(default) => Ok(Allotment {
+                value: default.clone()?,
+                rest: words,
+            }),
+            None => Err(wrong_words(alloc, name)),
+        },
+    }
+}
+
+/// The value of a parameter with these after it; `args`, where it is the last, takes all words that remain as a list.
+fn taken<'w>(
+    alloc: Global,
+    name: &str,
+    parameter: &Parameter,
+    behind: &[Parameter],
+    words: &'w [String],
+) -> Result<Allotment<'w>, ValueFault>
+    ensures { Gives reason_of allotment_view result
+        (taken name.now (parameter_view parameter.now) (map parameter_view behind.now)
+        (map string_bytes words.entry.now)) }
+{
+    if parameter.name.as_str() == "args" && behind.is_empty() {
+        return Ok(Allotment {
+            value: list_text(alloc, words)?,
+            rest: &[],
+        });
+    }
+    argument(alloc, name, parameter, words)
+}
+
+/// Adds the value of a name, unless the name has one already.
+fn keep_first<'a>(
+    names: &mut IndexSet<&'a str>,
+    values: &mut Vec<(&'a str, String)>,
+    name: &'a str,
+    value: String,
+) -> Result<(), AllocError>
+    requires { AreNamesOf names.old.keys values.old.items }
+    ensures names { OnOk result (AreNamesOf names.new.keys values.new.items) }
+    ensures values { OnOk result (named_values values.new.items
+        ≡ with_first (named_values values.old.items) name.entry.now (string_bytes value)) }
+{
+    if names.insert(name)? {
+        values.push((name, value))?;
+    }
+    Ok(())
+}
+
+/// The parameters of the procedure of this name, each with its value for these words. Of a name that comes again the
+/// first value counts.
+///
+/// Errors: `TclError` (13) where the words are too few or too many; `OutOfMemory` (11).
+pub fn allotted<'a>(
+    alloc: Global,
+    name: &str,
+    parameters: &'a [Parameter],
+    words: &[String],
+) -> Result<Vec<(&'a str, String)>, ValueFault>
+    ensures { Gives reason_of (λ vs. named_values vs.items) result
+        (allotted name.now (map parameter_view parameters.entry.now) (map string_bytes words.now)) }
+{
+    let mut names = IndexSet::new(alloc);
+    let mut values = Vec::new(alloc);
+    let mut rest = words;
+    let mut parameters = parameters;
+    while let [parameter, behind @ ..] = parameters {
+        let allotment = taken(alloc, name, parameter, behind, rest)?;
+        keep_first(
+            &mut names,
+            &mut values,
+            parameter.name.as_str(),
+            allotment.value,
+        )?;
+        rest = allotment.rest;
+        parameters = behind;
+    }
+    if rest.is_empty() {
+        Ok(values)
+    } else {
+        Err(wrong_words(alloc, name))
+    }
+}

@@ -1,0 +1,189 @@
+//! The names of commands that are reserved: no procedure may have them.
+ghost use Rattle.std.specs.Prelude.{◌≡◌, map, is_some};
+ghost use Rattle.tclvalue.specs.Commands.{command_named};
+ghost use Rattle.tclrules.specs.Names.{is_among, is_reserved, core_commands, left_out_commands, module_commands, left_out_module_commands};
+
+/// Commands of Tcl that are unsupported.
+const LEFT_OUT: [&str; 57] = [
+    "after",
+    "apply",
+    "array",
+    "binary",
+    "cd",
+    "chan",
+    "clock",
+    "close",
+    "dict",
+    "encoding",
+    "eof",
+    "eval",
+    "exec",
+    "fconfigure",
+    "file",
+    "fileevent",
+    "flush",
+    "format",
+    "gets",
+    "glob",
+    "interp",
+    "lassign",
+    "linsert",
+    "load",
+    "lrepeat",
+    "lreplace",
+    "lreverse",
+    "lsearch",
+    "lset",
+    "lsort",
+    "namespace",
+    "open",
+    "package",
+    "pid",
+    "pwd",
+    "read",
+    "regexp",
+    "regsub",
+    "rename",
+    "scan",
+    "seek",
+    "socket",
+    "source",
+    "subst",
+    "tailcall",
+    "tell",
+    "throw",
+    "time",
+    "trace",
+    "try",
+    "unknown",
+    "unload",
+    "update",
+    "uplevel",
+    "upvar",
+    "variable",
+    "vwait",
+];
+
+/// Commands of values: those that tclvalue computes.
+const VALUES: [&str; 8] = [
+    "list", "llength", "lindex", "lrange", "split", "join", "concat", "string",
+];
+
+/// The other core commands.
+const CORE: [&str; 21] = [
+    "set", "unset", "append", "lappend", "incr", "expr", "if", "while", "for", "foreach", "switch",
+    "proc", "return", "break", "continue", "exit", "error", "catch", "info", "global", "puts",
+];
+
+/// Commands of modulefiles and of default files.
+const MODULES: [&str; 13] = [
+    "setenv",
+    "prepend-path",
+    "append-path",
+    "pushenv",
+    "unsetenv",
+    "remove-path",
+    "conflict",
+    "prereq",
+    "module-whatis",
+    "module-info",
+    "getenv",
+    "is-loaded",
+    "module-version",
+];
+
+/// Commands of modulefiles that are unsupported.
+const LEFT_OUT_MODULES: [&str; 28] = [
+    "module",
+    "depends-on",
+    "set-alias",
+    "set-function",
+    "system",
+    "uname",
+    "source-sh",
+    "x-resource",
+    "chdir",
+    "family",
+    "complete",
+    "module-alias",
+    "module-virtual",
+    "module-tag",
+    "module-hide",
+    "module-forbid",
+    "prereq-all",
+    "prereq-any",
+    "module-help",
+    "is-avail",
+    "is-saved",
+    "is-used",
+    "unset-alias",
+    "unset-function",
+    "uncomplete",
+    "variant",
+    "getvariant",
+    "versioncmp",
+];
+
+/// Whether a name is one of these.
+fn is_in(names: &[&str], name: &str) -> bool
+    ensures { result ≡ is_among (map (λ n. n.now) names.now) name.now }
+{
+    let mut rest = names;
+    while let [first, after @ ..] = rest {
+        if name == *first {
+            return true;
+        }
+        rest = after;
+    }
+    false
+}
+
+/// Whether Tcl has a command of this name that is unsupported.
+#[tactic(auto, unfolding(tclrules::specs::Names::left_out_commands))]
+pub fn is_left_out(name: &str) -> bool
+    ensures { result ≡ is_among left_out_commands name.now }
+{
+    is_in(&LEFT_OUT, name)
+}
+
+/// Whether a core command has this name that is none of values.
+#[tactic(auto, unfolding(tclrules::specs::Names::core_commands))]
+fn is_core(name: &str) -> bool
+    ensures { result ≡ is_among core_commands name.now }
+{
+    is_in(&CORE, name)
+}
+
+/// Whether a command of values has this name.
+fn is_of_values(name: &str) -> bool
+    ensures { result ≡ is_some (command_named name.now) }
+{
+    is_in(&VALUES, name)
+}
+
+/// Whether a command of modulefiles or default files has this name (modulefile(5)).
+#[tactic(auto, unfolding(tclrules::specs::Names::module_commands))]
+fn is_of_modules(name: &str) -> bool
+    ensures { result ≡ is_among module_commands name.now }
+{
+    is_in(&MODULES, name)
+}
+
+/// Whether modulefile(5) has a command of this name that is unsupported.
+#[tactic(auto, unfolding(tclrules::specs::Names::left_out_module_commands))]
+pub fn is_left_out_of_modules(name: &str) -> bool
+    ensures { result ≡ is_among left_out_module_commands name.now }
+{
+    is_in(&LEFT_OUT_MODULES, name)
+}
+
+/// Whether no procedure may have this name: that of any command of Tcl or modulefiles, supported or not.
+pub fn is_reserved(name: &str) -> bool
+    ensures { result ≡ is_reserved name.now }
+{
+    is_core(name)
+        || is_of_values(name)
+        || is_left_out(name)
+        || is_of_modules(name)
+        || is_left_out_of_modules(name)
+}

@@ -1,0 +1,57 @@
+//! The parameters of procedures, as proc(n) is given them.
+ghost use Rattle.std.specs.Prelude.{◌≡◌, map, string_bytes};
+ghost use Rattle.tclchars.specs.Answers.{Gives};
+ghost use Rattle.tcloperators.specs.Faults.{reason_of};
+ghost use Rattle.tclrules.specs.Rules.{parameter, parameters};
+ghost use Rattle.tclvariables.specs.Views.{parameter_view};
+ghost use Rattle.tclforms.specs.Lists.{defined};
+
+use crate::messages::is_taken;
+use crate::names::is_reserved;
+use std::alloc::Global;
+use tcloperators::{ValueFault, elements, not_a_list};
+use tclvariables::Parameter;
+
+/// The parameter of these words: a name, and perhaps its default.
+fn parameter(alloc: Global, words: &[String]) -> Result<Parameter, ValueFault>
+    ensures { Gives reason_of parameter_view result (parameter (map string_bytes words.now)) }
+{
+    match words {
+        [name] => Ok(Parameter {
+            name: name.clone()?,
+            default: None,
+        }),
+        [name, default] => Ok(Parameter {
+            name: name.clone()?,
+            default: Some(default.clone()?),
+        }),
+        _ => Err(not_a_list(alloc)),
+    }
+}
+
+/// The parameters of these lists, one each.
+fn parameters_of(alloc: Global, lists: &[String]) -> Result<Vec<Parameter>, ValueFault>
+    ensures { Gives reason_of (λ ps. map parameter_view ps.items) result (parameters (map string_bytes lists.now)) }
+{
+    let mut parameters = Vec::new(alloc);
+    for list in lists {
+        let words = elements(alloc, list)?;
+        parameters.push(parameter(alloc, &words)?)?;
+    }
+    Ok(parameters)
+}
+
+/// The parameters of a procedure of this name, in the text that proc(n) has for them.
+///
+/// Errors: `TclError` (13) where the name is reserved, where the text or one of its elements is no list, and where an
+/// element has no name or more than a name and a default; `Text` (12) where a list is too long; `OutOfMemory` (11). The
+/// name is judged first, and then the parameters from left to right.
+pub fn parameters(alloc: Global, name: &str, lists: &str) -> Result<Vec<Parameter>, ValueFault>
+    ensures { Gives reason_of (λ ps. map parameter_view ps.items) result (defined name.now lists.now) }
+{
+    if is_reserved(name) {
+        return Err(is_taken(alloc, name));
+    }
+    let lists = elements(alloc, lists)?;
+    parameters_of(alloc, &lists)
+}
